@@ -1,0 +1,247 @@
+-- Laws 3 and 4. A target's choice is a strict total order (`chosen-irrefl`, `chosen-trans`, `chosen-total`), and exclusion is sound, strictly:
+-- no record of the grade beyond an excluded cut is chosen over the best (`far-loses`), and while there is no best none is there (`far-none`).
+-- A search needs nothing else about squares and ties.
+-- Assumes nothing.
+use mathlib.Core.Path.{_≡_, refl, sym, ap, _∙_}
+use mathlib.Core.Bool.{Bool, true, false, not, cond, true≢false}
+use Prim.Native.Nat.{ℕ, zero, suc, _+_, _*_, _≤_, _<_}
+use native.Mathlib.Omega.{arith}
+use native.Mathlib.Nat.{mul-le-mul, mul-assoc, mul-left-comm}
+use borrow.Author.Tests.{ltb-true, ltb-false, lt-ltb, le-ltb, eqb-true, eqb-false}
+use lib.Dec.{ltb, eqb}
+use lib.IntN.{ℤ, natAbs, _+ℤ_, _-ℤ_}
+use lib.Signed.{ltZ, mag}
+use Rattle.points.specs.declared.point.Point.{Point}
+use Rattle.points.specs.declared.cut.Cut.{Cut}
+use Rattle.points.specs.declared.order.Order.{Order}
+use Rattle.points.specs.declared.order.Order.the-variants.{Less, Equal, Greater}
+use Rattle.points.specs.Point.{coordinateOf}
+use Rattle.points.specs.Order.{byAxis, orderOf, isLess, isEqual}
+use Rattle.points.specs.Square.{gapOf, topped, squareOf}
+use Rattle.points.specs.Cut.{goesLeft}
+use Rattle.points.specs.Choice.{sameGrade, chosenOver, farGap, excluded, noSquare}
+use Rattle.points.proofs.Tests.{no! }
+use Rattle.points.proofs.IntegerLaws.{raise, Near, near-add, near-raise, near-more, raise-add, ltZ-raise, apart-raise}
+use Rattle.points.proofs.OrderLaws.{turned, order-refl, order-turn, order-trans, order-equal, axis-equal, axis-same}
+
+-- ---- grades
+grade-equal : (a b : Point) → sameGrade a b ≡ true → coordinateOf a 1 ≡ coordinateOf b 1
+unfolding sameGrade
+grade-equal a b e = go (byAxis a b 1) refl
+  where
+    go : (o : Order) → byAxis a b 1 ≡ o → coordinateOf a 1 ≡ coordinateOf b 1
+    go Less f = no! (sym (ap isEqual f) ∙ e)
+    go Equal f = axis-equal a b 1 f
+    go Greater f = no! (sym (ap isEqual f) ∙ e)
+
+grade-same : (a b : Point) → coordinateOf a 1 ≡ coordinateOf b 1 → sameGrade a b ≡ true
+unfolding sameGrade
+grade-same a b e = ap isEqual (axis-same a b 1 e)
+
+pub grade-refl : (a : Point) → sameGrade a a ≡ true
+grade-refl a = grade-same a a refl
+
+pub grade-turn : (a b : Point) → sameGrade a b ≡ true → sameGrade b a ≡ true
+grade-turn a b e = grade-same b a (sym (grade-equal a b e))
+
+pub grade-trans : (a b c : Point) → sameGrade a b ≡ true → sameGrade b c ≡ true → sameGrade a c ≡ true
+grade-trans a b c e f = grade-same a c (grade-equal a b e ∙ grade-equal b c f)
+
+-- ---- the choice
+
+-- by which of the two a choice is made, for it and against it
+data Chosen (t a b : Point) : Type 0 where
+  nearer : squareOf t a < squareOf t b → Chosen t a b
+  lower : squareOf t a ≡ squareOf t b → orderOf a b ≡ Less → Chosen t a b
+
+chosen : (t a b : Point) → chosenOver t a b ≡ true → Chosen t a b
+unfolding chosenOver
+chosen t a b = go (ltb (squareOf t a) (squareOf t b)) refl (ltb (squareOf t b) (squareOf t a)) refl (orderOf a b) refl
+  where
+    go : (s : Bool) → ltb (squareOf t a) (squareOf t b) ≡ s → (u : Bool) → ltb (squareOf t b) (squareOf t a) ≡ u → (o : Order) → orderOf a b ≡ o
+        → cond s true (cond u false (isLess o)) ≡ true → Chosen t a b
+    go true e u f o g h = nearer (ltb-true (squareOf t a) (squareOf t b) e)
+    go false e true f o g h = no! h
+    go false e false f Less g h = lower (omega (arith, ltb-false (squareOf t a) (squareOf t b) e, ltb-false (squareOf t b) (squareOf t a) f)) g
+    go false e false f Equal g h = no! h
+    go false e false f Greater g h = no! h
+
+choose : (t a b : Point) → Chosen t a b → chosenOver t a b ≡ true
+unfolding chosenOver
+choose t a b (nearer h) = rw (lt-ltb (squareOf t a) (squareOf t b) h)
+choose t a b (lower e o) =
+    rw (le-ltb (squareOf t a) (squareOf t b) (omega arith), le-ltb (squareOf t b) (squareOf t a) (omega arith), o)
+
+clash {ℓ} : {X : Type ℓ} → _≡_ {A = ℕ} 0 1 → X
+clash e = absurd (omega arith)
+
+refuse : (t a b : Point) → (Chosen t a b → ⊥) → chosenOver t a b ≡ false
+refuse t a b n = go (chosenOver t a b) refl
+  where
+    go : (s : Bool) → chosenOver t a b ≡ s → chosenOver t a b ≡ false
+    go true e = absurd (n (chosen t a b e))
+    go false e = e
+
+pub chosen-irrefl : (t a : Point) → chosenOver t a a ≡ false
+chosen-irrefl t a = refuse t a a never
+  where
+    never : Chosen t a a → ⊥
+    never (nearer h) = omega arith
+    never (lower e o) = clash (cc (order-refl a))
+
+pub chosen-asym : (t a b : Point) → chosenOver t a b ≡ true → chosenOver t b a ≡ false
+chosen-asym t a b c = refuse t b a (never (chosen t a b c))
+  where
+    never : Chosen t a b → Chosen t b a → ⊥
+    never (nearer h) (nearer k) = omega arith
+    never (nearer h) (lower e o) = omega arith
+    never (lower e o) (nearer k) = omega arith
+    never (lower e o) (lower f p) = clash (cc (order-turn a b, ap turned o))
+
+pub chosen-trans : (t a b c : Point) → chosenOver t a b ≡ true → chosenOver t b c ≡ true → chosenOver t a c ≡ true
+chosen-trans t a b c e f = choose t a c (go (chosen t a b e) (chosen t b c f))
+  where
+    go : Chosen t a b → Chosen t b c → Chosen t a c
+    go (nearer h) (nearer k) = nearer (omega arith)
+    go (nearer h) (lower q o) = nearer (omega arith)
+    go (lower q o) (nearer k) = nearer (omega arith)
+    go (lower q o) (lower r p) = lower (q ∙ r) (order-trans a b c o p)
+
+pub chosen-total : (t a b : Point) → ¬ (a ≡ b) → chosenOver t a b ≡ false → chosenOver t b a ≡ true
+chosen-total t a b ne e = choose t b a (go (ltb (squareOf t a) (squareOf t b)) refl (ltb (squareOf t b) (squareOf t a)) refl (orderOf a b) refl)
+  where
+    lost : Chosen t a b → ⊥
+    lost c = true≢false (sym (choose t a b c) ∙ e)
+
+    go : (s : Bool) → ltb (squareOf t a) (squareOf t b) ≡ s → (u : Bool) → ltb (squareOf t b) (squareOf t a) ≡ u → (o : Order) → orderOf a b ≡ o → Chosen t b a
+    go true f u g o h = absurd (lost (nearer (ltb-true (squareOf t a) (squareOf t b) f)))
+    go false f true g o h = nearer (ltb-true (squareOf t b) (squareOf t a) g)
+    go false f false g Less h = absurd (lost (lower (omega (arith, ltb-false (squareOf t a) (squareOf t b) f, ltb-false (squareOf t b) (squareOf t a) g)) h))
+    go false f false g Equal h = absurd (ne (order-equal a b h))
+    go false f false g Greater h = lower (omega (arith, ltb-false (squareOf t a) (squareOf t b) f, ltb-false (squareOf t b) (squareOf t a) g)) (order-turn a b ∙ ap turned h)
+
+-- a record that is not chosen over the best is not chosen over a better one
+pub chosen-stays : (t r a b : Point) → chosenOver t a b ≡ true → chosenOver t r b ≡ false → chosenOver t r a ≡ false
+chosen-stays t r a b e f = refuse t r a (λ c. true≢false (sym (chosen-trans t r a b (choose t r a c) e) ∙ f))
+
+-- ---- the far side of a cut
+
+-- twice the distance of a point beyond the cut is at least the far gap
+far-gap-le : (k : Cut) (t p : Point) → goesLeft k p ≡ not (goesLeft k t) → farGap k t ≤ 2 * gapOf t p (k .axis)
+unfolding farGap gapOf goesLeft
+far-gap-le k t p far = go (ltZ (x +ℤ x) s) refl
+  where
+    x : ℤ
+    x = coordinateOf t (k .axis)
+
+    y : ℤ
+    y = coordinateOf p (k .axis)
+
+    s : ℤ
+    s = k .sum
+
+    b : ℕ
+    b = suc (mag x + mag y + mag s)
+
+    nx : Near b x
+    nx = record { near = omega arith }
+
+    ny : Near b y
+    ny = record { near = omega arith }
+
+    ns : Near b s
+    ns = record { near = omega arith }
+
+    ns2 : Near (b + b) s
+    ns2 = near-more (b + b) (omega arith) ns
+
+    tests : (z : ℤ) → Near b z → ltZ (z +ℤ z) s ≡ ltb (raise b z + raise b z) (raise b s + b)
+    tests z n = ltZ-raise (z +ℤ z) s (near-add z z n n) ns2 ∙ (λ i. ltb (raise-add z z n n i) (near-raise s ns b i))
+
+    go : (u : Bool) → ltZ (x +ℤ x) s ≡ u → cond (ltZ (x +ℤ x) s) (natAbs (s -ℤ (x +ℤ x))) (suc (natAbs (x +ℤ x -ℤ s))) ≤ 2 * natAbs (x -ℤ y)
+    go true e =
+        rw e
+        (omega (
+          arith,
+          apart-raise s (x +ℤ x) ns2 (near-add x x nx nx),
+          raise-add x x nx nx,
+          near-raise s ns b,
+          apart-raise x y nx ny,
+          ltb-true (raise b x + raise b x) (raise b s + b) (sym (tests x nx) ∙ e),
+          ltb-false (raise b y + raise b y) (raise b s + b) (sym (tests y ny) ∙ far ∙ ap not e),
+        ))
+    go false e =
+        rw e
+        (omega (
+          arith,
+          apart-raise (x +ℤ x) s (near-add x x nx nx) ns2,
+          raise-add x x nx nx,
+          near-raise s ns b,
+          apart-raise x y nx ny,
+          ltb-false (raise b x + raise b x) (raise b s + b) (sym (tests x nx) ∙ e),
+          ltb-true (raise b y + raise b y) (raise b s + b) (sym (tests y ny) ∙ far ∙ ap not e),
+        ))
+
+-- on axes 2 to 5 the square is at least that of the gap, as far as the greatest number
+square-gap : (t p : Point) (axis : ℕ) → ¬ (axis ≡ 1) → topped (gapOf t p axis * gapOf t p axis) ≤ squareOf t p
+unfolding topped squareOf gapOf coordinateOf
+square-gap t p zero n = omega arith
+square-gap t p (suc zero) n = absurd (n refl)
+square-gap t p (suc (suc zero)) n = omega arith
+square-gap t p (suc (suc (suc zero))) n = omega arith
+square-gap t p (suc (suc (suc (suc zero)))) n = omega arith
+square-gap t p (suc (suc (suc (suc (suc m))))) n = omega arith
+
+double-square : (d : ℕ) → 2 * d * (2 * d) ≡ 4 * (d * d)
+double-square d = rw (mul-assoc 2 d (2 * d), mul-left-comm d 2 d) (omega arith)
+
+-- where the cut is not on axis 1 and the far side is excluded, every point there has a greater square than the best
+far-greater : (k : Cut) (t p : Point) (best : ℕ) → ¬ (k .axis ≡ 1) → ltb (topped (4 * best)) (topped (farGap k t * farGap k t)) ≡ true → goesLeft k p ≡ not (goesLeft k t)
+    → best < squareOf t p
+unfolding topped
+far-greater k t p best n e far =
+    let d = gapOf t p (k .axis) in
+    let g = far-gap-le k t p far in
+    omega (arith, mul-le-mul g g, double-square d, square-gap t p (k .axis) n, ltb-true (topped (4 * best)) (topped (farGap k t * farGap k t)) e)
+
+-- a cut on axis 1 sends points of one grade to one side
+grade-side : (k : Cut) (t p : Point) → k .axis ≡ 1 → sameGrade t p ≡ true → goesLeft k p ≡ goesLeft k t
+unfolding goesLeft
+grade-side k t p e g = rw (e, grade-equal t p g)
+
+not-self : (b : Bool) → b ≡ not b → ⊥
+not-self true e = true≢false e
+not-self false e = no! e
+
+-- what an excluded far side tells
+data Beyond (k : Cut) (t p : Point) (best : ℕ) : Type 0 where
+  other : (sameGrade t p ≡ true → ⊥) → Beyond k t p best
+  farther : topped (4 * best) < topped (farGap k t * farGap k t) → best < squareOf t p → Beyond k t p best
+
+beyond : (k : Cut) (t p : Point) (best : ℕ) → excluded k t best ≡ true → goesLeft k p ≡ not (goesLeft k t) → Beyond k t p best
+unfolding excluded
+beyond k t p best e far = go (eqb (k .axis) 1) refl e
+  where
+    go : (u : Bool) → eqb (k .axis) 1 ≡ u → cond u true (ltb (topped (4 * best)) (topped (farGap k t * farGap k t))) ≡ true → Beyond k t p best
+    go true f h = other (λ g. not-self (goesLeft k t) (sym (grade-side k t p (eqb-true (k .axis) 1 f) g) ∙ far))
+    go false f h =
+        farther (ltb-true (topped (4 * best)) (topped (farGap k t * farGap k t)) h) (far-greater k t p best (eqb-false (k .axis) 1 f) h far)
+
+pub far-loses : (k : Cut) (t b p : Point) → excluded k t (squareOf t b) ≡ true → goesLeft k p ≡ not (goesLeft k t) → sameGrade t p ≡ true → chosenOver t p b ≡ false
+far-loses k t b p e far g = go (beyond k t p (squareOf t b) e far)
+  where
+    never : squareOf t b < squareOf t p → Chosen t p b → ⊥
+    never h (nearer i) = omega arith
+    never h (lower i o) = omega arith
+
+    go : Beyond k t p (squareOf t b) → chosenOver t p b ≡ false
+    go (other n) = absurd (n g)
+    go (farther l h) = refuse t p b (never h)
+
+pub far-none : (k : Cut) (t p : Point) → excluded k t noSquare ≡ true → goesLeft k p ≡ not (goesLeft k t) → sameGrade t p ≡ true → ⊥
+unfolding topped
+far-none k t p e far g = go (beyond k t p noSquare e far)
+  where
+    go : Beyond k t p noSquare → ⊥
+    go (other n) = n g
+    go (farther l h) = omega arith

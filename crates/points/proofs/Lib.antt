@@ -1,0 +1,10 @@
+pub mod Tests
+pub mod IntegerLaws
+pub mod MachineLaws
+pub mod PointLaws
+pub mod OrderLaws
+pub mod SquareLaws
+pub mod CutLaws
+pub mod ChoiceLaws
+pub mod WordLaws
+pub mod Cases

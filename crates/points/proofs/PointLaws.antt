@@ -1,0 +1,160 @@
+-- What a point in range says of each of its coordinates, over raised numbers.
+-- Assumes nothing.
+use mathlib.Core.Path.{_≡_, refl, sym, _∙_}
+use mathlib.Core.Bool.{true, _&&_}
+use Prim.Native.Nat.{ℕ, zero, suc, _+_, _≤_, _<_}
+use native.Mathlib.Omega.{arith}
+use lib.Dec.{lit<, lit≤}
+use lib.IntN.{ℤ, pos, negsuc}
+use lib.Signed.{leZ}
+use borrow.Author.Tests.{leb-true, le-leb}
+use Rattle.points.specs.declared.point.Point.{Point}
+use Rattle.points.specs.declared.point.Range.{Range}
+use Rattle.points.specs.Point.{placeOf, rangeOf, coordinateOf, withinRange, onAxis, inRange}
+use Rattle.points.specs.Word.{sumRangeOf}
+use Rattle.points.proofs.Tests.{no!, and-l, and-r, and-i}
+use Rattle.points.proofs.IntegerLaws.{raise, Near, near-add, raise-add, leZ-raise}
+
+-- every coordinate in range and every end of a range lies from -reach to reach - 1; the sums of two, from twice that
+abbrev pub reach : ℕ
+reach = 524288
+
+-- a range whose ends are near and in order
+pub record Sound (b : ℕ) (r : Range) : Type 0 where
+  pub low : Near b (r .low)
+  pub high : Near b (r .high)
+  pub order : raise b (r .low) ≤ raise b (r .high)
+
+-- a number of a range, over raised numbers
+pub record Within (b : ℕ) (r : Range) (x : ℤ) : Type 0 where
+  pub near : Near b x
+  pub from : raise b (r .low) ≤ raise b x
+  pub to : raise b x ≤ raise b (r .high)
+
+between : {b : ℕ} (l x h : ℤ) → Near b l → Near b h → leZ l x ≡ true → leZ x h ≡ true → Near b x
+between l (pos n) (pos h) f g e d = record { near = omega (arith, g .near, leb-true n h d) }
+between l (pos n) (negsuc h) f g e d = no! d
+between (pos l) (negsuc n) h f g e d = no! e
+between (negsuc l) (negsuc n) h f g e d = record { near = omega (arith, f .near, leb-true n l e) }
+
+pub within : {b : ℕ} (r : Range) (x : ℤ) → Sound b r → withinRange r x ≡ true → Within b r x
+unfolding withinRange
+within {b} r x s e =
+    let l = and-l (leZ (r .low) x) (leZ x (r .high)) e in
+    let h = and-r (leZ (r .low) x) (leZ x (r .high)) e in
+    let n = between (r .low) x (r .high) (s .low) (s .high) l h in
+    record {
+      near = n;
+      from = leb-true (raise b (r .low)) (raise b x) (sym (leZ-raise (r .low) x (s .low) n) ∙ l);
+      to = leb-true (raise b x) (raise b (r .high)) (sym (leZ-raise x (r .high) n (s .high)) ∙ h);
+    }
+
+pub within-true : {b : ℕ} (r : Range) (x : ℤ) → Sound b r → Within b r x → withinRange r x ≡ true
+unfolding withinRange
+within-true {b} r x s w =
+    and-i (leZ-raise (r .low) x (s .low) (w .near) ∙ le-leb (raise b (r .low)) (raise b x) (w .from))
+    (leZ-raise x (r .high) (w .near) (s .high) ∙ le-leb (raise b x) (raise b (r .high)) (w .to))
+
+-- any number but 1 to 4 is taken for axis 5
+module _ (axis : ℕ) (one : axis ≡ 1 → ⊥) (two : axis ≡ 2 → ⊥) (three : axis ≡ 3 → ⊥) (four : axis ≡ 4 → ⊥) where
+  pub last-axis : {A : Type 0} (f : ℕ → A) (last : A) → f 0 ≡ last → ((n : ℕ) → f (suc (suc (suc (suc (suc n))))) ≡ last) → f axis ≡ last
+  last-axis f last z s = go axis one two three four
+    where
+      go : (k : ℕ) → (k ≡ 1 → ⊥) → (k ≡ 2 → ⊥) → (k ≡ 3 → ⊥) → (k ≡ 4 → ⊥) → f k ≡ last
+      go zero a b c d = z
+      go (suc zero) a b c d = absurd (a refl)
+      go (suc (suc zero)) a b c d = absurd (b refl)
+      go (suc (suc (suc zero))) a b c d = absurd (c refl)
+      go (suc (suc (suc (suc zero)))) a b c d = absurd (d refl)
+      go (suc (suc (suc (suc (suc n))))) a b c d = s n
+
+  pub place-rest : placeOf axis ≡ 4
+  unfolding placeOf
+  place-rest = last-axis placeOf 4 refl (λ n. refl)
+
+  pub coordinate-rest : (p : Point) → coordinateOf p axis ≡ p .draw
+  unfolding coordinateOf
+  coordinate-rest p = last-axis (coordinateOf p) (p .draw) refl (λ n. refl)
+
+pub place-lt : (axis : ℕ) → placeOf axis < 5
+unfolding placeOf
+place-lt zero = lit< tt
+place-lt (suc zero) = lit< tt
+place-lt (suc (suc zero)) = lit< tt
+place-lt (suc (suc (suc zero))) = lit< tt
+place-lt (suc (suc (suc (suc zero)))) = lit< tt
+place-lt (suc (suc (suc (suc (suc n))))) = lit< tt
+
+-- every axis's range is sound
+pub range-sound : (axis : ℕ) → Sound reach (rangeOf axis)
+unfolding rangeOf placeOf
+range-sound zero = record { low = record { near = lit< tt }; high = record { near = lit< tt }; order = lit≤ tt }
+range-sound (suc zero) = record { low = record { near = lit< tt }; high = record { near = lit< tt }; order = lit≤ tt }
+range-sound (suc (suc zero)) = record { low = record { near = lit< tt }; high = record { near = lit< tt }; order = lit≤ tt }
+range-sound (suc (suc (suc zero))) = record { low = record { near = lit< tt }; high = record { near = lit< tt }; order = lit≤ tt }
+range-sound (suc (suc (suc (suc zero)))) = record { low = record { near = lit< tt }; high = record { near = lit< tt }; order = lit≤ tt }
+range-sound (suc (suc (suc (suc (suc n))))) = record { low = record { near = lit< tt }; high = record { near = lit< tt }; order = lit≤ tt }
+
+-- and so is the range of its sums
+pub sum-range-sound : (axis : ℕ) → Sound (reach + reach) (sumRangeOf axis)
+unfolding sumRangeOf
+sum-range-sound axis =
+    let r = range-sound axis in
+    let l = rangeOf axis .low in
+    let h = rangeOf axis .high in
+    record {
+      low = near-add l l (r .low) (r .low);
+      high = near-add h h (r .high) (r .high);
+      order = omega (arith, raise-add l l (r .low) (r .low), raise-add h h (r .high) (r .high), r .order);
+    }
+
+-- the five tests of a point in range
+record Tests (p : Point) : Type 0 where
+  grade : onAxis p 1 ≡ true
+  weight : onAxis p 2 ≡ true
+  moisture : onAxis p 3 ≡ true
+  speed : onAxis p 4 ≡ true
+  draw : onAxis p 5 ≡ true
+
+tests : (p : Point) → inRange p ≡ true → Tests p
+unfolding inRange
+tests p e =
+    let a = onAxis p 1 in
+    let b = onAxis p 2 in
+    let c = onAxis p 3 in
+    let d = onAxis p 4 in
+    let f = onAxis p 5 in
+    let e4 = and-l (((a && b) && c) && d) f e in
+    let e3 = and-l ((a && b) && c) d e4 in
+    let e2 = and-l (a && b) c e3 in
+    record { grade = and-l a b e2; weight = and-r a b e2; moisture = and-r (a && b) c e3; speed = and-r ((a && b) && c) d e4; draw = and-r (((a && b) && c) && d) f e }
+
+-- a point in range is so on every axis
+pub in-range-axis : (p : Point) → inRange p ≡ true → (axis : ℕ) → onAxis p axis ≡ true
+unfolding onAxis coordinateOf rangeOf placeOf
+in-range-axis p e zero = tests p e .draw
+in-range-axis p e (suc zero) = tests p e .grade
+in-range-axis p e (suc (suc zero)) = tests p e .weight
+in-range-axis p e (suc (suc (suc zero))) = tests p e .moisture
+in-range-axis p e (suc (suc (suc (suc zero)))) = tests p e .speed
+in-range-axis p e (suc (suc (suc (suc (suc n))))) = tests p e .draw
+
+-- and a point that is so on the five axes is in range
+pub in-range-all : (p : Point) → ((axis : ℕ) → onAxis p axis ≡ true) → inRange p ≡ true
+unfolding inRange
+in-range-all p h = and-i (and-i (and-i (and-i (h 1) (h 2)) (h 3)) (h 4)) (h 5)
+
+pub axis-within : (p : Point) → inRange p ≡ true → (axis : ℕ) → Within reach (rangeOf axis) (coordinateOf p axis)
+unfolding onAxis
+axis-within p e axis = within (rangeOf axis) (coordinateOf p axis) (range-sound axis) (in-range-axis p e axis)
+
+-- points with one coordinate on every axis are one
+pub coordinates-equal : (a b : Point) → ((axis : ℕ) → 1 ≤ axis → axis ≤ 5 → coordinateOf a axis ≡ coordinateOf b axis) → a ≡ b
+unfolding coordinateOf
+coordinates-equal a b h =
+    let grade : a .grade ≡ b .grade = h 1 (lit≤ tt) (lit≤ tt) in
+    let weight : a .weight ≡ b .weight = h 2 (lit≤ tt) (lit≤ tt) in
+    let moisture : a .moisture ≡ b .moisture = h 3 (lit≤ tt) (lit≤ tt) in
+    let speed : a .speed ≡ b .speed = h 4 (lit≤ tt) (lit≤ tt) in
+    let draw : a .draw ≡ b .draw = h 5 (lit≤ tt) (lit≤ tt) in
+    λ i. record { grade = grade i; weight = weight i; moisture = moisture i; speed = speed i; draw = draw i }

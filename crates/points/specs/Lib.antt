@@ -1,0 +1,7 @@
+pub mod Signed
+pub mod Point
+pub mod Order
+pub mod Square
+pub mod Cut
+pub mod Choice
+pub mod Word

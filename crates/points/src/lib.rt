@@ -1,0 +1,8 @@
+// Points of five coordinates: their ranges, order, square and cuts, the choice between two records, and points as words.
+pub mod choice;
+pub mod cut;
+pub mod order;
+pub mod point;
+mod signed;
+pub mod square;
+pub mod word;

@@ -1,0 +1,108 @@
+// Points and cuts as the words that are stored: a coordinate less the least of its axis, a sum less twice that.
+use crate::cut::Cut;
+use crate::point::Point;
+use crate::point::Range;
+use crate::point::range_on;
+use crate::signed::wide;
+ghost use mathlib.Core.Path.{_≡_};
+ghost use Rattle.points.specs.Word.{storedIn, loadedIn, sumRangeOf, wordOf, coordinateAt, pointAt, axisWordOf, sumWordOf, cutAt, cutInRange};
+
+// A number in a range as its distance from the least; for any other the word for none.
+fn stored_in(r: Range, x: i32) -> u32
+    ensures { λ w. ⌜ w ≡ storedIn r x ⌝ }
+{
+    if r.holds(x) {
+        (wide(x) - wide(r.low)) as u32
+    } else {
+        4294967295
+    }
+}
+
+// The number of a range at a distance from the least; past the greatest the number that is in no range.
+fn loaded_in(r: Range, w: u32) -> i32
+    ensures { λ x. ⌜ x ≡ loadedIn r w ⌝ }
+{
+    let x = wide(r.low) + w as i64;
+    if x <= wide(r.high) {
+        x as i32
+    } else {
+        2147483647
+    }
+}
+
+// The range of the sums of two coordinates.
+fn sum_range_on(axis: u32) -> Range
+    ensures { λ r. ⌜ r ≡ sumRangeOf axis ⌝ }
+{
+    let one = range_on(axis);
+    Range {
+        low: one.low + one.low,
+        high: one.high + one.high,
+    }
+}
+
+// The word of a point's coordinate on an axis.
+pub fn word(p: Point, axis: u32) -> u32
+    ensures { λ w. ⌜ w ≡ wordOf p axis ⌝ }
+{
+    stored_in(range_on(axis), p.coordinate(axis))
+}
+
+// The coordinate that a word stands for on an axis.
+fn coordinate_at(axis: u32, w: u32) -> i32
+    ensures { λ x. ⌜ x ≡ coordinateAt axis w ⌝ }
+{
+    loaded_in(range_on(axis), w)
+}
+
+// The point of five words; it is in range exactly if each of them is.
+pub fn point_at(grade: u32, weight: u32, moisture: u32, speed: u32, draw: u32) -> Point
+    ensures { λ p. ⌜ p ≡ pointAt grade weight moisture speed draw ⌝ }
+{
+    Point {
+        grade: coordinate_at(1, grade),
+        weight: coordinate_at(2, weight),
+        moisture: coordinate_at(3, moisture),
+        speed: coordinate_at(4, speed),
+        draw: coordinate_at(5, draw),
+    }
+}
+
+// Whether a cut has an axis, 1 to 5, and a sum that two points in range can have there.
+pub fn cut_in_range(cut: Cut) -> bool
+    ensures { λ b. ⌜ b ≡ cutInRange cut ⌝ }
+{
+    (1 <= cut.axis) & (cut.axis <= 5) & sum_range_on(cut.axis).holds(cut.sum)
+}
+
+// The word of a cut's axis: one less than its number; the word for none where there is no such axis.
+pub fn axis_word(cut: Cut) -> u32
+    ensures { λ w. ⌜ w ≡ axisWordOf cut ⌝ }
+{
+    if (1 <= cut.axis) & (cut.axis <= 5) {
+        cut.axis - 1
+    } else {
+        4294967295
+    }
+}
+
+// The word of a cut's sum.
+pub fn sum_word(cut: Cut) -> u32
+    ensures { λ w. ⌜ w ≡ sumWordOf cut ⌝ }
+{
+    stored_in(sum_range_on(cut.axis), cut.sum)
+}
+
+// The cut of two words; it is in range exactly if both of them are.
+pub fn cut_at(axis: u32, sum: u32) -> Cut
+    ensures { λ r. ⌜ r ≡ cutAt axis sum ⌝ }
+{
+    if axis <= 4 {
+        Cut {
+            axis: axis + 1,
+            sum: loaded_in(sum_range_on(axis + 1), sum),
+        }
+    } else {
+        Cut { axis: 0, sum: 0 }
+    }
+}
