@@ -1,0 +1,136 @@
+-- Demand 3 says something: it is not met by an index that refuses everybody, by one that answers always 6, nor by one whose search comes back with a
+-- removed record while a nearer one is held throughout. Each is refuted by one short history, whatever the moments.
+use mathlib.Core.Path.{_≡_, refl, sym, _∙_}
+use mathlib.Core.Bool.{Bool, true, false, not, false≢true}
+use mathlib.Core.Option.{Option, none, some}
+use mathlib.Core.List.{List, [], _∷_}
+use Prim.Native.Nat.{ℕ}
+use lib.Dec.{eqb}
+use Rattle.points.specs.declared.point.Point.{Point}
+use Rattle.table.specs.Record.{Record, curveAt}
+use Rattle.table.specs.Call.{add, remove, contains, nearest, Answer, answer, nearestAnswer}
+use Rattle.table.specs.Table.{Station, idle, unfinished, waiting, Table, opened, taken}
+use Rattle.table.specs.Event.{Event, submission, singleStep, taking, Reply, submit, take}
+use Rattle.table.specs.History.{Index, reply, answered, Linear}
+use Rattle.table.proofs.Simulation.{finished}
+use Rattle.table.proofs.Play.{Said}
+use Rattle.table.proofs.Placements.{everyPlay, tell, lastOf, linear-play}
+use Rattle.table.proofs.Cases.{runEvery, m, p, target, notM}
+
+-- an index whose last reply no placement of the moments gives does not meet demand 3
+not-linear : (I : Index) (start : I .State) (places limit : ℕ) (P : Said → Bool) (evs : List Event) (x : Said)
+    → everyPlay P (opened places limit) (tell I start evs) ≡ true
+    → lastOf I start evs ≡ some x → P x ≡ false → ¬ Linear I start places limit
+not-linear I start places limit P evs x h e n l = false≢true (sym n ∙ linear-play I start places limit P evs x l h e)
+
+abbrev pub replyWith : {S : Type 0} → ℕ → Option Answer → S → Reply S
+replyWith n a st = record { number = n; given = a; next = st }
+
+-- ## It refuses everybody
+
+abbrev pub deaf : Index
+deaf = record {
+  State = Unit {0};
+  submit = λ st s kind p c. replyWith 6 none tt;
+  step = λ st s. replyWith 10 none tt;
+  take = λ st s. replyWith 12 none tt;
+  held = λ st. [];
+  taken = λ st. 0;
+}
+
+-- not refused by 6
+unfoldable pub notSix : Said → Bool
+notSix x = not (eqb (x .0) 6)
+
+pub deaf-not-linear : ¬ Linear deaf tt 1 1
+unfolding runEvery tell lastOf reply answered notSix
+deaf-not-linear = not-linear deaf tt 1 1 notSix (submission 0 1 p 41 ∷ []) (6, none) refl refl refl
+
+-- ## It answers always 6
+
+-- nothing asked, a call under way, its answer ready
+pub data Phase : Type 0 where
+  resting : Phase
+  asked : Point → Phase
+  ready : Point → Phase
+
+unfoldable pub stepSix : Phase → Reply Phase
+stepSix resting = replyWith 10 none resting
+stepSix (asked p) = replyWith 0 none (ready p)
+stepSix (ready p) = replyWith 10 none (ready p)
+
+unfoldable pub takeSix : Phase → Reply Phase
+takeSix resting = replyWith 12 none resting
+takeSix (asked p) = replyWith 12 none (asked p)
+takeSix (ready p) = replyWith 0 (some (answer 6 p 0 0)) resting
+
+abbrev pub alwaysSix : Index
+alwaysSix = record {
+  State = Phase;
+  submit = λ st s kind p c. replyWith 0 none (asked p);
+  step = λ st s. stepSix st;
+  take = λ st s. takeSix st;
+  held = λ st. [];
+  taken = λ st. 0;
+}
+
+-- an answer other than 6
+unfoldable pub otherThanSix : Said → Bool
+otherThanSix (n, none) = false
+otherThanSix (n, some a) = not (eqb (a .code) 6)
+
+-- an add alone
+pub always-six-not-linear : ¬ Linear alwaysSix resting 1 1
+unfolding runEvery tell lastOf reply answered otherThanSix stepSix takeSix
+always-six-not-linear = not-linear alwaysSix resting 1 1 otherThanSix (submission 0 1 p 41 ∷ singleStep 0 ∷ taking 0 ∷ []) (0, some (answer 6 p 0 0)) refl refl refl
+
+-- ## Its search comes back with a removed record
+
+-- the table, and the record removed last
+pub record Cache : Type 0 where
+  pub table : Table
+  pub lost : Option Record
+
+-- a search of the cache looks at the lost record alone
+unfoldable pub searched : Point → Option Record → Option Answer
+searched q none = none
+searched q (some r) = some (nearestAnswer q (some r))
+
+unfoldable pub lose : Point → Option ℕ → Option Record
+lose q none = none
+lose q (some c) = some (record { point = q; curve = c })
+
+abbrev pub cached : Table → Option Record → Reply Cache
+cached t l = replyWith 0 none (record { table = t; lost = l })
+
+-- every call is answered at its first step, as the table would, but a search
+unfoldable pub stepCache : Cache → ℕ → Station → Reply Cache
+stepCache st s idle = replyWith 10 none st
+stepCache st s (waiting a) = replyWith 10 none st
+stepCache st s (unfinished i (add q c) o) = cached (finished (st .table) s (add q c) o) (st .lost)
+stepCache st s (unfinished i (remove q) o) = cached (finished (st .table) s (remove q) o) (lose q (curveAt q (st .table .held)))
+stepCache st s (unfinished i (contains q) o) = cached (finished (st .table) s (contains q) o) (st .lost)
+stepCache st s (unfinished i (nearest q) o) = cached (finished (st .table) s (nearest q) (searched q (st .lost))) (st .lost)
+
+abbrev pub onCache : Option Record → Reply Table → Reply Cache
+onCache l r = replyWith (r .number) (r .given) (record { table = r .next; lost = l })
+
+abbrev pub cache : Index
+cache = record {
+  State = Cache;
+  submit = λ st s kind p c. onCache (st .lost) (submit (st .table) s kind p c);
+  step = λ st s. stepCache st s (st .table .stations s);
+  take = λ st s. onCache (st .lost) (take (st .table) s);
+  held = λ st. st .table .held;
+  taken = λ st. taken (st .table);
+}
+
+-- m and the nearer p are added; a search is submitted; m is removed, p is held throughout; the search gives m
+abbrev pub removedMeanwhile : List Event
+removedMeanwhile =
+    submission 0 1 m 41 ∷ singleStep 0 ∷ taking 0 ∷ submission 0 1 p 42 ∷ singleStep 0 ∷ taking 0
+    ∷ submission 1 4 target 0 ∷ submission 0 2 m 0 ∷ singleStep 0 ∷ singleStep 1 ∷ taking 1 ∷ []
+
+pub cache-not-linear : ¬ Linear cache (record { table = opened 2 10; lost = none }) 2 10
+unfolding runEvery tell lastOf reply answered notM stepCache searched lose finished
+cache-not-linear = not-linear cache (record { table = opened 2 10; lost = none }) 2 10 notM removedMeanwhile (0, some (answer 8 m 41 10_000)) refl refl refl

@@ -1,0 +1,69 @@
+-- Calls and their answers (document 01, "Calls").
+use mathlib.Core.Bool.{Bool, true, false, cond, _&&_, _||_}
+use mathlib.Core.Option.{Option, none, some}
+use Prim.Native.Nat.{ℕ}
+use lib.Dec.{eqb, leb}
+use Rattle.points.specs.declared.point.Point.{Point}
+use Rattle.points.specs.Square.{squareOf}
+use Rattle.table.specs.Record.{Record}
+
+-- "Kinds: 1 add, 2 remove, 3 contains, 4 nearest"
+pub data Call : Type 0 where
+  add : Point → ℕ → Call
+  remove : Point → Call
+  contains : Point → Call
+  nearest : Point → Call
+
+-- "Call kind 1 to 4?"
+unfoldable pub kindInRange : ℕ → Bool
+kindInRange kind = leb 1 kind && leb kind 4
+
+-- the call of a kind 1 to 4; "Other kinds disregard the curve"
+unfoldable pub callOf : ℕ → Point → ℕ → Call
+callOf kind p c = cond (eqb kind 1) (add p c) (cond (eqb kind 2) (remove p) (cond (eqb kind 3) (contains p) (nearest p)))
+
+-- the calls that keep the places of removals taken while they are unfinished: "a nearest call"
+unfoldable pub isSearch : Call → Bool
+isSearch (add p c) = false
+isSearch (remove p) = false
+isSearch (contains p) = false
+isSearch (nearest p) = true
+
+-- "Every answer has a code, a point, a curve and a square. The point is the one given, for code 8 the one found. The curve is 0 in
+-- codes 3, 4, 6 and 9, and the given one in 1; the square is 0 except in 8."
+pub record Answer : Type 0 where
+  pub code : ℕ
+  pub point : Point
+  pub curve : ℕ
+  pub square : ℕ
+
+-- an answer by its four parts
+abbrev pub answer : ℕ → Point → ℕ → ℕ → Answer
+answer n p c q = record { code = n; point = p; curve = c; square = q }
+
+-- "Add: held already? 2, with the held curve, which is not replaced. Else changes used up? 4. Else every place taken? 3. Else 1."
+unfoldable pub addAnswer : Point → ℕ → Option ℕ → Bool → Bool → Answer
+addAnswer p c (some held) spent full = answer 2 p held 0
+addAnswer p c none true full = answer 4 p 0 0
+addAnswer p c none false true = answer 3 p 0 0
+addAnswer p c none false false = answer 1 p c 0
+
+-- "Remove: not held? 6. Else changes used up? 4. Else 5, with the curve that was held."
+unfoldable pub removeAnswer : Point → Option ℕ → Bool → Answer
+removeAnswer p none spent = answer 6 p 0 0
+removeAnswer p (some held) true = answer 4 p 0 0
+removeAnswer p (some held) false = answer 5 p held 0
+
+-- "Contains: 7 with the curve, or 6."
+unfoldable pub containsAnswer : Point → Option ℕ → Answer
+containsAnswer p none = answer 6 p 0 0
+containsAnswer p (some held) = answer 7 p held 0
+
+-- "Nearest: 8 with the record and the square, or 9 where the grade has no record."
+unfoldable pub nearestAnswer : Point → Option Record → Answer
+nearestAnswer p none = answer 9 p 0 0
+nearestAnswer p (some r) = answer 8 (r .point) (r .curve) (squareOf p (r .point))
+
+-- "Codes 1 and 5 are the changes"
+unfoldable pub isChange : Answer → Bool
+isChange a = eqb (a .code) 1 || eqb (a .code) 5

@@ -1,0 +1,144 @@
+-- The events of a history and what they do to the plain table (document 01, "The plain table" and "Questions").
+use mathlib.Core.Bool.{Bool, true, false, not, _||_}
+use mathlib.Core.Option.{Option, none, some}
+use mathlib.Core.List.{List, [], _∷_}
+use Prim.Native.Nat.{ℕ, _+_}
+use lib.Dec.{eqb, ltb}
+use Rattle.points.specs.declared.point.Point.{Point}
+use Rattle.points.specs.Point.{inRange}
+use Rattle.table.specs.Record.{curveInRange}
+use Rattle.table.specs.Call.{Call, callOf, kindInRange, Answer, isChange}
+use Rattle.table.specs.Table.{Station, idle, unfinished, waiting, Table, put, withStations, answerOf, changedIf}
+
+-- "The events of a history are submissions, single steps and takings, refused ones too": any station number, kind, point and curve
+pub data Event : Type 0 where
+  submission : ℕ → ℕ → Point → ℕ → Event
+  singleStep : ℕ → Event
+  taking : ℕ → Event
+
+-- what an event gives back, 0 or the number of its refusal and the answer taken, and what it leaves
+pub record Reply (S : Type 0) : Type 0 where
+  pub number : ℕ
+  pub given : Option Answer
+  pub next : S
+
+-- the reply of an event that is not refused and takes no answer
+abbrev pub accept : Table → Reply Table
+accept t = record { number = 0; given = none; next = t }
+
+-- "A refusal leaves the table as it is."
+abbrev pub refuse : ℕ → Table → Reply Table
+refuse n t = record { number = n; given = none; next = t }
+
+-- "each has its number when the reply is no"
+abbrev pub ask : Bool → ℕ → Table → Reply Table → Reply Table
+ask true n t r = r
+ask false n t r = refuse n t
+
+-- ## Submission
+
+-- "is the station idle, with no unfinished call and no answer waiting?"
+unfoldable pub isIdle : Station → Bool
+isIdle idle = true
+isIdle (unfinished i c o) = false
+isIdle (waiting a) = false
+
+-- "For an add, curve in range?"
+unfoldable pub curveFits : ℕ → ℕ → Bool
+curveFits kind c = not (eqb kind 1) || curveInRange c
+
+-- "else its call is unfinished", under an identity that no call had before
+unfoldable pub enter : Table → ℕ → Call → Table
+enter t s c = record {
+  places = t .places;
+  limit = t .limit;
+  held = t .held;
+  changes = t .changes;
+  removals = t .removals;
+  calls = t .calls + 1;
+  stations = put (t .stations) s (unfinished (t .calls) c none);
+}
+
+-- "Submission: refused by the questions from 5 on, asked of the table's station; else its call is unfinished."
+unfoldable pub submit : Table → ℕ → ℕ → Point → ℕ → Reply Table
+submit t s kind p c =
+    ask (ltb s 8) 5 t (ask (isIdle (t .stations s)) 6 t (ask (kindInRange kind) 7 t (ask (inRange p) 8 t (ask (curveFits kind c) 9 t
+    (accept (enter t s (callOf kind p c)))))))
+
+-- ## Moment
+
+-- "the call's answer is worked out as listed above and set down", with what it changes
+unfoldable pub setDown : Table → ℕ → ℕ → Call → Answer → Table
+setDown t s i c a = withStations (changedIf (isChange a) t c) (put (t .stations) s (unfinished i c (some a)))
+
+-- the event is a step of the station
+unfoldable pub ownStep : Event → ℕ → Bool
+ownStep (submission u kind p c) s = false
+ownStep (singleStep u) s = eqb u s
+ownStep (taking u) s = false
+
+-- "The moment of a change is the step that changes the held records": at an event that is no step of the station it cannot fall
+unfoldable pub mayFall : Event → ℕ → Answer → Bool
+mayFall ev s a = not (isChange a) || ownStep ev s
+
+-- undefined where the test fails
+unfoldable pub onlyIf : Bool → Table → Option Table
+onlyIf true t = some t
+onlyIf false t = none
+
+-- "A moment falls at an event after its call's submission and no later than the step that answers it": the call is unfinished then and
+-- nothing is set down for it, else the moment is undefined; so a call has one moment at most
+unfoldable pub momentAt : Event → Table → ℕ → Station → Option Table
+momentAt ev t s idle = none
+momentAt ev t s (waiting a) = none
+momentAt ev t s (unfinished i c (some a)) = none
+momentAt ev t s (unfinished i c none) = onlyIf (mayFall ev s (answerOf t c)) (setDown t s i c (answerOf t c))
+
+-- the moment of the station's call
+unfoldable pub moment : Event → Table → ℕ → Option Table
+moment ev t s = momentAt ev t s (t .stations s)
+
+-- ## Step
+
+-- "Step: refused by 5 or 10. One that answers puts the answer set down in waiting, and its call is no longer unfinished"; undefined
+-- where a step is said to answer and nothing is set down
+unfoldable pub stepAt : Table → ℕ → Bool → Bool → Station → Option (Reply Table)
+stepAt t s false answers x = some (refuse 5 t)
+stepAt t s true answers idle = some (refuse 10 t)
+stepAt t s true answers (waiting a) = some (refuse 10 t)
+stepAt t s true false (unfinished i c o) = some (accept t)
+stepAt t s true true (unfinished i c none) = none
+stepAt t s true true (unfinished i c (some a)) = some (accept (withStations t (put (t .stations) s (waiting a))))
+
+-- a step of the station, told whether it answers
+unfoldable pub step : Table → ℕ → Bool → Option (Reply Table)
+step t s answers = stepAt t s (ltb s 8) answers (t .stations s)
+
+-- ## Taking
+
+-- "Taking: refused by 5 or 12; else it gives the waiting answer, and the station is idle."
+unfoldable pub takeAt : Table → ℕ → Station → Reply Table
+takeAt t s idle = refuse 12 t
+takeAt t s (unfinished i c o) = refuse 12 t
+takeAt t s (waiting a) = record { number = 0; given = some a; next = withStations t (put (t .stations) s idle) }
+
+-- a taking by the station
+unfoldable pub take : Table → ℕ → Reply Table
+take t s = ask (ltb s 8) 5 t (takeAt t s (t .stations s))
+
+-- ## Feeding the table
+
+-- what the event itself does, told whether it answers
+unfoldable pub perform : Table → Event → Bool → Option (Reply Table)
+perform t (submission s kind p c) answers = some (submit t s kind p c)
+perform t (singleStep s) answers = step t s answers
+perform t (taking s) answers = some (take t s)
+
+-- moments at one event, as a list of stations: they "have an order"
+unfoldable pub moments : Event → Table → List ℕ → Option Table
+moments ev t [] = some t
+moments ev t (s ∷ ss) = elim (moment ev t s) [ none ↦ none | some u ↦ moments ev u ss ]
+
+-- the table is "fed the events in order, which steps answered, and where the moments fall"; moments "come before what the event itself does"
+unfoldable pub feed : Table → List ℕ → Event → Bool → Option (Reply Table)
+feed t ms ev answers = elim (moments ev t ms) [ none ↦ none | some u ↦ perform u ev answers ]
