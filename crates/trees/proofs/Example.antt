@@ -1,0 +1,203 @@
+-- The theorems' hypotheses can be met, and the moves compute: an index of two places is opened, a record is inserted, a search is submitted, a
+-- nearer record is inserted beside the first, and the first is unlinked; the search answers the first, the only one held at its submission, and
+-- that is right (`answers`, `right`).
+use Prim.Native.Nat.{ℕ}
+use mathlib.Core.Path.{_≡_, refl, sym, _∙_, ap, subst₂, subst₃}
+use mathlib.Core.Logic.{inl, inr}
+use mathlib.Core.Bool.{true}
+use mathlib.Core.List.{List, [], _∷_}
+use mathlib.Core.Option.{Option, none, some}
+use native.Mathlib.Omega.{arith}
+use lib.IntN.{ℤ, pos}
+use Rattle.points.specs.declared.point.Point.{Point}
+use Rattle.points.specs.Point.{coordinateOf, withinRange, onAxis, inRange, rangeOf, placeOf}
+use Rattle.points.specs.Square.{gapOf}
+use Rattle.points.specs.Order.{byAxis}
+use Rattle.points.specs.Signed.{cappedOf}
+use Rattle.points.specs.Cut.{widerOf, spreadOf, widestOf, cutOf, goesLeft}
+use Rattle.points.specs.Choice.{sameGrade}
+use Rattle.points.specs.Word.{NONE}
+use Rattle.trees.specs.Row.{Entry, spareRow, removedRow, leafRow, cutRow, Heap, nextOf, parentOf, siblingOf, setNext, setParent, write}
+use Rattle.trees.specs.Tree.{Tree, leaf, cut, top, topOf, Has, Shape, Holds, treeCount, leavesFrom, leavesLinked}
+use Rattle.trees.specs.Queue.{Free, tailOf, spareRows}
+use Rattle.trees.specs.Store.{Store}
+use Rattle.trees.specs.Stand.{Down, Up, moveCursor, afterUnlink, missedAfter}
+use Rattle.trees.specs.Tour.{Progress, considered, look, tour, seek, searchAfterInsert, searchAfterUnlink}
+use Rattle.trees.specs.Search.{begun, Search, Nearest}
+use Rattle.trees.specs.Reads.{UnlinkApart, Leaf}
+use Rattle.trees.specs.Insert.{firstFree, secondFree, newCut, InsertBeside, Inserted}
+use Rattle.trees.specs.Unlink.{siblingRow, grandRow, UnlinkWrites, Unlinked}
+use Rattle.trees.proofs.Spot.{Rows}
+use Rattle.trees.proofs.ShapeLaws.{shape-unique}
+use Rattle.trees.proofs.WriteLaws.{write-wrote, insert-write, insert-writes, unlink-writes}
+use Rattle.trees.proofs.Insert.{insert}
+use Rattle.trees.proofs.Unlink.{unlink}
+use Rattle.trees.proofs.SearchLaws.{search-begin, search-insert, search-unlink, search-seek, search-finish}
+use Rattle.trees.proofs.Open.{openedNext, store-open}
+use Rattle.trees.proofs.ChoiceOf.{choiceOf}
+
+-- a point of grade 12 with this weight
+abbrev weighing : ℕ → Point
+weighing w = record { grade = pos 12; weight = pos w; moisture = pos 550; speed = pos 9000; draw = pos 0 }
+
+abbrev old : Entry
+old = record { point = weighing 8000; curve = 41; added = 1 }
+
+abbrev new : Entry
+new = record { point = weighing 11990; curve = 42; added = 2 }
+
+-- the rows after the opening, the two inserts and the unlink
+abbrev opened : Heap
+opened i = spareRow (openedNext 4 i) 0
+
+abbrev one : Heap
+one = write opened 0 (leafRow NONE old)
+
+abbrev two : Heap
+two = write (write (write one 1 (leafRow 2 new)) 2 (newCut NONE (new .point) (old .point) 1 0)) 0 (leafRow 2 old)
+
+abbrev last : Heap
+last = write (write (write (write two 3 (setNext 0 (two 3))) 0 (removedRow 2 1 old)) 2 (spareRow NONE 1)) 1 (setParent NONE (two 1))
+
+-- the search for weight 12,000, submitted after the first insert, as the changes of the others leave it
+abbrev left : Progress
+left = searchAfterUnlink 0 2 1 (searchAfterInsert 0 2 (begun (some (leaf 0 old))))
+
+old-in-range : inRange (old .point) ≡ true
+unfolding inRange onAxis withinRange rangeOf placeOf coordinateOf
+old-in-range = refl
+
+new-in-range : inRange (new .point) ≡ true
+unfolding inRange onAxis withinRange rangeOf placeOf coordinateOf
+new-in-range = refl
+
+-- a store whose tree has this shape holds this tree
+is-tree : {h : Heap} {t : Option Tree} {q : List Free} {changes removals released : ℕ} (t′ : Tree) → Store 2 h t q changes removals released → Rows t′
+    → Shape h (some t′) → topOf t ≡ top t′
+    → Store 2 h (some t′) q changes removals released
+is-tree {h} {t} t′ s rows shape e =
+    let f : t ≡ some t′ = shape-unique h t (some t′) (λ i m x. omega (arith, s .inside i m, s .fits)) rows (s .shape) shape e in
+    rw f at s
+
+-- the first insert
+first : Inserted 2 opened one none (spareRows 0 4) 0 0 0 old none 0 1
+unfolding spareRows
+first = insert one old none none (store-open 2 opened (omega arith) (λ i l. refl)) (omega arith) refl tt old-in-range refl
+    (insert-write (write-wrote opened 0 (leafRow NONE old)))
+
+store-one : Store 2 one (some (leaf 0 old)) (first .queue) 1 0 0
+unfolding write
+store-one = is-tree (leaf 0 old) (first .store) (λ i m x. omega (arith, m, x)) refl (first .root)
+
+-- the second, beside the first record
+abbrev beside : Leaf
+beside = record { row = 0; parent = NONE; entry = old }
+
+weights-differ : ¬ (new .point ≡ old .point)
+weights-differ e =
+    let z : _≡_ {A = ℤ} (pos 11990) (pos 8000) = ap (λ p. p .weight) e in
+    let y : _≡_ {A = ℕ} 11990 8000 = cc in
+    omega arith
+
+second : Inserted 2 one two (some (leaf 0 old)) (first .queue) 1 0 0 new (some beside) 1 2
+unfolding treeCount write
+second =
+    let a-is : firstFree (first .queue) ≡ 1 = first .head in
+    let b-is : secondFree one (first .queue) ≡ 2 = ap (λ x. nextOf (one x)) a-is in
+    let w : InsertBeside one two 1 2 new beside =
+    insert-writes (record {
+      a≢b = λ e. omega arith;
+      a≢row = λ e. omega arith;
+      b≢row = λ e. omega arith;
+      a≢parent = λ e. omega arith;
+      b≢parent = λ e. omega arith;
+      row≢parent = λ e. omega arith;
+    })
+    (write-wrote one 1 (leafRow 2 new)) (write-wrote (write one 1 (leafRow 2 new)) 2 (newCut NONE (new .point) (old .point) 1 0))
+    (write-wrote (write (write one 1 (leafRow 2 new)) 2 (newCut NONE (new .point) (old .point) 1 0)) 0 (leafRow 2 old))
+    (record { nothing = λ e i. refl; written = λ n. absurd (n refl) }) in
+    let w′ : InsertBeside one two (firstFree (first .queue)) (secondFree one (first .queue)) new beside =
+    subst₂ (λ (x y : ℕ). InsertBeside one two x y new beside) (sym a-is) (sym b-is) w in
+    subst₂ (λ (x y : ℕ). Inserted 2 one two (some (leaf 0 old)) (first .queue) 1 0 0 new (some beside) x y) a-is b-is
+    (insert two new (some (leaf 0 old)) (some beside) store-one (omega arith) (refl, refl) weights-differ new-in-range refl w′)
+
+-- the unlink of the first record, from below the cut of row 2, with the second as its sibling
+abbrev both : Tree
+both = cut 2 (cutOf (new .point) (old .point)) (leaf 0 old) (leaf 1 new)
+
+cut-reads : two 2 ≡ cutRow NONE (cutOf (new .point) (old .point)) 0 1
+unfolding write cutOf widestOf widerOf spreadOf gapOf coordinateOf cappedOf goesLeft
+cut-reads = refl
+
+tree-two : second .tree ≡ some both
+unfolding write
+tree-two =
+    shape-unique two (second .tree) (some both) (λ i m x. omega (arith, second .store .inside i m, second .store .fits))
+    (λ i. elim [ inl e ↦ λ x. omega (arith, e, x) | inr (inl e) ↦ λ x. omega (arith, e, x) | inr (inr e) ↦ λ x. omega (arith, e, x) ]) (second .store .shape)
+    (cut-reads, refl, refl) (second .root)
+
+abbrev gone : Leaf
+gone = record { row = 0; parent = 2; entry = old }
+
+third : Unlinked 2 two last (second .tree) (second .queue) 2 0 0 gone 1 NONE
+unfolding write spareRows
+third =
+    let tail-is : tailOf (second .queue) ≡ 3 = second .tail ∙ first .tail in
+    let sibling-is : siblingRow two gone ≡ 1 = ap (siblingOf 0) cut-reads in
+    let grand-is : grandRow two gone ≡ NONE = ap parentOf cut-reads in
+    let h₁ : Heap = write two 3 (setNext 0 (two 3)) in
+    let h₂ : Heap = write h₁ 0 (removedRow 2 1 old) in
+    let h₃ : Heap = write h₂ 2 (spareRow NONE 1) in
+    let has : Has (second .tree) 0 = rw tree-two (inr (inl refl)) in
+    let apart : UnlinkApart 3 0 2 1 NONE = record {
+      tail≢row = λ e. omega arith;
+      tail≢parent = λ e. omega arith;
+      tail≢sibling = λ e. omega arith;
+      tail≢grand = λ e. omega arith;
+      row≢parent = λ e. omega arith;
+      row≢sibling = λ e. omega arith;
+      row≢grand = λ e. omega arith;
+      parent≢sibling = λ e. omega arith;
+      parent≢grand = λ e. omega arith;
+      sibling≢grand = λ e. omega arith;
+    } in
+    let w : UnlinkWrites two last 3 1 gone 1 NONE =
+    unlink-writes (λ e. omega arith) apart (write-wrote two 3 (setNext 0 (two 3))) (write-wrote h₁ 0 (removedRow 2 1 old)) (write-wrote h₂ 2 (spareRow NONE 1))
+    (write-wrote h₃ 1 (setParent NONE (two 1))) (record { nothing = λ e i. refl; written = λ n. absurd (n refl) }) in
+    let w′ : UnlinkWrites two last (tailOf (second .queue)) 1 gone (siblingRow two gone) (grandRow two gone) =
+    subst₃ (λ (x y z : ℕ). UnlinkWrites two last x 1 gone y z) (sym tail-is) (sym sibling-is) (sym grand-is) w in
+    subst₂ (λ (x y : ℕ). Unlinked 2 two last (second .tree) (second .queue) 2 0 0 gone x y) sibling-is grand-is
+    (unlink {l = gone} (second .tree) (second .store) has refl w′)
+
+held-after : leavesLinked 4 last 1 ≡ new ∷ []
+unfolding leavesLinked leavesFrom write
+held-after = refl
+
+moved : left ≡ record { stand = record { cursor = 1; phase = Down }; missed = 0; best = none }
+unfolding moveCursor afterUnlink missedAfter
+moved = refl
+
+abbrev target : Point
+target = weighing 12000
+
+-- what holds of the search after all this
+searching : Search (choiceOf target) 1 0 (Holds (some (leaf 0 old))) (third .tree) (third .queue) 3 1 left
+searching = search-unlink (second .store) third (search-insert second (omega arith) (search-begin (choiceOf target) (some (leaf 0 old)) store-one (λ e. (λ m. m, λ m. m))))
+
+-- one step looks at the removed record, passes over the one that is younger than the search, and has nothing left
+answers : seek (choiceOf target) 1 last left ≡ some (record {
+  stand = record { cursor = NONE; phase = Up };
+  missed = NONE;
+  best = some
+      (record { point = old .point; curve = 41 });
+})
+unfolding seek look tour considered write moveCursor afterUnlink missedAfter sameGrade byAxis coordinateOf
+answers = refl
+
+-- so the answer is the nearest of the records held at submission
+right : Nearest (choiceOf target) (Holds (some (leaf 0 old))) (some (record { point = old .point; curve = 41 }))
+right =
+    let w = search-seek (third .tree) (third .store) left searching in
+    let e : w .to ≡ record { stand = record { cursor = NONE; phase = Up }; missed = NONE; best = some (record { point = old .point; curve = 41 }) } =
+    cc (w .is, answers) in
+    search-finish (third .tree) (third .store) (rw e at (w .search)) refl
