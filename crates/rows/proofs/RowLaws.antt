@@ -1,0 +1,173 @@
+-- Rows in words: a row in range that is written is read back; every other row, record and word is as it was; `NONE` and `Bad` are
+-- harmless; slices that agree on the words of a row have the same row there.
+-- Assumes nothing.
+use mathlib.Core.Path.{_≡_, refl, ap}
+use mathlib.Core.Bool.{Bool, true, false, cond, _&&_, false≢true}
+use mathlib.Core.List.{List}
+use Prim.Native.Nat.{ℕ, _+_, _≤_, _<_}
+use native.Mathlib.Omega.{arith}
+use borrow.Author.Tests.{leb-true, le-leb, lt-ltb, le-ltb}
+use lib.Dec.{leb, ltb}
+use lib.ListN.{length}
+use Rattle.points.specs.Point.{inRange}
+use Rattle.points.specs.Word.{NONE, cutInRange}
+use Rattle.points.proofs.Tests.{and-l, and-r}
+use Rattle.points.proofs.WordLaws.{point-at-words, cut-at-words}
+use Rattle.points.specs.declared.cut.Cut.{Cut as PointCut}
+use Rattle.points.specs.declared.point.Point.{Point}
+use Rattle.rows.specs.declared.row.Row.{Row}
+use Rattle.rows.specs.declared.row.Row.the-variants.{Bad, Spare, Removed, Leaf, Cut}
+use Rattle.rows.specs.Layout.{atRow, mostRows, records}
+use Rattle.rows.specs.Words.{get, put, part, splice}
+use Rattle.rows.specs.Agree.{Off, Agree, inRow, AgreeIn, OnlyIn}
+use Rattle.rows.specs.Range.{linkIn, curveIn}
+use Rattle.rows.specs.Row.{pointFrom, isRow, inRows, checkedRow, rowOf, rowAt, encodeRow, putRow, Room}
+use Rattle.rows.proofs.Splice.{length-splice, splice-part}
+use Rattle.rows.proofs.AgreeLaws.{part-agree, only-apart, put-only, splice-only, splice-agree, cond-only, cond-agree, row-row, elsewhere}
+
+-- what it means that a row is in range, by kind
+pub in-rows-bad : (rows : ℕ) → inRows rows Bad ≡ false
+unfolding inRows
+in-rows-bad rows = refl
+
+pub in-rows-spare : (rows next freed : ℕ) → inRows rows (Spare next freed) ≡ linkIn rows next
+unfolding inRows
+in-rows-spare rows next freed = refl
+
+pub in-rows-removed : (rows next freed added : ℕ) (point : Point) (curve : ℕ)
+    → inRows rows (Removed next freed added point curve) ≡ ((linkIn rows next && inRange point) && curveIn curve)
+unfolding inRows
+in-rows-removed rows next freed added point curve = refl
+
+pub in-rows-leaf : (rows parent added : ℕ) (point : Point) (curve : ℕ)
+    → inRows rows (Leaf parent added point curve) ≡ ((linkIn rows parent && inRange point) && curveIn curve)
+unfolding inRows
+in-rows-leaf rows parent added point curve = refl
+
+pub in-rows-cut : (rows parent : ℕ) (cut : PointCut) (left right : ℕ)
+    → inRows rows (Cut parent cut left right) ≡ (((linkIn rows parent && cutInRange cut) && ltb left rows) && ltb right rows)
+unfolding inRows
+in-rows-cut rows parent cut left right = refl
+
+-- a row in range is a row
+pub in-rows-row : (rows : ℕ) (row : Row) → inRows rows row ≡ true → isRow row ≡ true
+unfolding inRows
+in-rows-row rows Bad e = e
+in-rows-row rows (Spare next freed) e = refl
+in-rows-row rows (Removed next freed added point curve) e = refl
+in-rows-row rows (Leaf parent added point curve) e = refl
+in-rows-row rows (Cut parent cut left right) e = refl
+
+length-encode : (row : Row) → length (encodeRow row) ≡ 16
+unfolding encodeRow
+length-encode Bad = refl
+length-encode (Spare next freed) = refl
+length-encode (Removed next freed added point curve) = refl
+length-encode (Leaf parent added point curve) = refl
+length-encode (Cut parent cut left right) = refl
+
+-- sixteen words that were made of a row give the row
+row-back : (rows : ℕ) (row : Row) → inRows rows row ≡ true → rowOf (encodeRow row) ≡ row
+unfolding inRows rowOf encodeRow pointFrom
+row-back rows Bad e = absurd (false≢true e)
+row-back rows (Spare next freed) e = refl
+row-back rows (Removed next freed added point curve) e =
+    ap (λ p. Removed next freed added p curve)
+    (point-at-words point (and-r (linkIn rows next) (inRange point) (and-l (linkIn rows next && inRange point) (curveIn curve) e)))
+row-back rows (Leaf parent added point curve) e =
+    ap (λ p. Leaf parent added p curve)
+    (point-at-words point (and-r (linkIn rows parent) (inRange point) (and-l (linkIn rows parent && inRange point) (curveIn curve) e)))
+row-back rows (Cut parent cut left right) e =
+    let f = and-l (linkIn rows parent && cutInRange cut) (ltb left rows) (and-l ((linkIn rows parent && cutInRange cut) && ltb left rows) (ltb right rows) e) in
+    ap (λ k. Cut parent k left right) (cut-at-words cut (and-r (linkIn rows parent) (cutInRange cut) f))
+
+checked-same : (rows : ℕ) (row : Row) → inRows rows row ≡ true → checkedRow rows row ≡ row
+unfolding checkedRow
+checked-same rows row e = rw e
+
+checked-sound : (rows : ℕ) (row : Row) → isRow (checkedRow rows row) ≡ true → inRows rows (checkedRow rows row) ≡ true
+unfolding checkedRow
+checked-sound rows row e = go (inRows rows row) refl e
+  where
+    go : (b : Bool) → inRows rows row ≡ b → isRow (cond b row Bad) ≡ true → inRows rows (cond b row Bad) ≡ true
+    go true f h = f
+    go false f h = absurd (false≢true h)
+
+-- a row that is read is in range
+pub row-sound : (w : List ℕ) (rows r : ℕ) → isRow (rowAt w rows r) ≡ true → inRows rows (rowAt w rows r) ≡ true
+unfolding rowAt
+row-sound w rows r e = go (ltb r rows && leb (atRow r + 16) (length w)) e
+  where
+    go : (b : Bool) → isRow (cond b (checkedRow rows (rowOf (part w (atRow r) 16))) Bad) ≡ true
+        → inRows rows (cond b (checkedRow rows (rowOf (part w (atRow r) 16))) Bad) ≡ true
+    go true h = checked-sound rows (rowOf (part w (atRow r) 16)) h
+    go false h = absurd (false≢true h)
+
+-- there is no row from rows on, so none at NONE
+pub rowAt-outside : (w : List ℕ) (rows r : ℕ) → rows ≤ r → rowAt w rows r ≡ Bad
+unfolding rowAt
+rowAt-outside w rows r h = rw (le-ltb r rows h)
+
+pub rowAt-none : (w : List ℕ) (rows : ℕ) → Room w rows → rowAt w rows NONE ≡ Bad
+rowAt-none w rows m = rowAt-outside w rows NONE (omega (arith, m .most))
+
+pub putRow-outside : (w : List ℕ) (r : ℕ) (row : Row) → mostRows ≤ r → putRow w r row ≡ w
+unfolding putRow
+putRow-outside w r row h = go (isRow row) (ltb r mostRows) (le-ltb r mostRows h)
+  where
+    go : (b d : Bool) → d ≡ false → cond ((b && d) && leb (atRow r + 16) (length w)) (splice w (encodeRow row) (atRow r) 16) w ≡ w
+    go true d e = rw e
+    go false d e = refl
+
+pub putRow-none : (w : List ℕ) (row : Row) → putRow w NONE row ≡ w
+putRow-none w row = putRow-outside w NONE row (omega arith)
+
+-- Bad is not written
+pub putRow-bad : (w : List ℕ) (r : ℕ) → putRow w r Bad ≡ w
+unfolding putRow
+putRow-bad w r = refl
+
+-- writing a row touches its sixteen words alone
+pub putRow-only : (w : List ℕ) (r : ℕ) (row : Row) → OnlyIn (putRow w r row) w (inRow r)
+unfolding putRow
+putRow-only w r row =
+    cond-only ((isRow row && ltb r mostRows) && leb (atRow r + 16) (length w))
+    (λ e. splice-only w (encodeRow row) (atRow r) 16 (leb-true _ _ (and-r (isRow row && ltb r mostRows) _ e)) (length-encode row))
+
+pub length-putRow : (w : List ℕ) (r : ℕ) (row : Row) → length (putRow w r row) ≡ length w
+length-putRow w r row = putRow-only w r row .lengths
+
+pub get-putRow : (w : List ℕ) (r : ℕ) (row : Row) (k : ℕ) → Off (atRow r) 16 k → get (putRow w r row) k ≡ get w k
+get-putRow w r row k o = putRow-only w r row .others k o
+
+-- slices that agree agree again after the same row was written
+pub putRow-agree : {v w : List ℕ} {a n : ℕ} → Agree v w a n → (r : ℕ) (row : Row) → Agree (putRow v r row) (putRow w r row) a n
+unfolding putRow
+putRow-agree {v} {w} {a} {n} g r row =
+    cond-agree ((isRow row && ltb r mostRows) && leb (atRow r + 16) (length v)) ((isRow row && ltb r mostRows) && leb (atRow r + 16) (length w))
+    (ap (λ k. (isRow row && ltb r mostRows) && leb (atRow r + 16) k) (g .lengths))
+    (λ e. splice-agree g (encodeRow row) (atRow r) 16 (leb-true _ _ (and-r (isRow row && ltb r mostRows) _ e)) (length-encode row))
+    g
+
+-- slices that agree on the words of a row have the same row there
+pub rowAt-agree : {v w : List ℕ} (rows r : ℕ) → AgreeIn v w (inRow r) → rowAt v rows r ≡ rowAt w rows r
+unfolding rowAt
+rowAt-agree rows r g = rw (g .lengths, part-agree g)
+
+-- a word of the records and the rows do not touch each other
+pub rowAt-put : (w : List ℕ) (i x rows r : ℕ) → i < records → rowAt (put w i x) rows r ≡ rowAt w rows r
+rowAt-put w i x rows r h = rowAt-agree rows r (only-apart (put-only w i x) (atRow r) 16 (λ k p q p′ q′. omega arith))
+
+-- another row stays
+pub rowAt-putRow-other : (w : List ℕ) (r : ℕ) (row : Row) (rows q : ℕ) → ¬ (q ≡ r) → rowAt (putRow w r row) rows q ≡ rowAt w rows q
+rowAt-putRow-other w r row rows q n =
+    rowAt-agree rows q (elsewhere (inRow r) (inRow q) (putRow-only w r row) (row-row q r n))
+
+-- a row in range that is written is read back
+pub rowAt-putRow-same : (w : List ℕ) (r : ℕ) (row : Row) (rows : ℕ) → Room w rows → r < rows → inRows rows row ≡ true → rowAt (putRow w r row) rows r ≡ row
+unfolding rowAt putRow
+rowAt-putRow-same w r row rows m h e =
+    let room : atRow r + 16 ≤ length w = omega (arith, m .fits) in
+    let below : r < mostRows = omega (arith, m .most) in
+    simp (in-rows-row rows row e, lt-ltb r mostRows below, le-leb (atRow r + 16) (length w) room, length-splice w (encodeRow row) (atRow r) 16 room (length-encode row), lt-ltb r rows h, splice-part w (encodeRow row) (atRow r) 16 room (length-encode row), row-back rows row e)
+    (checked-same rows row e)

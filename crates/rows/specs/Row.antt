@@ -1,0 +1,101 @@
+-- Rows: sixteen words each, of which the first is the kind, read and written as values.
+use Prim.Native.Nat.{ℕ, _+_, _≤_}
+use mathlib.Core.List.{List, [], _∷_}
+use mathlib.Core.Bool.{Bool, true, false, cond, _&&_}
+use lib.ListN.{getD, length}
+use lib.Dec.{eqb, leb, ltb}
+use Rattle.points.specs.declared.point.Point.{Point}
+use Rattle.points.specs.declared.cut.Cut.{Cut as PointCut}
+use Rattle.points.specs.Point.{inRange}
+use Rattle.points.specs.Word.{pointAt, wordOf, cutAt, cutInRange, axisWordOf, sumWordOf}
+use Rattle.rows.specs.declared.row.Row.{Row}
+use Rattle.rows.specs.declared.row.Row.the-variants.{Bad, Spare, Removed, Leaf, Cut}
+use Rattle.rows.specs.Layout.{atRow, mostRows}
+use Rattle.rows.specs.Words.{part, splice}
+use Rattle.rows.specs.Range.{linkIn, curveIn}
+
+-- the point of five words from word k on
+unfoldable pub pointFrom : List ℕ → ℕ → Point
+pointFrom w k = pointAt (getD w k 0) (getD w (k + 1) 0) (getD w (k + 2) 0) (getD w (k + 3) 0) (getD w (k + 4) 0)
+
+-- the five words of a point, and what follows them
+abbrev pub pointWords : Point → List ℕ → List ℕ
+pointWords p rest = wordOf p 1 ∷ wordOf p 2 ∷ wordOf p 3 ∷ wordOf p 4 ∷ wordOf p 5 ∷ rest
+
+-- a row that is one
+abbrev pub isRow : Row → Bool
+isRow Bad = false
+isRow (Spare next freed) = true
+isRow (Removed next freed added point curve) = true
+isRow (Leaf parent added point curve) = true
+isRow (Cut parent cut left right) = true
+
+-- a record has a link, a point and a curve in range
+abbrev pub recordIn : ℕ → ℕ → Point → ℕ → Bool
+recordIn rows link point curve = (linkIn rows link && inRange point) && curveIn curve
+
+-- every field of a row is in range for an index of so many rows
+unfoldable pub inRows : ℕ → Row → Bool
+inRows rows Bad = false
+inRows rows (Spare next freed) = linkIn rows next
+inRows rows (Removed next freed added point curve) = recordIn rows next point curve
+inRows rows (Leaf parent added point curve) = recordIn rows parent point curve
+inRows rows (Cut parent cut left right) = ((linkIn rows parent && cutInRange cut) && ltb left rows) && ltb right rows
+
+-- a row that is in range, else Bad
+unfoldable pub checkedRow : ℕ → Row → Row
+checkedRow rows row = cond (inRows rows row) row Bad
+
+-- sixteen words as a spare row
+abbrev pub asSpare : List ℕ → Row
+asSpare w = Spare (getD w 1 0) (getD w 2 0)
+
+-- as a removed row
+abbrev pub asRemoved : List ℕ → Row
+asRemoved w = Removed (getD w 1 0) (getD w 2 0) (getD w 3 0) (pointFrom w 4) (getD w 9 0)
+
+-- as a leaf
+abbrev pub asLeaf : List ℕ → Row
+asLeaf w = Leaf (getD w 1 0) (getD w 3 0) (pointFrom w 4) (getD w 9 0)
+
+-- as a cut
+abbrev pub asCut : List ℕ → Row
+asCut w = Cut (getD w 1 0) (cutAt (getD w 4 0) (getD w 5 0)) (getD w 6 0) (getD w 7 0)
+
+-- the row of sixteen words, by their kind: 0 spare, 1 removed, 2 leaf, 3 cut
+unfoldable pub rowOf : List ℕ → Row
+rowOf w =
+    cond (eqb (getD w 0 0) 0) (asSpare w)
+    (cond (eqb (getD w 0 0) 1) (asRemoved w) (cond (eqb (getD w 0 0) 2) (asLeaf w) (cond (eqb (getD w 0 0) 3) (asCut w) Bad)))
+
+-- the row r of an index of so many rows; Bad where there is none, where the slice is too short, and where a field is out of range
+unfoldable pub rowAt : List ℕ → ℕ → ℕ → Row
+rowAt words rows r = cond (ltb r rows && leb (atRow r + 16) (length words)) (checkedRow rows (rowOf (part words (atRow r) 16))) Bad
+
+-- the sixteen words of a record, held or removed: kind, link, number of its removal, number of its addition, point, curve
+abbrev pub recordWords : ℕ → ℕ → ℕ → ℕ → Point → ℕ → List ℕ
+recordWords kind link freed added point curve =
+    kind ∷ link ∷ freed ∷ added ∷ pointWords point (curve ∷ 0 ∷ 0 ∷ 0 ∷ 0 ∷ 0 ∷ 0 ∷ [])
+
+-- the sixteen words of a cut
+abbrev pub cutWords : ℕ → PointCut → ℕ → ℕ → List ℕ
+cutWords parent cut left right =
+    3 ∷ parent ∷ 0 ∷ 0 ∷ axisWordOf cut ∷ sumWordOf cut ∷ left ∷ right ∷ 0 ∷ 0 ∷ 0 ∷ 0 ∷ 0 ∷ 0 ∷ 0 ∷ 0 ∷ []
+
+-- the sixteen words of a row; for Bad those of no kind
+unfoldable pub encodeRow : Row → List ℕ
+encodeRow Bad = 4 ∷ 0 ∷ 0 ∷ 0 ∷ 0 ∷ 0 ∷ 0 ∷ 0 ∷ 0 ∷ 0 ∷ 0 ∷ 0 ∷ 0 ∷ 0 ∷ 0 ∷ 0 ∷ []
+encodeRow (Spare next freed) = 0 ∷ next ∷ freed ∷ 0 ∷ 0 ∷ 0 ∷ 0 ∷ 0 ∷ 0 ∷ 0 ∷ 0 ∷ 0 ∷ 0 ∷ 0 ∷ 0 ∷ 0 ∷ []
+encodeRow (Removed next freed added point curve) = recordWords 1 next freed added point curve
+encodeRow (Leaf parent added point curve) = recordWords 2 parent 0 added point curve
+encodeRow (Cut parent cut left right) = cutWords parent cut left right
+
+-- the words with the row r written; as they were where there is no such row, where the slice is too short, and for Bad
+unfoldable pub putRow : List ℕ → ℕ → Row → List ℕ
+putRow words r row =
+    cond ((isRow row && ltb r mostRows) && leb (atRow r + 16) (length words)) (splice words (encodeRow row) (atRow r) 16) words
+
+-- the slice holds the two records and so many rows, as an opened one does
+pub record Room (words : List ℕ) (rows : ℕ) : Type 0 where
+  pub most : rows ≤ mostRows
+  pub fits : atRow rows ≤ length words

@@ -1,0 +1,309 @@
+// Rows: sixteen words each, read and written as values.
+use crate::part::copy;
+use crate::part::point_from;
+use crate::word::curve_in;
+use crate::word::link_in;
+use points::cut::Cut;
+use points::point::Point;
+use points::point::in_range;
+use points::word::axis_word;
+use points::word::cut_at;
+use points::word::cut_in_range;
+use points::word::sum_word;
+use points::word::word;
+ghost use mathlib.Core.Path.{_≡_};
+ghost use lib.ListN.{length};
+ghost use Rattle.rows.specs.Row.{isRow, recordIn, inRows, checkedRow, asSpare, asRemoved, asLeaf, asCut, rowOf, rowAt, recordWords, cutWords, encodeRow, putRow};
+
+// The word where the rows begin, the words of a row, and the rows of the greatest index.
+const FIRST_ROW: usize = 608;
+
+const ROW: usize = 16;
+
+const MOST_ROWS: u32 = 8192;
+
+pub enum Row {
+    // No row, or one with a field out of range.
+    Bad,
+    // A free row: the next one, and the number of the removal that freed it.
+    Spare {
+        next: u32,
+        freed: u32,
+    },
+    // A free row that keeps the removed record, with the number of the change that added it.
+    Removed {
+        next: u32,
+        freed: u32,
+        added: u32,
+        point: Point,
+        curve: u32,
+    },
+    // A record that is held.
+    Leaf {
+        parent: u32,
+        added: u32,
+        point: Point,
+        curve: u32,
+    },
+    // A cut, and the rows on its two sides.
+    Cut {
+        parent: u32,
+        cut: Cut,
+        left: u32,
+        right: u32,
+    },
+}
+
+// Whether a row is one.
+pub fn is_row(row: Row) -> bool
+    ensures { λ r. ⌜ r ≡ isRow row ⌝ }
+{
+    match row {
+        Row::Bad => false,
+        Row::Spare { next: _, freed: _ } => true,
+        Row::Removed {
+            next: _,
+            freed: _,
+            added: _,
+            point: _,
+            curve: _,
+        } => true,
+        Row::Leaf {
+            parent: _,
+            added: _,
+            point: _,
+            curve: _,
+        } => true,
+        Row::Cut {
+            parent: _,
+            cut: _,
+            left: _,
+            right: _,
+        } => true,
+    }
+}
+
+// Whether a record has a link, a point and a curve in range.
+fn record_in(rows: u32, link: u32, point: Point, curve: u32) -> bool
+    ensures { λ r. ⌜ r ≡ recordIn rows link point curve ⌝ }
+{
+    link_in(rows, link) & in_range(point) & curve_in(curve)
+}
+
+// Whether every field of a row is in range for an index of so many rows.
+pub fn in_rows(row: Row, rows: u32) -> bool
+    ensures { λ r. ⌜ r ≡ inRows rows row ⌝ }
+{
+    match row {
+        Row::Bad => false,
+        Row::Spare { next, freed: _ } => link_in(rows, next),
+        Row::Removed {
+            next,
+            freed: _,
+            added: _,
+            point,
+            curve,
+        } => record_in(rows, next, point, curve),
+        Row::Leaf {
+            parent,
+            added: _,
+            point,
+            curve,
+        } => record_in(rows, parent, point, curve),
+        Row::Cut {
+            parent,
+            cut,
+            left,
+            right,
+        } => link_in(rows, parent) & cut_in_range(cut) & (left < rows) & (right < rows),
+    }
+}
+
+// A row that is in range, else `Bad`.
+fn checked_row(row: Row, rows: u32) -> Row
+    ensures { λ r. ⌜ r ≡ checkedRow rows row ⌝ }
+{
+    if in_rows(row, rows) { row } else { Row::Bad }
+}
+
+// Sixteen words as a row of each kind.
+fn as_spare(part: &[u32]) -> Row
+    requires { ⌜ length (now part) ≡ 16 ⌝ }
+    ensures { λ r. ⌜ r ≡ asSpare (now (part .entry)) ⌝ }
+{
+    Row::Spare {
+        next: part[1],
+        freed: part[2],
+    }
+}
+
+fn as_removed(part: &[u32]) -> Row
+    requires { ⌜ length (now part) ≡ 16 ⌝ }
+    ensures { λ r. ⌜ r ≡ asRemoved (now (part .entry)) ⌝ }
+{
+    Row::Removed {
+        next: part[1],
+        freed: part[2],
+        added: part[3],
+        point: point_from(part, 4),
+        curve: part[9],
+    }
+}
+
+fn as_leaf(part: &[u32]) -> Row
+    requires { ⌜ length (now part) ≡ 16 ⌝ }
+    ensures { λ r. ⌜ r ≡ asLeaf (now (part .entry)) ⌝ }
+{
+    Row::Leaf {
+        parent: part[1],
+        added: part[3],
+        point: point_from(part, 4),
+        curve: part[9],
+    }
+}
+
+fn as_cut(part: &[u32]) -> Row
+    requires { ⌜ length (now part) ≡ 16 ⌝ }
+    ensures { λ r. ⌜ r ≡ asCut (now (part .entry)) ⌝ }
+{
+    Row::Cut {
+        parent: part[1],
+        cut: cut_at(part[4], part[5]),
+        left: part[6],
+        right: part[7],
+    }
+}
+
+// The row of sixteen words, by their kind.
+fn row_of(part: &[u32]) -> Row
+    requires { ⌜ length (now part) ≡ 16 ⌝ }
+    ensures { λ r. ⌜ r ≡ rowOf (now (part .entry)) ⌝ }
+{
+    let kind = part[0];
+    if kind == 0 {
+        return as_spare(part);
+    }
+    if kind == 1 {
+        return as_removed(part);
+    }
+    if kind == 2 {
+        return as_leaf(part);
+    }
+    if kind == 3 {
+        return as_cut(part);
+    }
+    Row::Bad
+}
+
+// The row r of an index of so many rows; `Bad` where there is none or a field is out of range.
+pub fn read_row(words: &[u32], rows: u32, r: u32) -> Row
+    ensures { λ x. ⌜ x ≡ rowAt (now (words .entry)) rows r ⌝ }
+{
+    if r < rows {
+        let start = FIRST_ROW + ROW * (r as usize);
+        let end = start + ROW;
+        if end <= words.len() {
+            return checked_row(row_of(&words[start..end]), rows);
+        }
+    }
+    Row::Bad
+}
+
+// The sixteen words of a record, held or removed.
+fn record_words(kind: u32, link: u32, freed: u32, added: u32, point: Point, curve: u32) -> [u32; 16]
+    ensures { λ r. ⌜ r ≡ recordWords kind link freed added point curve ⌝ }
+{
+    [
+        kind,
+        link,
+        freed,
+        added,
+        word(point, 1),
+        word(point, 2),
+        word(point, 3),
+        word(point, 4),
+        word(point, 5),
+        curve,
+        0,
+        0,
+        0,
+        0,
+        0,
+        0,
+    ]
+}
+
+// The sixteen words of a cut.
+fn cut_words(parent: u32, cut: Cut, left: u32, right: u32) -> [u32; 16]
+    ensures { λ r. ⌜ r ≡ cutWords parent cut left right ⌝ }
+{
+    [
+        3,
+        parent,
+        0,
+        0,
+        axis_word(cut),
+        sum_word(cut),
+        left,
+        right,
+        0,
+        0,
+        0,
+        0,
+        0,
+        0,
+        0,
+        0,
+    ]
+}
+
+// The sixteen words of a row.
+fn encode(row: Row) -> [u32; 16]
+    ensures { λ r. ⌜ r ≡ encodeRow row ⌝ }
+{
+    match row {
+        Row::Bad => [4, 0, 0, 0, 0, 0, 0, 0, 0, 0, 0, 0, 0, 0, 0, 0],
+        Row::Spare { next, freed } => [0, next, freed, 0, 0, 0, 0, 0, 0, 0, 0, 0, 0, 0, 0, 0],
+        Row::Removed {
+            next,
+            freed,
+            added,
+            point,
+            curve,
+        } => record_words(1, next, freed, added, point, curve),
+        Row::Leaf {
+            parent,
+            added,
+            point,
+            curve,
+        } => record_words(2, parent, 0, added, point, curve),
+        Row::Cut {
+            parent,
+            cut,
+            left,
+            right,
+        } => cut_words(parent, cut, left, right),
+    }
+}
+
+// Writes a row to its sixteen words.
+fn fill_row(part: &mut [u32], row: Row)
+    requires { ⌜ length (now part) ≡ 16 ⌝ }
+    ensures { λ _. ⌜ now (part .exit) ≡ encodeRow row ⌝ }
+{
+    let from = encode(row);
+    copy(part, &from[..]);
+}
+
+// Writes the row r; nothing where there is none, and nothing for `Bad`.
+pub fn write_row(words: &mut [u32], r: u32, row: Row)
+    ensures { λ _. ⌜ now (words .exit) ≡ putRow (now (words .entry)) r row ⌝ }
+{
+    if is_row(row) & (r < MOST_ROWS) {
+        let at = FIRST_ROW + ROW * (r as usize);
+        let end = at + ROW;
+        if end <= words.len() {
+            fill_row(&mut words[at..end], row);
+        }
+    }
+}
