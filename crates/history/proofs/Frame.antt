@@ -1,0 +1,64 @@
+-- What a write to one region of the slice leaves of counts, places, seats and rows.
+use Prim.Native.Nat.{ℕ, _<_}
+use mathlib.Core.Path.{_≡_}
+use mathlib.Core.List.{List}
+use native.Mathlib.Omega.{arith}
+use Rattle.rows.specs.Layout.{atChanges, atHeld, atRoot, atHead, atTail, atRemovals, atCursor, atPhase, atSince, atMissed}
+use Rattle.rows.specs.Words.{get}
+use Rattle.rows.specs.Agree.{inCommon, inStation, inRow, AgreeIn, OnlyIn}
+use Rattle.rows.specs.Station.{stateAt}
+use Rattle.rows.specs.Call.{callAt}
+use Rattle.rows.specs.Answer.{answerAt}
+use Rattle.rows.proofs.AgreeLaws.{row-common, station-common}
+use Rattle.rows.proofs.UnseenLaws.{StationReads, reads-unseen}
+use Rattle.history.specs.View.{Place, Seat, countsAt, placeAt, seatAt, SameRows}
+
+-- ---- places and seats by their parts
+pub place-of : (v : List ℕ) (s : ℕ) (place : Place) → get v (atCursor s) ≡ place .cursor → get v (atPhase s) ≡ place .phase → get v (atSince s) ≡ place .since → get v (atMissed s) ≡ place .missed
+    → placeAt v s ≡ place
+unfolding placeAt
+place-of v s place c p n m = λ i. record { cursor = c i; phase = p i; since = n i; missed = m i }
+
+pub seat-of : (v : List ℕ) (s : ℕ) (seat : Seat) → placeAt v s ≡ seat .place → stateAt v s .word ≡ seat .state → callAt v s ≡ seat .call → answerAt v s ≡ seat .answer → seatAt v s ≡ seat
+unfolding seatAt
+seat-of v s seat p t c a = λ i. record { place = p i; state = t i; call = c i; answer = a i }
+
+-- ---- what two slices have in common
+
+-- slices with the same counts in words
+pub counts-same : (v w : List ℕ) → ((k : ℕ) → k < 16 → get v k ≡ get w k) → countsAt v ≡ countsAt w
+unfolding countsAt
+counts-same v w f = λ i. record {
+  changes = f atChanges (omega arith) i;
+  held = f atHeld (omega arith) i;
+  root = f atRoot (omega arith) i;
+  head = f atHead (omega arith) i;
+  tail = f atTail (omega arith) i;
+  removals = f atRemovals (omega arith) i;
+}
+
+-- with the same four words of a station
+pub place-same : (v w : List ℕ) (s : ℕ) → get v (atCursor s) ≡ get w (atCursor s) → get v (atPhase s) ≡ get w (atPhase s) → get v (atSince s) ≡ get w (atSince s) → get v (atMissed s) ≡ get w (atMissed s)
+    → placeAt v s ≡ placeAt w s
+unfolding placeAt
+place-same v w s c p n m = λ i. record { cursor = c i; phase = p i; since = n i; missed = m i }
+
+-- with the same place and record of a station
+pub seat-same : (v w : List ℕ) (s : ℕ) → placeAt v s ≡ placeAt w s → StationReads v w s → seatAt v s ≡ seatAt w s
+unfolding seatAt
+seat-same v w s p r = λ i. record { place = p i; state = r .state i .word; call = r .call i; answer = r .answer i }
+
+-- slices that agree on the common record have the same counts and places
+pub counts-agree : {v w : List ℕ} → AgreeIn v w inCommon → countsAt v ≡ countsAt w
+counts-agree {v} {w} g = counts-same v w (λ k l. g .words k (omega arith) (omega arith))
+
+pub place-agree : {v w : List ℕ} → AgreeIn v w inCommon → (s : ℕ) → s < 8 → placeAt v s ≡ placeAt w s
+place-agree {v} {w} g s l =
+    place-same v w s (g .words (atCursor s) (omega arith) (omega arith)) (g .words (atPhase s) (omega arith) (omega arith)) (g .words (atSince s) (omega arith) (omega arith)) (g .words (atMissed s) (omega arith) (omega arith))
+
+-- a write to the common record leaves the stations' records and the rows
+pub common-stations : {v w : List ℕ} → OnlyIn v w inCommon → (s : ℕ) → StationReads v w s
+common-stations g s = reads-unseen inCommon (inStation s) g (station-common s)
+
+pub common-rows : {v w : List ℕ} → OnlyIn v w inCommon → (rows : ℕ) → SameRows w v rows
+common-rows g rows r l = reads-unseen inCommon (inRow r) g (row-common r) rows

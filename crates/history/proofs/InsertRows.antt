@@ -1,0 +1,250 @@
+-- The rows of an insert, over the words: what it reads is what the heap says (`room-beside`, `room-alone`), that is sound, and what it writes reads
+-- as the heap with a leaf and a cut more (`beside-writes`, `alone-writes`).
+use Prim.Native.Nat.{ℕ, _+_, _-_, _*_, _≤_, _<_}
+use mathlib.Core.Path.{_≡_, refl, sym, _∙_, ap, subst}
+use mathlib.Core.Logic.{_≢_, _⊎_, inl, inr}
+use mathlib.Core.Bool.{Bool, true, false, _||_}
+use mathlib.Core.List.{List}
+use mathlib.Core.Option.{none, some}
+use native.Mathlib.Omega.{arith}
+use lib.Dec.{eqb, ltb}
+use borrow.Author.Tests.{eq-eqb, ne-eqb, lt-ltb}
+use Rattle.points.specs.declared.point.Point.{Point}
+use Rattle.points.specs.declared.cut.Cut.{Cut}
+use Rattle.points.specs.Point.{inRange}
+use Rattle.points.specs.Cut.{cutOf, goesLeft}
+use Rattle.points.specs.Word.{NONE, cutInRange}
+use Rattle.points.proofs.CutLaws.{cut-in-range}
+use Rattle.rows.specs.declared.row.Row.the-variants.{Bad}
+use Rattle.rows.specs.Layout.{atHead}
+use Rattle.rows.specs.Words.{get}
+use Rattle.rows.specs.Range.{curveIn}
+use Rattle.rows.specs.Row.{rowAt, putRow, inRows}
+use Rattle.rows.proofs.RangeLaws.{or-right, link-none, link-row}
+use Rattle.rows.proofs.RowLaws.{rowAt-outside}
+use Rattle.trees.specs.Row.{Entry, Row, spareRow, removedRow, leafRow, cutRow, Heap, pickRow, parentOf, nextOf, replaceChild}
+use Rattle.trees.specs.Tree.{Tree, Has, countOf}
+use Rattle.trees.specs.Queue.{Free, headOf, InQueue}
+use Rattle.trees.specs.Store.{Store}
+use Rattle.trees.specs.Reads.{ParentCut, InsertApart}
+use Rattle.trees.specs.Reads.{Leaf}
+use Rattle.trees.specs.Insert.{newCut, InsertBeside, InsertAlone}
+use Rattle.trees.proofs.Insert.{next-free}
+use Rattle.trees.proofs.Room.{room-two, room-one}
+use Rattle.trees.proofs.ReadLaws.{read-above, link-head}
+use Rattle.trees.proofs.WriteLaws.{insert-apart, insert-writes, insert-write}
+use Rattle.steps.specs.declared.insert.Room.{Room}
+use Rattle.steps.specs.Link.{nextOf as nextIn, linksTo, leafPoint, replaced}
+use Rattle.steps.specs.Insert.{roomAt, roomSound, newLeaf, cutWith, newCut as cutIn, insertRows}
+use Rattle.history.specs.View.{wordRow, Reads, heapPut}
+use Rattle.history.proofs.Effects.{reads-in}
+use Rattle.history.proofs.RowLinks.{LeafIn, leaf-tells, leaf-of, leaf-in, cut-of, child-words, child-in}
+use Rattle.history.proofs.RowWrites.{heap-wrote, Holding, put-row, put-nothing}
+
+-- ---- rows of the words and of the heap
+
+pub next-word : (row : Row) → nextIn (wordRow row) ≡ nextOf row
+next-word (spareRow next n) = refl
+next-word (removedRow next n e) = refl
+next-word (leafRow parent e) = refl
+next-word (cutRow parent k l r) = refl
+
+-- the row at none
+pub none-word : (words : List ℕ) (rows : ℕ) → rows ≤ NONE → rowAt words rows NONE ≡ Bad
+none-word words rows l = rowAt-outside words rows NONE l
+
+-- ---- beside a leaf
+
+-- the rows that an insert beside the leaf l finds: two free rows a and b with a row behind them, all apart from the leaf and the cut above it
+pub record Finds (places : ℕ) (h : Heap) (a b : ℕ) (l : Leaf) : Type 0 where
+  pub next : nextOf (h a) ≡ b
+  pub behind : nextOf (h b) ≢ NONE
+  pub first-row : a < 2 * places
+  pub second-row : b < 2 * places
+  pub leaf-row : l .row < 2 * places
+  pub reads : h (l .row) ≡ leafRow (l .parent) (l .entry)
+  pub apart : InsertApart a b (l .row) (l .parent)
+  pub above : (l .parent ≡ NONE) ⊎ ((cut : Cut) × (up left right : ℕ) × (l .parent < 2 * places) × (h (l .parent) ≡ cutRow up cut left right) × ((left ≡ l .row) ⊎ (right ≡ l .row)))
+
+pub beside-finds : {places : ℕ} {h : Heap} {tree : Tree} {queue : List Free} {changes removals released : ℕ} (l : Leaf) → Store places h (some tree) queue changes removals released
+    → countOf (some tree) + (removals - released) < places → Has (some tree) (l .row) → h (l .row) ≡ leafRow (l .parent) (l .entry)
+    → Finds places h (headOf queue) (nextOf (h (headOf queue))) l
+beside-finds {places} {h} {tree} {queue} l store room has leaf =
+    let spare = room-two store room in
+    let first-is : headOf queue ≡ spare .first .row = ap headOf (spare .parts) in
+    let second-is : nextOf (h (headOf queue)) ≡ spare .second .row =
+    ap (λ (x : ℕ). nextOf (h x)) first-is ∙ ap nextOf (spare .first-reads) ∙ next-free (spare .second .row) (spare .first) in
+    let third-is : nextOf (h (nextOf (h (headOf queue)))) ≡ spare .third .row =
+    ap (λ (x : ℕ). nextOf (h x)) second-is ∙ ap nextOf (spare .second-reads) ∙ next-free (spare .third .row) (spare .second) in
+    record {
+      next = refl;
+      behind = λ e. spare .third-there (sym third-is ∙ e);
+      first-row = link-head store (omega (arith, store .inside (l .row) has));
+      second-row = rw second-is (store .free (spare .second .row) (subst (λ (q : List Free). InQueue q (spare .second .row)) (sym (spare .parts)) (inr (inl refl))));
+      leaf-row = store .inside (l .row) has;
+      reads = leaf;
+      apart = rw (second-is, first-is) (insert-apart store spare has leaf);
+      above = elim (read-above (some tree) store has) [
+        | inl u ↦ inl (sym (ap parentOf leaf) ∙ u .0)
+        | inr u ↦
+            let c : ParentCut h (some tree) (l .row) (l .parent) = rw (ap parentOf leaf) at (u .1) in
+            inr (c .cut .key, c .cut .parent, c .cut .left, c .cut .right, store .inside (l .parent) (c .has), c .cut .reads, c .links)
+      ];
+    }
+
+-- what it reads, as the heap says
+abbrev pub besideRoom : List ℕ → ℕ → Heap → ℕ → ℕ → Leaf → Room
+besideRoom words rows h a b l = record {
+  first = a;
+  fresh = wordRow (h a);
+  second = b;
+  spare = wordRow (h b);
+  at = l .row;
+  leaf = wordRow (leafRow (l .parent) (l .entry));
+  over = l .parent;
+  above = rowAt words rows (l .parent);
+}
+
+-- the new cut, in the words
+cut-word : (room : Room) (point old : Point) → leafPoint (room .leaf) ≡ old → cutIn room point ≡ wordRow (newCut (room .over) point old (room .first) (room .at))
+unfolding cutIn
+cut-word room point old e = rw e (go (cutOf point old) (goesLeft (cutOf point old) point))
+  where
+    go : (k : Cut) (side : Bool)
+        → cutWith room k side ≡ wordRow (pickRow side (cutRow (room .over) k (room .first) (room .at)) (cutRow (room .over) k (room .at) (room .first)))
+    go k true = refl
+    go k false = refl
+
+module _ (words : List ℕ) {places : ℕ} {h : Heap} {a b : ℕ} {l : Leaf} (w : Finds places h a b l) (reads : Reads words (2 * places) h) (fits : 2 * places ≤ NONE) where
+  pub room-beside : get words atHead ≡ a → roomAt words (2 * places) (l .row) ≡ besideRoom words (2 * places) h a b l
+  unfolding roomAt
+  room-beside e = rw (e, reads a (w .first-row), next-word (h a), w .next, ne-eqb (l .row) NONE (λ d. omega (arith, d, w .leaf-row)), reads b (w .second-row), reads (l .row) (w .leaf-row), w .reads)
+
+  linked-beside : (eqb (l .parent) NONE || linksTo (l .row) (rowAt words (2 * places) (l .parent))) ≡ true
+  linked-beside = elim (w .above) [
+    | inl e ↦ rw (eq-eqb (l .parent) NONE e)
+    | inr u ↦ or-right (eqb (l .parent) NONE) (rw (reads (l .parent) (u .4), u .5) (elim (u .6) [
+      | inl e ↦ rw (eq-eqb (u .2) (l .row) e)
+      | inr e ↦ or-right (eqb (u .2) (l .row)) (eq-eqb (u .3) (l .row) e)
+    ]))
+  ]
+
+  pub sound-beside : roomSound (besideRoom words (2 * places) h a b l) ≡ true
+  unfolding roomSound
+  sound-beside =
+      rw (next-word (h a), w .next, next-word (h b), ne-eqb b NONE (λ d. omega (arith, d, w .second-row)), ne-eqb (l .row) NONE (λ d. omega (arith, d, w .leaf-row)), ne-eqb (nextOf (h b)) NONE (w .behind), ne-eqb b a (λ d. w .apart .a≢b (sym d)))
+      linked-beside
+
+  -- the leaf as it is read is in range
+  leaf-ranged : inRows (2 * places) (wordRow (leafRow (l .parent) (l .entry))) ≡ true
+  leaf-ranged = rw (w .reads) at (reads-in words (2 * places) h (l .row) (w .leaf-row) reads)
+
+  -- and so is the new cut
+  new-cut-in : (new : Entry) → inRange (new .point) ≡ true → inRows (2 * places) (wordRow (newCut (l .parent) (new .point) (l .entry .point) a (l .row))) ≡ true
+  new-cut-in new i = go (goesLeft k (new .point))
+    where
+      k : Cut
+      k = cutOf (new .point) (l .entry .point)
+
+      old : LeafIn (2 * places) (l .parent) (l .entry)
+      old = leaf-tells (2 * places) (l .parent) (l .entry) leaf-ranged
+
+      between : cutInRange k ≡ true
+      between = cut-in-range (new .point) (l .entry .point) i (old .point-in)
+
+      first-in : ltb a (2 * places) ≡ true
+      first-in = lt-ltb a (2 * places) (w .first-row)
+
+      row-in : ltb (l .row) (2 * places) ≡ true
+      row-in = lt-ltb (l .row) (2 * places) (w .leaf-row)
+
+      go : (side : Bool) → inRows (2 * places) (wordRow (pickRow side (cutRow (l .parent) k a (l .row)) (cutRow (l .parent) k (l .row) a))) ≡ true
+      go true = cut-of (2 * places) (l .parent) k a (l .row) (record { link-in = old .link-in; cut-in = between; left-in = first-in; right-in = row-in })
+      go false = cut-of (2 * places) (l .parent) k (l .row) a (record { link-in = old .link-in; cut-in = between; left-in = row-in; right-in = first-in })
+
+  -- the rows written over a slice with the same rows
+  pub beside-writes : {base : List ℕ} {limit : ℕ} (new : Entry) → inRange (new .point) ≡ true → curveIn (new .curve) ≡ true → Holding base base places limit h
+      → (h′ : Heap) × Holding base (insertRows base (besideRoom words (2 * places) h a b l) (new .added) (new .point) (new .curve)) places limit h′ × InsertBeside h h′ a b new l
+  unfolding insertRows newLeaf
+  beside-writes {base} {limit} new i c v = elim (w .above) [
+    | inl e ↦ (
+      h₃,
+      put-nothing v₃ (l .parent) (replaced (l .row) b (rowAt words (2 * places) (l .parent))) e,
+      insert-writes (w .apart) (heap-wrote h a (leafRow b new)) (heap-wrote h₁ b cut) (heap-wrote h₂ (l .row) (leafRow b (l .entry))) (record { nothing = λ d j. refl; written = λ n. absurd (n e) }),
+    )
+    | inr u ↦
+        let row : Row = replaceChild (l .row) b (h (l .parent)) in
+        let same : replaced (l .row) b (rowAt words (2 * places) (l .parent)) ≡ wordRow row =
+        rw (reads (l .parent) (u .4), u .5) (child-words (l .row) b (u .1) (u .0) (u .2) (u .3)) in
+        let ranged : inRows (2 * places) (wordRow row) ≡ true =
+        rw (u .5) (child-in (2 * places) (l .row) b (u .1) (u .0) (u .2) (u .3) (w .second-row) (rw (u .5) at (reads-in words (2 * places) h (l .parent) (u .4) reads))) in (
+          heapPut h₃ (l .parent) row,
+          put-row v₃ (l .parent) (replaced (l .row) b (rowAt words (2 * places) (l .parent))) row same (u .4) ranged,
+          insert-writes (w .apart) (heap-wrote h a (leafRow b new)) (heap-wrote h₁ b cut) (heap-wrote h₂ (l .row) (leafRow b (l .entry)))
+              (record { nothing = λ d j. absurd (omega (arith, d, u .4)); written = λ n. heap-wrote h₃ (l .parent) row }),
+        )
+  ]
+    where
+      cut : Row
+      cut = newCut (l .parent) (new .point) (l .entry .point) a (l .row)
+
+      h₁ : Heap
+      h₁ = heapPut h a (leafRow b new)
+
+      h₂ : Heap
+      h₂ = heapPut h₁ b cut
+
+      h₃ : Heap
+      h₃ = heapPut h₂ (l .row) (leafRow b (l .entry))
+
+      w₁ : List ℕ
+      w₁ = putRow base a (wordRow (leafRow b new))
+
+      w₂ : List ℕ
+      w₂ = putRow w₁ b (cutIn (besideRoom words (2 * places) h a b l) (new .point))
+
+      v₁ : Holding base w₁ places limit h₁
+      v₁ = put-row v a (wordRow (leafRow b new)) (leafRow b new) refl (w .first-row)
+          (leaf-of (2 * places) b new (record { link-in = link-row (2 * places) b (w .second-row); point-in = i; curve-in = c }))
+
+      v₂ : Holding base w₂ places limit h₂
+      v₂ = put-row v₁ b (cutIn (besideRoom words (2 * places) h a b l) (new .point)) cut (cut-word (besideRoom words (2 * places) h a b l) (new .point) (l .entry .point) refl) (w .second-row) (new-cut-in new i)
+
+      v₃ : Holding base (putRow w₂ (l .row) (wordRow (leafRow b (l .entry)))) places limit h₃
+      v₃ = put-row v₂ (l .row) (wordRow (leafRow b (l .entry))) (leafRow b (l .entry)) refl (w .leaf-row)
+          (leaf-in (2 * places) b (l .parent) (l .entry) (link-row (2 * places) b (w .second-row)) leaf-ranged)
+
+-- ---- into the empty tree
+
+-- the first free row is a row, with a row behind it
+pub alone-finds : {places : ℕ} {h : Heap} {queue : List Free} {changes removals released : ℕ} → Store places h none queue changes removals released → removals - released < places
+    → (headOf queue < 2 * places) × (nextOf (h (headOf queue)) ≢ NONE)
+alone-finds {places} {h} {queue} store room =
+    let spare = room-one store room in
+    let next-is : nextOf (h (headOf queue)) ≡ spare .second .row =
+    ap (λ (q : List Free). nextOf (h (headOf q))) (spare .parts) ∙ ap nextOf (spare .first-reads) ∙ next-free (spare .second .row) (spare .first) in
+    (link-head store (omega arith), λ e. spare .second-there (sym next-is ∙ e))
+
+-- what it reads, as the heap says: one free row, and no leaf
+abbrev pub aloneRoom : Heap → ℕ → Room
+aloneRoom h a = record { first = a; fresh = wordRow (h a); second = NONE; spare = Bad; at = NONE; leaf = Bad; over = NONE; above = Bad }
+
+module _ (words : List ℕ) (places : ℕ) (h : Heap) (a : ℕ) (first-row : a < 2 * places) (reads : Reads words (2 * places) h) (fits : 2 * places ≤ NONE) where
+  pub room-alone : get words atHead ≡ a → roomAt words (2 * places) NONE ≡ aloneRoom h a
+  unfolding roomAt
+  room-alone e = rw (e, reads a first-row, none-word words (2 * places) fits, none-word words (2 * places) fits)
+
+  pub sound-alone : nextOf (h a) ≢ NONE → roomSound (aloneRoom h a) ≡ true
+  unfolding roomSound
+  sound-alone n = rw (next-word (h a), ne-eqb (nextOf (h a)) NONE n)
+
+  pub alone-writes : {base : List ℕ} {limit : ℕ} (new : Entry) → inRange (new .point) ≡ true → curveIn (new .curve) ≡ true → Holding base base places limit h
+      → (h′ : Heap) × Holding base (insertRows base (aloneRoom h a) (new .added) (new .point) (new .curve)) places limit h′ × InsertAlone h h′ a new
+  unfolding insertRows newLeaf
+  alone-writes {base} {limit} new i c v =
+      let v₁ = put-row v a (wordRow (leafRow NONE new)) (leafRow NONE new) refl first-row
+      (leaf-of (2 * places) NONE new (record { link-in = link-none (2 * places); point-in = i; curve-in = c })) in (
+        heapPut h a (leafRow NONE new),
+        put-nothing (put-nothing (put-nothing v₁ NONE (cutIn (aloneRoom h a) (new .point)) refl) NONE Bad refl) NONE Bad refl,
+        insert-write (heap-wrote h a (leafRow NONE new)),
+      )

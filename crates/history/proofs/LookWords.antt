@@ -1,0 +1,106 @@
+-- `look` over words is `look` over the rows that they read as (`look-words`).
+use Prim.Native.Nat.{ℕ, _≤_, _<_}
+use mathlib.Core.Path.{_≡_, refl, sym, _∙_, ap}
+use mathlib.Core.Logic.{_≢_, _⊎_, inl, inr}
+use mathlib.Core.Bool.{true, _&&_, _||_}
+use mathlib.Core.List.{List}
+use mathlib.Core.Option.{Option, none, some, Option·some-injective, Option·none-ne-some}
+use native.Mathlib.Omega.{arith}
+use lib.Dec.{eqb}
+use borrow.Author.Tests.{eqb-false, eq-eqb, ne-eqb}
+use Rattle.points.specs.Point.{inRange}
+use Rattle.points.specs.Word.{NONE}
+use Rattle.points.proofs.Tests.{and-l, and-r}
+use Rattle.rows.specs.declared.call.Best.{Best as WordBest}
+use Rattle.rows.specs.declared.call.Call.{Call}
+use Rattle.rows.specs.Range.{linkIn, curveIn}
+use Rattle.rows.specs.Row.{rowAt, inRows}
+use Rattle.trees.specs.Row.{Entry, Row, spareRow, removedRow, leafRow, cutRow, Heap}
+use Rattle.trees.specs.Tour.{Best, considered, passSpare, missedNext, withMissed, lookRow, look}
+use Rattle.trees.proofs.ChoiceOf.{choiceOf}
+use Rattle.steps.specs.declared.search.Progress.{Progress as WordProgress}
+use Rattle.steps.specs.Link.{isFree, nextOf}
+use Rattle.steps.specs.Search.{considered as consideredWord, passSpare as passWordSpare, lookAt, look as lookWord}
+use Rattle.history.specs.View.{wordRow, Reads, bestOf}
+use Rattle.history.proofs.Effects.{reads-in}
+use Rattle.rows.proofs.RowLaws.{in-rows-spare, in-rows-removed, in-rows-leaf, rowAt-outside}
+use Rattle.rows.proofs.RangeLaws.{link-tells, curve-tells}
+use Rattle.history.proofs.ProgressWords.{viewOf, Fit, Keeps, keeps-some, keeps-none, keeps-pick, considered-words, considered-ranged}
+
+-- what the range of a row with a record says of the record
+pub record RecordIn (rows x : ℕ) (e : Entry) : Type 0 where
+  pub link : linkIn rows x ≡ true
+  pub point : inRange (e .point) ≡ true
+  pub curve : e .curve ≢ 0
+
+record-in : (rows link : ℕ) (e : Entry) → ((linkIn rows link && inRange (e .point)) && curveIn (e .curve)) ≡ true → RecordIn rows link e
+record-in rows link e f =
+    let g = and-l (linkIn rows link && inRange (e .point)) (curveIn (e .curve)) f in
+    let c = curve-tells (e .curve) (and-r (linkIn rows link && inRange (e .point)) (curveIn (e .curve)) f) in
+    record { link = and-l (linkIn rows link) (inRange (e .point)) g; point = and-r (linkIn rows link) (inRange (e .point)) g; curve = λ z. omega (arith, c .0) }
+
+pub removed-in : (rows next n : ℕ) (e : Entry) → inRows rows (wordRow (removedRow next n e)) ≡ true → RecordIn rows next e
+removed-in rows next n e f = record-in rows next e (sym (in-rows-removed rows next n (e .added) (e .point) (e .curve)) ∙ f)
+
+pub leaf-in : (rows parent : ℕ) (e : Entry) → inRows rows (wordRow (leafRow parent e)) ≡ true → RecordIn rows parent e
+leaf-in rows parent e f = record-in rows parent e (sym (in-rows-leaf rows parent (e .added) (e .point) (e .curve)) ∙ f)
+
+-- past a free row
+pass-row : (x : Row) (next m : ℕ) → passSpare x next ≡ some m → (isFree (wordRow x) ≡ true) × (passWordSpare next (wordRow x) ≡ m)
+pass-row (spareRow after n) next m e = (refl, Option·some-injective after m e)
+pass-row (removedRow after n d) next m e = (refl, Option·some-injective next m e)
+pass-row (leafRow parent d) next m e = absurd (Option·none-ne-some m e)
+pass-row (cutRow parent k l r) next m e = absurd (Option·none-ne-some m e)
+
+module _ (words : List ℕ) (rows : ℕ) (h : Heap) (reads : Reads words rows h) (fits : rows ≤ NONE) (call : Call) where
+  -- the row after the missed one, if any, is free, and missed goes past it where it is spare
+  pass-words : (next m : ℕ) → linkIn rows next ≡ true → missedNext h next ≡ some m
+      → ((eqb next NONE || isFree (rowAt words rows next)) ≡ true) × (passWordSpare next (rowAt words rows next) ≡ m)
+  pass-words next m i g = elim (link-tells rows next i) [
+    | inl e ↦ (rw (eq-eqb next NONE e), rw (ap (rowAt words rows) e ∙ rowAt-outside words rows NONE fits) (Option·some-injective next m (rw (eq-eqb next NONE e) at g)))
+    | inr l ↦
+        let n : next ≢ NONE = λ e. omega arith in
+        rw (ne-eqb next NONE n, reads next l) (pass-row (h next) next m (rw (ne-eqb next NONE n) at g))
+  ]
+
+  -- what a look at a free row leaves: this best, and missed past the row after it
+  abbrev looked : WordProgress → ℕ → WordBest → WordProgress
+  looked p next best = record {
+    sound = (p .sound && true) && (eqb next NONE || isFree (rowAt words rows next));
+    cursor = p .cursor;
+    phase = p .phase;
+    missed = passWordSpare next (rowAt words rows next);
+    best = best;
+  }
+
+  look-next : (p : WordProgress) (next : ℕ) (best : WordBest) (b : Option Best) → Fit p → linkIn rows next ≡ true → inRange (best .point) ≡ true → bestOf best ≡ b
+      → Keeps (looked p next best) (withMissed (viewOf p .stand) (missedNext h next) b)
+  look-next p next best b f i r e = go (missedNext h next) refl
+    where
+      go : (o : Option ℕ) → missedNext h next ≡ o → Keeps (looked p next best) (withMissed (viewOf p .stand) o b)
+      go none g = keeps-none (looked p next best)
+      go (some m) g =
+          let w = pass-words next m i g in
+          keeps-some (looked p next best) (record { stand = viewOf p .stand; missed = m; best = b })
+          (record { sound = rw (f .sound, w .0); phase = f .phase; best = r })
+          (λ j. record { stand = viewOf p .stand; missed = w .1 j; best = e j })
+
+  look-row : (x : Row) (p : WordProgress) → Fit p → inRows rows (wordRow x) ≡ true
+      → Keeps (lookAt call p (wordRow x) (rowAt words rows (nextOf (wordRow x)))) (lookRow (choiceOf (call .point)) (call .asof) h x (viewOf p .stand) (bestOf (p .best)))
+  look-row (spareRow next n) p f i = look-next p next (p .best) (bestOf (p .best)) f (sym (in-rows-spare rows next n) ∙ i) (f .best) refl
+  look-row (removedRow next n e) p f i =
+      let w = removed-in rows next n e i in
+      look-next p next (consideredWord call (p .best) (e .added) (e .point) (e .curve)) (considered (choiceOf (call .point)) (call .asof) (bestOf (p .best)) e) f
+      (w .link) (considered-ranged call (p .best) e (f .best) (w .point)) (considered-words call (p .best) e (w .curve))
+  look-row (leafRow parent e) p f i = keeps-none (lookAt call p (wordRow (leafRow parent e)) (rowAt words rows NONE))
+  look-row (cutRow parent k l r) p f i = keeps-none (lookAt call p (wordRow (cutRow parent k l r)) (rowAt words rows NONE))
+
+  -- the missed row is none or a row
+  pub look-words : (p : WordProgress) → Fit p → (p .missed ≡ NONE) ⊎ (p .missed < rows)
+      → Keeps (lookWord words rows call p) (look (choiceOf (call .point)) (call .asof) h (viewOf p))
+  unfolding lookWord look
+  look-words p f m =
+      keeps-pick (eqb (p .missed) NONE) p (lookAt call p (rowAt words rows (p .missed)) (rowAt words rows (nextOf (rowAt words rows (p .missed))))) (some (viewOf p))
+      (lookRow (choiceOf (call .point)) (call .asof) h (h (p .missed)) (viewOf p .stand) (bestOf (p .best)))
+      (λ e. keeps-some p (viewOf p) f refl)
+      (λ e. elim m [ inl z ↦ absurd (eqb-false (p .missed) NONE e z) | inr l ↦ rw (reads (p .missed) l) (look-row (h (p .missed)) p f (reads-in words rows h (p .missed) l reads)) ])

@@ -1,0 +1,72 @@
+-- The rows that opening writes: each is spare and linked to the next, the last to none.
+use Prim.Native.Nat.{ℕ, zero, suc, _+_, _≤_, _<_}
+use mathlib.Core.Path.{_≡_, refl, _∙_}
+use mathlib.Core.Bool.{true, cond}
+use mathlib.Core.List.{List}
+use native.Mathlib.Omega.{arith}
+use native.Mathlib.Decide.{ℕ-discrete}
+use lib.Dec.{eqb, ltb}
+use lib.ListN.{length}
+use borrow.Author.Tests.{lt-ltb, le-ltb, eq-eqb, ne-eqb}
+use Rattle.points.specs.Word.{NONE}
+use Rattle.rows.specs.declared.row.Row.{Row}
+use Rattle.rows.specs.declared.row.Row.the-variants.{Spare}
+use Rattle.rows.specs.Layout.{records}
+use Rattle.rows.specs.Words.{get}
+use Rattle.rows.specs.Row.{Room}
+use Rattle.rows.specs.Range.{linkIn}
+use Rattle.rows.specs.Row.{rowAt, putRow, inRows}
+use Rattle.rows.proofs.RangeLaws.{link-none, link-row}
+use Rattle.rows.proofs.RowLaws.{in-rows-spare, length-putRow, get-putRow, rowAt-putRow-same, rowAt-putRow-other}
+use Rattle.steps.specs.Open.{rowsSpare}
+
+-- row r of so many, as opening leaves it
+abbrev pub newRow : ℕ → ℕ → Row
+newRow rows r = Spare (cond (eqb (r + 1) rows) NONE (r + 1)) 0
+
+-- as opening writes it
+row-same : (rows r : ℕ) → r < rows → Spare (cond (ltb (r + 1) rows) (r + 1) NONE) 0 ≡ newRow rows r
+row-same rows r l = go (ℕ-discrete (r + 1) rows)
+  where
+    go : Dec (r + 1 ≡ rows) → Spare (cond (ltb (r + 1) rows) (r + 1) NONE) 0 ≡ newRow rows r
+    go (yes e) = rw (le-ltb (r + 1) rows (omega arith), eq-eqb (r + 1) rows e)
+    go (no d) = rw (lt-ltb (r + 1) rows (omega arith), ne-eqb (r + 1) rows d)
+
+row-in : (rows r : ℕ) → r < rows → inRows rows (newRow rows r) ≡ true
+row-in rows r l = in-rows-spare rows (cond (eqb (r + 1) rows) NONE (r + 1)) 0 ∙ go (ℕ-discrete (r + 1) rows)
+  where
+    go : Dec (r + 1 ≡ rows) → linkIn rows (cond (eqb (r + 1) rows) NONE (r + 1)) ≡ true
+    go (yes e) = rw (eq-eqb (r + 1) rows e) (link-none rows)
+    go (no d) = rw (ne-eqb (r + 1) rows d) (link-row rows (r + 1) (omega arith))
+
+-- the first n rows are spare, and the words before them stay
+pub record Spares (rows : ℕ) (v w : List ℕ) (n : ℕ) : Type 0 where
+  pub lengths : length v ≡ length w
+  pub words : (k : ℕ) → k < records → get v k ≡ get w k
+  pub spare : (r : ℕ) → r < n → rowAt v rows r ≡ newRow rows r
+
+pub rows-spare : (rows n : ℕ) (w : List ℕ) → Room w rows → n ≤ rows → Spares rows (rowsSpare rows n w) w n
+unfolding rowsSpare
+rows-spare rows zero w m h = record { lengths = refl; words = λ k l. refl; spare = λ r l. absurd (omega arith) }
+rows-spare rows (suc n) w m h = next (rows-spare rows n w m (omega arith))
+  where
+    v : List ℕ
+    v = rowsSpare rows n w
+
+    row : Row
+    row = Spare (cond (ltb (n + 1) rows) (n + 1) NONE) 0
+
+    next : Spares rows v w n → Spares rows (putRow v n row) w (suc n)
+    next g = record {
+      lengths = length-putRow v n row ∙ g .lengths;
+      words = λ k l. get-putRow v n row k (λ a b. omega arith) ∙ g .words k l;
+      spare = λ r l. go r l (ℕ-discrete r n);
+    }
+      where
+        room : Room v rows
+        room = record { most = m .most; fits = omega (arith, m .fits, g .lengths) }
+
+        go : (r : ℕ) → r < suc n → Dec (r ≡ n) → rowAt (putRow v n row) rows r ≡ newRow rows r
+        go r l (yes e) =
+            rw (e, row-same rows n (omega arith)) (rowAt-putRow-same v n (newRow rows n) rows room (omega arith) (row-in rows n (omega arith)))
+        go r l (no d) = rowAt-putRow-other v n row rows r d ∙ g .spare r (omega arith)

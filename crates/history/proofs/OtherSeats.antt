@@ -1,0 +1,116 @@
+-- What the seats say after an insert (`says-insert`): every cursor on the old leaf has moved to the new cut, so that walks stay on the way of
+-- their points and searches have all before them that they had.
+use Prim.Native.Nat.{ℕ, suc, _≤_}
+use mathlib.Core.Path.{_≡_, refl, sym, _∙_, ap}
+use mathlib.Core.Logic.{_≢_}
+use mathlib.Core.Bool.{Bool, true, false, cond, true≢false}
+use mathlib.Core.List.{List}
+use mathlib.Core.Option.{Option, none, some}
+use native.Mathlib.Omega.{arith}
+use native.Mathlib.Decide.{ℕ-discrete}
+use lib.Dec.{eqb}
+use lib.ListN.{length}
+use borrow.Author.Tests.{ne-eqb}
+use Rattle.points.specs.declared.point.Point.{Point}
+use Rattle.points.specs.Word.{NONE}
+use Rattle.table.specs.Call.{Call, add, remove, contains, nearest, Answer}
+use Rattle.table.specs.Table.{Station, idle, unfinished, waiting, Table}
+use Rattle.table.proofs.Eager.{fresh}
+use Rattle.trees.specs.Row.{Entry, Heap}
+use Rattle.trees.specs.Tree.{Tree}
+use Rattle.trees.specs.Queue.{Free}
+use Rattle.trees.specs.Stand.{Stand, pickStand, afterInsert}
+use Rattle.trees.specs.Tour.{searchAfterInsert}
+use Rattle.trees.specs.Reads.{Leaf}
+use Rattle.trees.specs.Insert.{leafOf, cutFor, Inserted}
+use Rattle.trees.proofs.RouteLaws.{walk-insert}
+use Rattle.trees.proofs.SearchLaws.{search-insert}
+use Rattle.history.specs.View.{Seat, phaseOf, progressOf}
+use Rattle.history.specs.Related.{Quiet, Set, Walks, Works, Says}
+use Rattle.history.proofs.Effects.{movedCursor}
+use Rattle.history.proofs.Readings.{nearest-fresh, insert-stand}
+
+-- ---- cursors moved
+
+-- the cursor of a seat moves as that of a stand does
+stand-moved : (gone to : ℕ) (seat : Seat) → afterInsert gone to (progressOf seat .stand) ≡ progressOf (movedCursor gone to seat) .stand
+stand-moved gone to seat = insert-stand gone to (progressOf seat .stand) ∙ go (eqb (seat .place .cursor) gone)
+  where
+    go : (b : Bool)
+        → pickStand b (record { cursor = to; phase = phaseOf (seat .place .phase) }) (progressOf seat .stand) ≡ record { cursor = cond b to (seat .place .cursor); phase = phaseOf (seat .place .phase) }
+    go true = refl
+    go false = refl
+
+progress-moved : (gone to : ℕ) (seat : Seat) → searchAfterInsert gone to (progressOf seat) ≡ progressOf (movedCursor gone to seat)
+progress-moved gone to seat = ap (λ (s : Stand). record { stand = s; missed = progressOf seat .missed; best = progressOf seat .best }) (stand-moved gone to seat)
+
+-- a seat that stands nowhere stays so
+quiet-moved : (gone to : ℕ) (seat : Seat) → (gone ≡ NONE → to ≡ NONE) → Quiet (seat .place) → Quiet (movedCursor gone to seat .place)
+quiet-moved gone to seat n w = record { cursor = go (ℕ-discrete gone NONE); phase = w .phase; since = w .since; missed = w .missed }
+  where
+    still : (b : Bool) → cond b NONE NONE ≡ NONE
+    still true = refl
+    still false = refl
+
+    go : Dec (gone ≡ NONE) → cond (eqb (seat .place .cursor) gone) to (seat .place .cursor) ≡ NONE
+    go (yes e) = rw (n e, w .cursor) (still (eqb NONE gone))
+    go (no e) = rw (w .cursor, ne-eqb NONE gone (λ d. e (sym d)))
+
+-- ---- after an insert
+
+-- t′ is the table with one change more and the same removals
+module _ {h h′ : Heap} {tree : Option Tree} {queue : List Free} {released : ℕ} {new : Entry} {place : Option Leaf} {a b : ℕ} (t t′ : Table)
+    (w : Inserted (t .places) h h′ tree queue (t .changes) (length (t .removals)) released new place a b) (changes : t′ .changes ≡ suc (t .changes)) (removals : t′ .removals ≡ t .removals)
+    (seat : Seat) where
+  abbrev moved : Seat
+  moved = movedCursor (leafOf place) (cutFor place b) seat
+
+  walks-insert : (p : Point) (set : Option Answer) → Walks tree seat p set → Walks (w .tree) moved p set
+  walks-insert p set v = record {
+    since = v .since;
+    missed = v .missed;
+    unset = v .unset;
+    walking = rw (stand-moved (leafOf place) (cutFor place b) seat) at (walk-insert w p (progressOf seat .stand) (v .walking));
+    best = v .best;
+  }
+
+  set-insert : (target : Point) (entries : List Entry) (set : Option Answer) → set ≢ none → Set target entries tree set → Set target entries (w .tree) set
+  set-insert target entries none n v = absurd (n refl)
+  set-insert target entries (some x) n v = v
+
+  -- no nearest call is without an answer set down
+  set-there : (i : ℕ) (p : Point) (set : Option Answer) → fresh (unfinished i (nearest p) set) ≡ false → set ≢ none
+  set-there i p none f e = true≢false (sym (nearest-fresh i p) ∙ f)
+  set-there i p (some x) f e = let z : _≡_ {A = ℕ} 0 1 = cc in omega arith
+
+  works-insert : (i : ℕ) (c : Call) (set : Option Answer) → released ≤ seat .place .since → fresh (unfinished i c set) ≡ false → Works t tree queue seat i c set
+      → Works t′ (w .tree) (w .queue) moved i c set
+  works-insert i (add p c) set l f v = walks-insert p set v
+  works-insert i (remove p) set l f v = walks-insert p set v
+  works-insert i (contains p) set l f v = walks-insert p set v
+  works-insert i (nearest p) set l f v = record {
+    since = rw removals (v .since);
+    entries = v .entries;
+    once = v .once;
+    ranged = v .ranged;
+    search = rw (changes, removals, ← progress-moved (leafOf place) (cutFor place b) seat) (search-insert w l (v .search));
+    answer = set-insert p (v .entries) set (set-there i p set f) (v .answer);
+  }
+
+  -- the seat says the same of its station
+  pub says-insert : (x : Station) → released ≤ seat .place .since → (leafOf place ≡ NONE → cutFor place b ≡ NONE) → fresh x ≡ false → Says t tree queue seat x
+      → Says t′ (w .tree) (w .queue) moved x
+  says-insert idle l n f v = record { state = v .state; quiet = quiet-moved (leafOf place) (cutFor place b) seat n (v .quiet) }
+  says-insert (waiting r) l n f v = record { state = v .state; sound = v .sound; answer = v .answer; quiet = quiet-moved (leafOf place) (cutFor place b) seat n (v .quiet) }
+  says-insert (unfinished i c set) l n f v = record {
+    state = v .state;
+    kind = v .kind;
+    point = v .point;
+    curve = v .curve;
+    ranged = v .ranged;
+    fits = v .fits;
+    asof = omega (arith, v .asof);
+    kept = v .kept;
+    phase = v .phase;
+    works = works-insert i c set l f (v .works);
+  }

@@ -1,0 +1,152 @@
+-- The writes that are a station's own: to its record, and to its four words in the common record. They leave the counts, the rows and the
+-- seats of the other stations.
+use Prim.Native.Nat.{ℕ, _<_}
+use mathlib.Core.Path.{_≡_, refl, ap, _∙_}
+use mathlib.Core.Bool.{Bool, true, false}
+use mathlib.Core.List.{List}
+use native.Mathlib.Omega.{arith}
+use lib.Dec.{eqb}
+use lib.ListN.{length}
+use borrow.Author.Tests.{eqb-true, eqb-false}
+use Rattle.rows.specs.Layout.{atCursor, atPhase, atSince, atMissed}
+use Rattle.rows.specs.Words.{get}
+use Rattle.rows.specs.Agree.{inCommon, inStation, inRow, OnlyIn}
+use Rattle.rows.specs.Row.{rowAt}
+use Rattle.rows.specs.Station.{hasStation, putPlace, putSince, putMissed}
+use Rattle.rows.proofs.AgreeLaws.{only-trans, row-common, common-station, station-station, row-station, elsewhere}
+use Rattle.rows.proofs.OpeningLaws.{openedIn-first}
+use Rattle.rows.proofs.StationLaws.{there-length, putPlace-only, putSince-only, putMissed-only}
+use Rattle.rows.proofs.PlaceLaws.{get-putPlace-cursor, get-putPlace-phase, get-putSince-same, get-putMissed-same, get-putPlace-other, get-putSince-other, get-putMissed-other}
+use Rattle.rows.proofs.UnseenLaws.{StationReads, reads-unseen}
+use Rattle.history.specs.View.{Place, Seat, countsAt, placeAt, seatAt, seatPut, SameRows, Written}
+use Rattle.history.proofs.Frame.{place-of, counts-same, place-same, seat-same, common-stations}
+
+-- ---- what is the station's own
+
+-- v is w but for the record of station s and its four words in the common record
+pub record Own (v w : List ℕ) (s : ℕ) : Type 0 where
+  pub lengths : length v ≡ length w
+  pub words : (k : ℕ) → k < 96 → ¬ (k ≡ atCursor s) → ¬ (k ≡ atPhase s) → ¬ (k ≡ atSince s) → ¬ (k ≡ atMissed s) → get v k ≡ get w k
+  pub stations : (u : ℕ) → ¬ (u ≡ s) → StationReads v w u
+  pub rows : (rows r : ℕ) → rowAt v rows r ≡ rowAt w rows r
+
+pub own-trans : {u v w : List ℕ} {s : ℕ} → Own u v s → Own v w s → Own u w s
+own-trans g h = record {
+  lengths = g .lengths ∙ h .lengths;
+  words = λ k l c p n m. g .words k l c p n m ∙ h .words k l c p n m;
+  stations = λ u n.
+      let a = g .stations u n in
+      let b = h .stations u n in
+      record { state = a .state ∙ b .state; call = a .call ∙ b .call; answer = a .answer ∙ b .answer; waiting = a .waiting ∙ b .waiting };
+  rows = λ rows r. g .rows rows r ∙ h .rows rows r;
+}
+
+pub own-station : {v w : List ℕ} (s : ℕ) → OnlyIn v w (inStation s) → Own v w s
+own-station s g = record {
+  lengths = g .lengths;
+  words = λ k l c p n m. elsewhere (inStation s) inCommon g (common-station s) .words k (omega arith) (omega arith);
+  stations = λ u n. reads-unseen (inStation s) (inStation u) g (station-station u s n);
+  rows = λ rows r. reads-unseen (inStation s) (inRow r) g (row-station r s) rows;
+}
+
+own-common : {v w : List ℕ} (s : ℕ) → OnlyIn v w inCommon → ((k : ℕ) → ¬ (k ≡ atCursor s) → ¬ (k ≡ atPhase s) → ¬ (k ≡ atSince s) → ¬ (k ≡ atMissed s) → get v k ≡ get w k) → Own v w s
+own-common s g f = record {
+  lengths = g .lengths;
+  words = λ k l c p n m. f k c p n m;
+  stations = λ u n. common-stations g u;
+  rows = λ rows r. reads-unseen inCommon (inRow r) g (row-common r) rows;
+}
+
+-- such a write leaves the rows, and of counts and seats what is not the station's
+pub own-rows : {v w : List ℕ} {s : ℕ} → Own v w s → (rows : ℕ) → SameRows w v rows
+own-rows g rows r l = g .rows rows r
+
+own-counts : {v w : List ℕ} {s : ℕ} → Own v w s → countsAt v ≡ countsAt w
+own-counts {v} {w} {s} g =
+    counts-same v w (λ k l. g .words k (omega arith) (λ e. omega arith) (λ e. omega arith) (λ e. omega arith) (λ e. omega arith))
+
+pub own-written : (v w : List ℕ) (s : ℕ) (x : Seat) → s < 8 → Own v w s → seatAt v s ≡ x → Written w v (countsAt w) (seatPut (λ u. seatAt w u) s x)
+unfolding seatPut
+own-written v w s x l g e = record {
+  opened = openedIn-first (record { lengths = g .lengths; words = λ k a b. g .words k (omega arith) (λ q. omega arith) (λ q. omega arith) (λ q. omega arith) (λ q. omega arith) });
+  counted = own-counts g;
+  seated = λ u m. go u m (eqb u s) refl;
+}
+  where
+    other : (u : ℕ) → u < 8 → ¬ (u ≡ s) → placeAt v u ≡ placeAt w u
+    other u m n =
+        place-same v w u (g .words (atCursor u) (omega arith) (λ q. n (omega arith)) (λ q. omega arith) (λ q. omega arith) (λ q. omega arith))
+        (g .words (atPhase u) (omega arith) (λ q. omega arith) (λ q. n (omega arith)) (λ q. omega arith) (λ q. omega arith))
+        (g .words (atSince u) (omega arith) (λ q. omega arith) (λ q. omega arith) (λ q. n (omega arith)) (λ q. omega arith))
+        (g .words (atMissed u) (omega arith) (λ q. omega arith) (λ q. omega arith) (λ q. omega arith) (λ q. n (omega arith)))
+
+    go : (u : ℕ) → u < 8 → (b : Bool) → eqb u s ≡ b → seatAt v u ≡ elim b [ true ↦ x | false ↦ seatAt w u ]
+    go u m true f = rw (eqb-true u s f) e
+    go u m false f = seat-same v w u (other u m (eqb-false u s f)) (g .stations u (eqb-false u s f))
+
+-- ---- the writes
+
+-- a place with another since, missed row, cursor and phase
+abbrev pub withSince : ℕ → Place → Place
+withSince x p = record { cursor = p .cursor; phase = p .phase; since = x; missed = p .missed }
+
+abbrev pub withMissed : ℕ → Place → Place
+withMissed x p = record { cursor = p .cursor; phase = p .phase; since = p .since; missed = x }
+
+abbrev pub withStand : ℕ → ℕ → Place → Place
+withStand cursor phase p = record { cursor = cursor; phase = phase; since = p .since; missed = p .missed }
+
+module _ (w : List ℕ) (s : ℕ) where
+  pub own-place : (cursor phase : ℕ) → Own (putPlace w s cursor phase) w s
+  own-place cursor phase = own-common s (putPlace-only w s cursor phase) (λ k c p n m. get-putPlace-other w s cursor phase k c p)
+
+  own-since : (x : ℕ) → Own (putSince w s x) w s
+  own-since x = own-common s (putSince-only w s x) (λ k c p n m. get-putSince-other w s x k n)
+
+  pub own-missed : (x : ℕ) → Own (putMissed w s x) w s
+  own-missed x = own-common s (putMissed-only w s x) (λ k c p n m. get-putMissed-other w s x k m)
+
+  module _ (here : hasStation w s ≡ true) where
+    pub place-putPlace : (cursor phase : ℕ) → placeAt (putPlace w s cursor phase) s ≡ withStand cursor phase (placeAt w s)
+    unfolding placeAt
+    place-putPlace cursor phase =
+        place-of (putPlace w s cursor phase) s (withStand cursor phase (placeAt w s)) (get-putPlace-cursor w s here cursor phase) (get-putPlace-phase w s here cursor phase)
+        (get-putPlace-other w s cursor phase (atSince s) (λ e. omega arith) (λ e. omega arith))
+        (get-putPlace-other w s cursor phase (atMissed s) (λ e. omega arith) (λ e. omega arith))
+
+    place-putSince : (x : ℕ) → placeAt (putSince w s x) s ≡ withSince x (placeAt w s)
+    unfolding placeAt
+    place-putSince x =
+        place-of (putSince w s x) s (withSince x (placeAt w s)) (get-putSince-other w s x (atCursor s) (λ e. omega arith)) (get-putSince-other w s x (atPhase s) (λ e. omega arith))
+        (get-putSince-same w s here x)
+        (get-putSince-other w s x (atMissed s) (λ e. omega arith))
+
+    pub place-putMissed : (x : ℕ) → placeAt (putMissed w s x) s ≡ withMissed x (placeAt w s)
+    unfolding placeAt
+    place-putMissed x =
+        place-of (putMissed w s x) s (withMissed x (placeAt w s)) (get-putMissed-other w s x (atCursor s) (λ e. omega arith)) (get-putMissed-other w s x (atPhase s) (λ e. omega arith))
+        (get-putMissed-other w s x (atSince s) (λ e. omega arith))
+        (get-putMissed-same w s here x)
+
+-- all four words of a station
+module _ (w : List ℕ) (s cursor phase since missed : ℕ) where
+  abbrev pub stood : List ℕ
+  stood = putPlace w s cursor phase
+
+  abbrev pub timed : List ℕ
+  timed = putSince stood s since
+
+  abbrev pub placed : List ℕ
+  placed = putMissed timed s missed
+
+  pub placed-only : OnlyIn placed w inCommon
+  placed-only = only-trans (putMissed-only timed s missed) (only-trans (putSince-only stood s since) (putPlace-only w s cursor phase))
+
+  pub own-placed : Own placed w s
+  own-placed = own-trans (own-missed timed s missed) (own-trans (own-since stood s since) (own-place w s cursor phase))
+
+  pub place-placed : hasStation w s ≡ true → placeAt placed s ≡ record { cursor = cursor; phase = phase; since = since; missed = missed }
+  place-placed here =
+      place-putMissed timed s (there-length timed w s (putSince-only stood s since .lengths ∙ putPlace-only w s cursor phase .lengths) ∙ here) missed
+      ∙ ap (withMissed missed)
+      (place-putSince stood s (there-length stood w s (putPlace-only w s cursor phase .lengths) ∙ here) since ∙ ap (withSince since) (place-putPlace w s here cursor phase))

@@ -1,0 +1,128 @@
+-- The seat of the station that steps: its answer waits there (`related-answered`), or its walk goes on with fewer moves left (`left-walks`). What is
+-- released stays the same where removals and since words do (`least-same`).
+use Prim.Native.Nat.{ℕ, _≤_, _<_}
+use mathlib.Core.Path.{_≡_, refl, sym, _∙_}
+use mathlib.Core.Logic.{_≢_, inr}
+use mathlib.Core.Bool.{true, false, true≢false}
+use mathlib.Core.List.{List}
+use mathlib.Core.Option.{Option, none}
+use native.Mathlib.Omega.{arith}
+use lib.ListN.{length}
+use borrow.Author.Tests.{ne-eqb}
+use Rattle.points.specs.Word.{NONE}
+use Rattle.rows.specs.declared.answer.Answer.{Answer as Given}
+use Rattle.rows.specs.Layout.{atSince, atMissed}
+use Rattle.rows.specs.Words.{get}
+use Rattle.rows.specs.Common.{leastSince}
+use Rattle.rows.specs.Answer.{answerSound}
+use Rattle.rows.specs.Station.{putPlace}
+use Rattle.rows.proofs.TakenLaws.{least-removals, least-since}
+use Rattle.table.specs.Call.{Call, add, remove, contains, nearest, isSearch}
+use Rattle.table.specs.Table.{unfinished, waiting, Table, put, withStations}
+use Rattle.table.proofs.Stations.{put-same, put-other}
+use Rattle.trees.specs.Tree.{Tree}
+use Rattle.trees.specs.Queue.{Free}
+use Rattle.trees.specs.Route.{OnRoute, standsAt}
+use Rattle.trees.specs.Measure.{walkLeft}
+use Rattle.steps.specs.Answer.{answeredWords}
+use Rattle.history.specs.Index.{answerOf}
+use Rattle.history.specs.View.{Seat, countsAt, placeAt, seatAt, withPlace, noPlace}
+use Rattle.history.specs.Related.{pointOf, Works, Busy, Says, Related}
+use Rattle.history.proofs.Effects.{answer-written, answer-rows, walk-written, walk-rows}
+use Rattle.history.proofs.Readings.{nearest-search}
+use Rattle.history.proofs.LeastLaws.{least-up}
+use Rattle.history.proofs.SaysLaws.{seat-put-same}
+use Rattle.history.proofs.SeatLaws.{related-seat}
+use Rattle.history.proofs.Outcome.{LeftSays, Left}
+
+-- ---- what is released
+
+-- no more than the since of each seat
+pub least-seat : (w : List ℕ) (s : ℕ) → s < 8 → leastSince w ≤ seatAt w s .place .since
+unfolding seatAt placeAt
+least-seat w s l = least-since w s l
+
+-- the same where removals and since words are the same
+pub least-same : (v w : List ℕ) → countsAt w .removals ≡ countsAt v .removals → ((s : ℕ) → s < 8 → seatAt w s .place .since ≡ seatAt v s .place .since) → leastSince w ≡ leastSince v
+unfolding countsAt seatAt placeAt
+least-same v w e f =
+    let a : leastSince v ≤ leastSince w = least-up w v (omega arith) (λ s l. omega (arith, f s l)) in
+    let b : leastSince w ≤ leastSince v = least-up v w (omega arith) (λ s l. omega (arith, f s l)) in
+    omega arith
+
+-- ---- a walk on another row
+
+-- what is left to a walk is the leaves below the row where it stands
+pub left-walk : (t : Table) (tree : Option Tree) (queue : List Free) (seat : Seat) (i : ℕ) (c : Call) (n : ℕ) → isSearch c ≡ false → walkLeft tree (standsAt tree (seat .place .cursor)) ≤ n
+    → LeftSays t tree queue seat (unfinished i c none) n
+left-walk t tree queue seat i (add p c) n e l = l
+left-walk t tree queue seat i (remove p) n e l = l
+left-walk t tree queue seat i (contains p) n e l = l
+left-walk t tree queue seat i (nearest p) n e l = absurd (true≢false (sym (nearest-search p) ∙ e))
+
+pub left-tells : (t : Table) (tree : Option Tree) (queue : List Free) (seat : Seat) (i : ℕ) (c : Call) (n : ℕ) → isSearch c ≡ false → LeftSays t tree queue seat (unfinished i c none) n
+    → walkLeft tree (standsAt tree (seat .place .cursor)) ≤ n
+left-tells t tree queue seat i (add p c) n e l = l
+left-tells t tree queue seat i (remove p) n e l = l
+left-tells t tree queue seat i (contains p) n e l = l
+left-tells t tree queue seat i (nearest p) n e l = absurd (true≢false (sym (nearest-search p) ∙ e))
+
+-- it stands on another row of the way of its point
+works-walk : (t : Table) (tree : Option Tree) (queue : List Free) (seat : Seat) (i : ℕ) (c : Call) (to : ℕ) → isSearch c ≡ false → OnRoute tree (pointOf c) to
+    → Works t tree queue seat i c none
+    → Works t tree queue (withPlace seat (record { cursor = to; phase = 0; since = seat .place .since; missed = seat .place .missed })) i c none
+works-walk t tree queue seat i (add p c) to e o w = record { since = w .since; missed = w .missed; unset = refl; walking = inr o; best = w .best }
+works-walk t tree queue seat i (remove p) to e o w = record { since = w .since; missed = w .missed; unset = refl; walking = inr o; best = w .best }
+works-walk t tree queue seat i (contains p) to e o w = record { since = w .since; missed = w .missed; unset = refl; walking = inr o; best = w .best }
+works-walk t tree queue seat i (nearest p) to e o w = absurd (true≢false (sym (nearest-search p) ∙ e))
+
+-- ---- the relation
+
+module _ {words : List ℕ} {t : Table} (s : ℕ) (l : s < 8) (r : Related words t) where
+  -- an answer waits at station s
+  pub related-answered : (a : Given) → length (t .removals) ≤ NONE → answerSound a ≡ true
+      → Related (answeredWords words s a) (withStations t (put (t .stations) s (waiting (answerOf a))))
+  unfolding countsAt
+  related-answered a n e =
+      related-seat words (answeredWords words s a) t (put (t .stations) s (waiting (answerOf a))) s (record { place = noPlace; state = 2; call = seatAt words s .call; answer = a }) r
+      (answer-written words (t .places) (t .limit) (r .opened) s l a e) (answer-rows words (t .places) (t .limit) (r .opened) s l a)
+      (omega (arith, least-removals words, r .counted .removals))
+      (λ u d. put-other (t .stations) s u (waiting (answerOf a)) d)
+      (rw (put-same (t .stations) s (waiting (answerOf a))) (record { state = refl; sound = e; answer = refl; quiet = record { cursor = refl; phase = refl; since = refl; missed = refl } }))
+
+  module _ {i : ℕ} {c : Call} (to : ℕ) (q : t .stations s ≡ unfinished i c none) (e : isSearch c ≡ false) (o : OnRoute (r .tree) (pointOf c) to) where
+    -- the seat of the walk
+    abbrev walkSeat : Seat
+    walkSeat = withPlace (seatAt words s) (record { cursor = to; phase = 0; since = get words (atSince s); missed = get words (atMissed s) })
+
+    walk-busy : Says t (r .tree) (r .queue) walkSeat (t .stations s)
+    unfolding seatAt placeAt
+    walk-busy =
+        let b : Busy t (r .tree) (r .queue) (seatAt words s) i c none = rw q at (r .seats s l) in
+        rw q (record {
+          state = b .state;
+          kind = b .kind;
+          point = b .point;
+          curve = b .curve;
+          ranged = b .ranged;
+          fits = b .fits;
+          asof = b .asof;
+          kept = b .kept;
+          phase = omega arith;
+          works = works-walk t (r .tree) (r .queue) (seatAt words s) i c to e o (b .works);
+        })
+
+    -- a walk of station s goes on to a row on the way of its point
+    pub left-walks : (n : ℕ) → to ≢ NONE → walkLeft (r .tree) to ≤ n → Left (putPlace words s to 0) t s n
+    unfolding related-seat
+    left-walks n there few = record {
+      related = next;
+      left = rw q (left-walk t (next .tree) (next .queue) (seatAt (putPlace words s to 0) s) i c n e (rw (seated, ne-eqb to NONE there) few));
+    }
+      where
+        next : Related (putPlace words s to 0) t
+        next = related-seat words (putPlace words s to 0) t (t .stations) s walkSeat r (walk-written words (t .places) (t .limit) (r .opened) s l to) (walk-rows words (t .places) (t .limit) (r .opened) s l to)
+            (least-since words s l) (λ u d. refl) walk-busy
+
+        seated : seatAt (putPlace words s to 0) s ≡ walkSeat
+        seated = walk-written words (t .places) (t .limit) (r .opened) s l to .seated s l ∙ seat-put-same (λ u. seatAt words u) s walkSeat

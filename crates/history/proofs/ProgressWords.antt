@@ -1,0 +1,107 @@
+-- What a search over words keeps, seen as what a search over rows keeps: when a move over words is what the move over rows comes to
+-- (`Keeps`), and that a record is considered alike (`considered-words`).
+use Prim.Native.Nat.{ℕ, _≤_}
+use mathlib.Core.Path.{_≡_, refl, _∙_}
+use mathlib.Core.Logic.{_≢_}
+use mathlib.Core.Bool.{Bool, true, false, _&&_, and-assoc}
+use mathlib.Core.Option.{Option, none, some, Option·some-injective, Option·none-ne-some}
+use lib.Dec.{eqb, leb}
+use borrow.Author.Tests.{ne-eqb}
+use Rattle.points.specs.declared.point.Point.{Point}
+use Rattle.points.specs.Point.{inRange}
+use Rattle.points.specs.Choice.{sameGrade}
+use Rattle.rows.specs.declared.call.Best.{Best as WordBest}
+use Rattle.rows.specs.declared.call.Call.{Call}
+use Rattle.trees.specs.Row.{Entry}
+use Rattle.trees.specs.Choice.{bestSquare}
+use Rattle.trees.specs.Tour.{Best, pointOf, Progress, better, pickBest, considered, pickProgress, goTo}
+use Rattle.trees.proofs.ChoiceOf.{choiceOf}
+use Rattle.steps.specs.declared.search.Progress.{Progress as WordProgress}
+use Rattle.steps.specs.Search.{pickBest as pickWordBest, pickProgress as pickWordProgress, better as betterWord, considered as consideredWord, bestSquare as bestWordSquare, onward}
+use Rattle.history.specs.View.{phaseOf, bestOf}
+
+-- the progress over rows that one over words is
+abbrev pub viewOf : WordProgress → Progress
+viewOf p = record { stand = record { cursor = p .cursor; phase = phaseOf (p .phase) }; missed = p .missed; best = bestOf (p .best) }
+
+-- no row was refused, and the phase and the best's point are in range
+pub record Fit (p : WordProgress) : Type 0 where
+  pub sound : p .sound ≡ true
+  pub phase : p .phase ≤ 1
+  pub best : inRange (p .best .point) ≡ true
+
+-- it is the progress q
+pub record Shows (p : WordProgress) (q : Progress) : Type 0 where
+  pub fit : Fit p
+  pub is : viewOf p ≡ q
+
+-- it is what a move over rows comes to, where that is not refused
+abbrev pub Keeps : WordProgress → Option Progress → Type 0
+Keeps p out = (q : Progress) → out ≡ some q → Shows p q
+
+pub keeps-some : (p : WordProgress) (q : Progress) → Fit p → viewOf p ≡ q → Keeps p (some q)
+keeps-some p q f e to g = record { fit = f; is = e ∙ Option·some-injective q to g }
+
+pub keeps-none : (p : WordProgress) → Keeps p none
+keeps-none p to g = absurd (Option·none-ne-some to g)
+
+-- one of two, by one test
+pub keeps-pick : (b : Bool) (x y : WordProgress) (u v : Option Progress) → (b ≡ true → Keeps x u) → (b ≡ false → Keeps y v)
+    → Keeps (pickWordProgress b x y) (pickProgress b u v)
+keeps-pick true x y u v f g = f refl
+keeps-pick false x y u v f g = g refl
+
+-- the search goes on at a row in a phase
+pub keeps-onward : (p : WordProgress) (x n : ℕ) (best : WordBest) (b : Option Best) → Fit p → n ≤ 1 → inRange (best .point) ≡ true → bestOf best ≡ b
+    → Keeps (onward p x n best) (goTo x (phaseOf n) (p .missed) b)
+keeps-onward p x n best b f l r e =
+    keeps-some (onward p x n best) (record { stand = record { cursor = x; phase = phaseOf n }; missed = p .missed; best = b })
+    (record { sound = f .sound; phase = l; best = r })
+    (λ i. record { stand = record { cursor = x; phase = phaseOf n }; missed = p .missed; best = e i })
+
+-- ---- the best
+
+best-pick : (b : Bool) (x y : WordBest) → bestOf (pickWordBest b x y) ≡ pickBest b (bestOf x) (bestOf y)
+best-pick true x y = refl
+best-pick false x y = refl
+
+best-some : (p : Point) (c : ℕ) → c ≢ 0 → bestOf (record { curve = c; point = p }) ≡ some (record { point = p; curve = c })
+best-some p c n = rw (ne-eqb c 0 n, bestOf)
+
+better-words : (target : Point) (best : WordBest) (p : Point) → betterWord target best p ≡ better (choiceOf target) (pointOf (bestOf best)) p
+better-words target best p = go (eqb (best .curve) 0) refl
+  where
+    go : (b : Bool) → eqb (best .curve) 0 ≡ b → betterWord target best p ≡ better (choiceOf target) (pointOf (bestOf best)) p
+    go true e = rw (e, bestOf)
+    go false e = rw (e, bestOf)
+
+-- the square that a far side must not exceed
+pub square-words : (target : Point) (best : WordBest) → bestWordSquare target best ≡ bestSquare target (pointOf (bestOf best))
+square-words target best = go (eqb (best .curve) 0) refl
+  where
+    go : (b : Bool) → eqb (best .curve) 0 ≡ b → bestWordSquare target best ≡ bestSquare target (pointOf (bestOf best))
+    go true e = rw (e, bestOf)
+    go false e = rw (e, bestOf)
+
+-- a record with a curve is considered alike
+pub considered-words : (call : Call) (best : WordBest) (e : Entry) → e .curve ≢ 0
+    → bestOf (consideredWord call best (e .added) (e .point) (e .curve)) ≡ considered (choiceOf (call .point)) (call .asof) (bestOf best) e
+unfolding consideredWord considered
+considered-words call best e n =
+    best-pick ((leb (e .added) (call .asof) && sameGrade (call .point) (e .point)) && betterWord (call .point) best (e .point))
+    (record { curve = e .curve; point = e .point }) best
+    ∙ rw (
+      best-some (e .point) (e .curve) n,
+      better-words (call .point) best (e .point),
+      and-assoc (leb (e .added) (call .asof)) (sameGrade (call .point) (e .point)) (better (choiceOf (call .point)) (pointOf (bestOf best)) (e .point)),
+    )
+
+-- and leaves a best in range
+pub considered-ranged : (call : Call) (best : WordBest) (e : Entry) → inRange (best .point) ≡ true → inRange (e .point) ≡ true
+    → inRange (consideredWord call best (e .added) (e .point) (e .curve) .point) ≡ true
+unfolding consideredWord
+considered-ranged call best e f g = go ((leb (e .added) (call .asof) && sameGrade (call .point) (e .point)) && betterWord (call .point) best (e .point))
+  where
+    go : (b : Bool) → inRange (pickWordBest b (record { curve = e .curve; point = e .point }) best .point) ≡ true
+    go true = g
+    go false = f

@@ -1,0 +1,94 @@
+-- Readings of single definitions of `table` and `trees` that the steps of a walk cite.
+use Prim.Native.Nat.{ℕ, _+_}
+use mathlib.Core.Path.{_≡_, refl}
+use mathlib.Core.Bool.{true, false, cond}
+use mathlib.Core.List.{_∷_}
+use mathlib.Core.Option.{none}
+use lib.Dec.{eqb}
+use Rattle.points.specs.declared.point.Point.{Point}
+use Rattle.points.specs.Word.{NONE}
+use Rattle.table.specs.Record.{without}
+use Rattle.table.specs.Call.{add, remove, nearest, isSearch, answer, isChange}
+use Rattle.table.specs.Table.{Station, unfinished, Table, eight, searches, changed}
+use Rattle.table.proofs.Eager.{fresh}
+use Rattle.trees.specs.Row.{Heap}
+use Rattle.trees.specs.Route.{downRow, down}
+use Rattle.trees.specs.Stand.{Down, Stand, pickStand, moveCursor, afterInsert, afterUnlink, missedAfter}
+
+-- ---- table
+
+pub nearest-search : (p : Point) → isSearch (nearest p) ≡ true
+unfolding isSearch
+nearest-search p = refl
+
+-- a nearest call with nothing set down is fresh
+pub nearest-fresh : (i : ℕ) (p : Point) → fresh (unfinished i (nearest p) none) ≡ true
+unfolding fresh isSearch
+nearest-fresh i p = refl
+
+-- codes 1 and 5 are changes, others are none
+pub added-change : (p : Point) (c : ℕ) → isChange (answer 1 p c 0) ≡ true
+unfolding isChange
+added-change p c = refl
+
+pub removed-change : (p : Point) (c : ℕ) → isChange (answer 5 p c 0) ≡ true
+unfolding isChange
+removed-change p c = refl
+
+pub plain-change : (code : ℕ) (p : Point) (c : ℕ) → eqb code 1 ≡ false → eqb code 5 ≡ false → isChange (answer code p c 0) ≡ false
+unfolding isChange
+plain-change code p c e f = rw (e, f)
+
+-- the table after an addition
+abbrev pub addedTable : Table → Point → ℕ → Table
+addedTable t p c = record {
+  places = t .places;
+  limit = t .limit;
+  held = record { point = p; curve = c } ∷ t .held;
+  changes = t .changes + 1;
+  removals = t .removals;
+  calls = t .calls;
+  stations = t .stations;
+}
+
+pub changed-add : (t : Table) (p : Point) (c : ℕ) → changed t (add p c) ≡ addedTable t p c
+unfolding changed
+changed-add t p c = refl
+
+-- the table after a removal, with other stations
+abbrev pub removedTable : Table → Point → (ℕ → Station) → Table
+removedTable t p f = record {
+  places = t .places;
+  limit = t .limit;
+  held = without p (t .held);
+  changes = t .changes + 1;
+  removals = searches eight (t .stations) ∷ t .removals;
+  calls = t .calls;
+  stations = f;
+}
+
+pub changed-remove : (t : Table) (p : Point) → changed t (remove p) ≡ removedTable t p (t .stations)
+unfolding changed
+changed-remove t p = refl
+
+-- ---- trees: Route
+
+pub down-row : (h : Heap) (p : Point) (x : ℕ) → down h p x ≡ downRow (h x) p x
+unfolding down
+down-row h p x = refl
+
+-- ---- trees: Stands
+
+pub insert-stand : (leaf cut : ℕ) (s : Stand) → afterInsert leaf cut s ≡ pickStand (eqb (s .cursor) leaf) (record { cursor = cut; phase = s .phase }) s
+unfolding moveCursor
+insert-stand leaf cut s = refl
+
+pub unlink-stand : (leaf cut sibling : ℕ) (s : Stand)
+    → afterUnlink leaf cut sibling s
+    ≡ pickStand (eqb (s .cursor) leaf) (record { cursor = sibling; phase = Down }) (pickStand (eqb (s .cursor) cut) (record { cursor = sibling; phase = s .phase }) s)
+unfolding afterUnlink moveCursor
+unlink-stand leaf cut sibling s = refl
+
+pub unlink-missed : (leaf missed : ℕ) → missedAfter leaf missed ≡ cond (eqb missed NONE) leaf missed
+unfolding missedAfter
+unlink-missed leaf missed = refl

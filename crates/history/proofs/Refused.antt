@@ -1,0 +1,195 @@
+-- Refusals: the number of every call is that of the first question answered no, for all words and arguments (`open-number` to `report-number`), and a
+-- refused call leaves every word as it was (`open-refused` to `take-refused`).
+use Prim.Native.Nat.{ℕ}
+use mathlib.Core.Path.{_≡_, refl, sym, ap, _∙_}
+use mathlib.Core.Logic.{_⊎_, inl, inr}
+use mathlib.Core.Bool.{Bool, true, false, cond, _&&_, _||_}
+use mathlib.Core.List.{List, [], _∷_}
+use native.Mathlib.Omega.{arith}
+use lib.Dec.{eqb, leb, ltb}
+use lib.ListN.{length}
+use borrow.Author.Tests.{eqb-true, eqb-false}
+use Rattle.points.specs.declared.point.Point.{Point}
+use Rattle.points.specs.Point.{inRange}
+use Rattle.points.specs.Word.{NONE}
+use Rattle.rows.specs.declared.row.Row.{Row}
+use Rattle.rows.specs.declared.call.Call.{Call}
+use Rattle.rows.specs.declared.answer.Waiting.{Waiting}
+use Rattle.rows.specs.declared.answer.Waiting.the-variants.{Nothing, Given}
+use Rattle.rows.specs.Layout.{wordsFor, atHeld}
+use Rattle.rows.specs.Words.{get}
+use Rattle.rows.specs.Row.{rowAt}
+use Rattle.rows.specs.Common.{placesIn, limitIn, openedIn, takenIn}
+use Rattle.rows.specs.Station.{isIdle, isUnfinished, stateAt}
+use Rattle.rows.specs.Call.{callAt}
+use Rattle.rows.specs.Answer.{waitingAt}
+use Rattle.steps.specs.declared.take.Taking.{Taking}
+use Rattle.steps.specs.declared.take.Taking.the-variants.{Refused as Refusal, Given as Taken}
+use Rattle.steps.specs.declared.insert.Room.{Room}
+use Rattle.steps.specs.declared.unlink.Around.{Around}
+use Rattle.steps.specs.declared.search.Progress.{Progress}
+use Rattle.steps.specs.Reply.{Reply, done, refused, pickReply, ask, isOpened, rowsIn}
+use Rattle.steps.specs.Link.{isLeaf, isCut}
+use Rattle.steps.specs.Open.{openedWords, openOf}
+use Rattle.steps.specs.Submit.{kindIn, curveFits, submittedWords, submitOf}
+use Rattle.steps.specs.Search.{seek, progressAt, searchTo, searchOf}
+use Rattle.steps.specs.Insert.{roomAt, roomSound, insertTo, insertOf}
+use Rattle.steps.specs.Unlink.{aroundAt, aroundSound, unlinkTo, unlinkOf}
+use Rattle.steps.specs.Walk.{sixDown, walkTo, codeAt, concludeAs, conclude, standsAt, walkFrom, walkOf}
+use Rattle.steps.specs.Step.{recordsSound, workOf, stepOf}
+use Rattle.steps.specs.Take.{takingOf, takeOf, numberOf, takenWords, takeWords}
+use Rattle.steps.specs.Report.{Report, reportOf}
+use Rattle.steps.specs.Run.{isGiven}
+use Rattle.history.specs.Questions.{Question, asked, orElse, firstNo, openQuestions, stationQuestions, submitQuestions, stepQuestions, takeQuestions, reportQuestions}
+
+-- ---- the work of a step is done or refused with 11
+
+-- a reply that is done, or refused with the number and the words as they were
+pub data Settles (number : ℕ) (words : List ℕ) (r : Reply) : Type 0 where
+  is-done : r .number ≡ 0 → Settles number words r
+  is-refused : r ≡ refused number words → Settles number words r
+
+pick-settles : {number : ℕ} {words : List ℕ} (b : Bool) {x y : Reply} → Settles number words x → Settles number words y → Settles number words (pickReply b x y)
+pick-settles true p q = p
+pick-settles false p q = q
+
+search-settles : (words : List ℕ) (rows s : ℕ) (call : Call) → Settles 11 words (searchOf words rows s call)
+unfolding searchOf
+search-settles words rows s call = pick-settles (seek words rows call (progressAt words s call) .sound) (is-done refl) (is-refused refl)
+
+insert-settles : (words : List ℕ) (rows s : ℕ) (call : Call) (at : ℕ) → Settles 11 words (insertOf words rows s call at)
+unfolding insertOf
+insert-settles words rows s call at = pick-settles (roomSound (roomAt words rows at)) (is-done refl) (is-refused refl)
+
+unlink-settles : (words : List ℕ) (rows s : ℕ) (call : Call) (at : ℕ) → Settles 11 words (unlinkOf words rows s call at)
+unfolding unlinkOf
+unlink-settles words rows s call at = pick-settles (aroundSound (aroundAt words rows at) && leb 1 (get words atHeld)) (is-done refl) (is-refused refl)
+
+walk-settles : (words : List ℕ) (rows s : ℕ) (call : Call) → Settles 11 words (walkOf words rows s call)
+unfolding walkOf conclude
+walk-settles words rows s call =
+    let at = standsAt words s in
+    let row = rowAt words rows at in
+    let code = codeAt words call row in
+    pick-settles (isCut row) (pick-settles (eqb (sixDown words rows (call .point) at) NONE) (is-refused refl) (is-done refl))
+    (pick-settles (eqb at NONE || isLeaf row)
+    (pick-settles (eqb code 1) (insert-settles words rows s call at) (pick-settles (eqb code 5) (unlink-settles words rows s call at) (is-done refl)))
+    (is-refused refl))
+
+pub work-settles : (words : List ℕ) (rows s : ℕ) (call : Call) → Settles 11 words (workOf words rows s call)
+work-settles words rows s call = pick-settles (eqb (call .kind) 4) (search-settles words rows s call) (walk-settles words rows s call)
+
+-- ---- numbers
+
+pub open-number : (words : List ℕ) (places limit : ℕ) → openOf words places limit .number ≡ firstNo (openQuestions words places limit)
+unfolding openOf firstNo
+open-number words places limit = go (placesIn places) (limitIn limit) (leb (wordsFor places) (length words))
+  where
+    go : (a b c : Bool) → ask a 1 words (ask b 2 words (ask c 3 words (done (openedWords words places limit)))) .number ≡ orElse a 1 (orElse b 2 (orElse c 3 0))
+    go true true true = refl
+    go true true false = refl
+    go true false c = refl
+    go false b c = refl
+
+pub submit-number : (words : List ℕ) (s kind : ℕ) (p : Point) (c : ℕ) → submitOf words s kind p c .number ≡ firstNo (submitQuestions words s kind p c)
+unfolding submitOf firstNo
+submit-number words s kind p c = go (isOpened (openedIn words)) (ltb s 8) (isIdle (stateAt words s)) (kindIn kind) (inRange p) (curveFits kind c)
+  where
+    go : (o l i k r f : Bool)
+        → ask o 4 words (ask l 5 words (ask i 6 words (ask k 7 words (ask r 8 words (ask f 9 words (done (submittedWords words s kind p c))))))) .number
+        ≡ orElse o 4 (orElse l 5 (orElse i 6 (orElse k 7 (orElse r 8 (orElse f 9 0)))))
+    go true true true true true true = refl
+    go true true true true true false = refl
+    go true true true true false f = refl
+    go true true true false r f = refl
+    go true true false k r f = refl
+    go true false i k r f = refl
+    go false l i k r f = refl
+
+-- a reply of 0 or 11, by the test of its number
+settled-number : (words : List ℕ) (r : Reply) → Settles 11 words r → r .number ≡ orElse (eqb (r .number) 0) 11 0
+settled-number words r (is-done e) = rw e
+settled-number words r (is-refused e) = rw e
+
+pub step-number : (words : List ℕ) (s : ℕ) → stepOf words s .number ≡ firstNo (stepQuestions words s)
+unfolding stepOf firstNo
+step-number words s = go (isOpened (openedIn words)) (ltb s 8) (isUnfinished (stateAt words s)) (recordsSound words s)
+  where
+    work : Reply
+    work = workOf words (rowsIn words) s (callAt words s)
+
+    go : (o l u r : Bool) → ask o 4 words (ask l 5 words (ask u 10 words (ask r 11 words work))) .number ≡ orElse o 4 (orElse l 5 (orElse u 10 (orElse r 11 (orElse (eqb (work .number) 0) 11 0))))
+    go true true true true = settled-number words work (work-settles words (rowsIn words) s (callAt words s))
+    go true true true false = refl
+    go true true false r = refl
+    go true false u r = refl
+    go false l u r = refl
+
+pub take-number : (words : List ℕ) (s : ℕ) → numberOf (takeOf words s) ≡ firstNo (takeQuestions words s)
+unfolding takeOf firstNo
+take-number words s = go (isOpened (openedIn words)) (ltb s 8) (waitingAt words s)
+  where
+    go : (o l : Bool) (w : Waiting) → numberOf (cond o (cond l (takingOf w) (Refusal 5)) (Refusal 4)) ≡ orElse o 4 (orElse l 5 (orElse (isGiven w) 12 0))
+    go true true Nothing = refl
+    go true true (Given a) = refl
+    go true false w = refl
+    go false l w = refl
+
+pub report-number : (words : List ℕ) → reportOf words .number ≡ firstNo (reportQuestions words)
+unfolding reportOf firstNo
+report-number words = go (isOpened (openedIn words))
+  where
+    go : (o : Bool) → cond {A = Report} o (record { number = 0; taken = takenIn words }) (record { number = 4; taken = 0 }) .number ≡ orElse o 4 0
+    go true = refl
+    go false = refl
+
+-- ---- a refused call leaves every word as it was
+
+-- accepted, or the words as they were
+abbrev Keeps : List ℕ → Reply → Type 0
+Keeps words r = (r .number ≡ 0) ⊎ (r .words ≡ words)
+
+ask-keeps : (words : List ℕ) (b : Bool) (n : ℕ) (r : Reply) → Keeps words r → Keeps words (ask b n words r)
+ask-keeps words true n r k = k
+ask-keeps words false n r k = inr refl
+
+refused-keeps : (words : List ℕ) (r : Reply) → Keeps words r → ¬ (r .number ≡ 0) → r .words ≡ words
+refused-keeps words r (inl e) n = absurd (n e)
+refused-keeps words r (inr e) n = e
+
+work-keeps : (words : List ℕ) (r : Reply) → Settles 11 words r → Keeps words r
+work-keeps words r (is-done e) = inl e
+work-keeps words r (is-refused e) = inr (ap (λ (x : Reply). x .words) e)
+
+pub open-refused : (words : List ℕ) (places limit : ℕ) → ¬ (openOf words places limit .number ≡ 0) → openOf words places limit .words ≡ words
+unfolding openOf
+open-refused words places limit =
+    refused-keeps words (openOf words places limit)
+    (ask-keeps words (placesIn places) 1 _ (ask-keeps words (limitIn limit) 2 _ (ask-keeps words (leb (wordsFor places) (length words)) 3 _ (inl refl))))
+
+pub submit-refused : (words : List ℕ) (s kind : ℕ) (p : Point) (c : ℕ) → ¬ (submitOf words s kind p c .number ≡ 0) → submitOf words s kind p c .words ≡ words
+unfolding submitOf
+submit-refused words s kind p c =
+    refused-keeps words (submitOf words s kind p c)
+    (ask-keeps words (isOpened (openedIn words)) 4 _
+    (ask-keeps words (ltb s 8) 5 _
+    (ask-keeps words (isIdle (stateAt words s)) 6 _
+    (ask-keeps words (kindIn kind) 7 _ (ask-keeps words (inRange p) 8 _ (ask-keeps words (curveFits kind c) 9 _ (inl refl)))))))
+
+pub step-refused : (words : List ℕ) (s : ℕ) → ¬ (stepOf words s .number ≡ 0) → stepOf words s .words ≡ words
+unfolding stepOf
+step-refused words s =
+    refused-keeps words (stepOf words s)
+    (ask-keeps words (isOpened (openedIn words)) 4 _
+    (ask-keeps words (ltb s 8) 5 _
+    (ask-keeps words (isUnfinished (stateAt words s)) 10 _
+    (ask-keeps words (recordsSound words s) 11 _
+    (work-keeps words (workOf words (rowsIn words) s (callAt words s)) (work-settles words (rowsIn words) s (callAt words s)))))))
+
+pub take-refused : (words : List ℕ) (s : ℕ) → ¬ (numberOf (takeOf words s) ≡ 0) → takeWords words s ≡ words
+unfolding takeWords
+take-refused words s n = go (takeOf words s) refl
+  where
+    go : (x : Taking) → takeOf words s ≡ x → takenWords words s x ≡ words
+    go (Refusal k) e = refl
+    go (Taken a) e = absurd (n (ap numberOf e))

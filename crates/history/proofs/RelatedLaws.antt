@@ -1,0 +1,126 @@
+-- What follows of a slice from its relation to a table: question 4, the words of the common record, and the places taken.
+use Prim.Native.Nat.{ℕ, _+_, _-_, _*_, _≤_, _<_}
+use mathlib.Core.Path.{_≡_, sym, ap, _∙_, subst}
+use mathlib.Core.Bool.{true, false≢true}
+use mathlib.Core.List.{List}
+use mathlib.Core.Option.{Option}
+use native.Mathlib.Omega.{arith}
+use lib.ListN.{length}
+use borrow.Author.Tests.{le-leb}
+use Rattle.points.specs.Word.{NONE}
+use Rattle.rows.specs.Layout.{atPlaces, atLimit, atChanges, atHeld, atRoot, atHead, atTail, atRemovals, atSince}
+use Rattle.rows.specs.Words.{get}
+use Rattle.rows.specs.Common.{openedIn, leastSince, takenIn}
+use Rattle.rows.proofs.OpeningLaws.{IsOpen, opened-tells}
+use Rattle.rows.proofs.TakenLaws.{awaiting-is, taken-is}
+use Rattle.table.specs.Call.{Call, add, remove, contains, nearest, isSearch, Answer}
+use Rattle.table.specs.Table.{Station, idle, unfinished, waiting, Table, taken}
+use Rattle.table.proofs.Sound.{Sound, removals-changes}
+use Rattle.table.proofs.Taken.{SinceSays, IsLeast, taken-oldest}
+use Rattle.trees.specs.Tree.{Tree, topOf}
+use Rattle.trees.specs.Queue.{Free, headOf, tailOf}
+use Rattle.steps.specs.Reply.{isOpened, rowsIn}
+use Rattle.history.specs.View.{Seat, countsAt, placeAt, seatAt}
+use Rattle.history.specs.Related.{Idle, Busy, Waits, Says, Related}
+use Rattle.history.proofs.LeastLaws.{least-words}
+
+-- what a seat of an unfinished call keeps for its since: the table's for a nearest, none for another call
+busy-since : (t : Table) (tree : Option Tree) (queue : List Free) (seat : Seat) (i : ℕ) (c : Call) (o : Option Answer) → length (t .removals) ≤ NONE → Busy t tree queue seat i c o
+    → SinceSays (t .removals) (seat .place .since) (unfinished i c o)
+unfolding isSearch
+busy-since t tree queue seat i (add p c) o l b = (λ e. absurd (false≢true e), λ e. omega (arith, b .works .since))
+busy-since t tree queue seat i (remove p) o l b = (λ e. absurd (false≢true e), λ e. omega (arith, b .works .since))
+busy-since t tree queue seat i (contains p) o l b = (λ e. absurd (false≢true e), λ e. omega (arith, b .works .since))
+busy-since t tree queue seat i (nearest p) o l b = (λ e. b .works .since, λ e. absurd (false≢true (sym e)))
+
+-- the since word of a seat is the number that the table's station says
+pub says-since : (t : Table) (tree : Option Tree) (queue : List Free) (seat : Seat) (x : Station) → length (t .removals) ≤ NONE → Says t tree queue seat x
+    → SinceSays (t .removals) (seat .place .since) x
+says-since t tree queue seat idle l b = omega (arith, b .quiet .since)
+says-since t tree queue seat (waiting a) l b = omega (arith, b .quiet .since)
+says-since t tree queue seat (unfinished i c o) l b = busy-since t tree queue seat i c o l b
+
+module _ {words : List ℕ} {t : Table} (r : Related words t) where
+  -- ---- question 4
+
+  -- mark, places, limit and length are those of an opened slice
+  pub related-is-open : IsOpen words (t .places) (t .limit)
+  related-is-open = opened-tells words (t .places) (t .limit) (r .opened)
+
+  -- question 4 passes
+  pub related-passes : isOpened (openedIn words) ≡ true
+  related-passes = ap isOpened (r .opened)
+
+  -- ---- the words of the common record
+
+  -- places and limit of the opening
+  pub word-places : get words atPlaces ≡ t .places
+  word-places = related-is-open .places-word
+
+  pub word-limit : get words atLimit ≡ t .limit
+  word-limit = related-is-open .limit-word
+
+  -- there are two rows for each place
+  pub related-rows : rowsIn words ≡ 2 * t .places
+  unfolding rowsIn
+  related-rows = rw (word-places, le-leb (t .places) 4096 (related-is-open .places-most))
+
+  -- the counts, and the root, head and tail links
+  pub word-changes : get words atChanges ≡ t .changes
+  unfolding countsAt
+  word-changes = r .counted .changes
+
+  pub word-held : get words atHeld ≡ length (t .held)
+  unfolding countsAt
+  word-held = r .counted .held ∙ r .number
+
+  pub word-root : get words atRoot ≡ topOf (r .tree)
+  unfolding countsAt
+  word-root = r .counted .root
+
+  pub word-head : get words atHead ≡ headOf (r .queue)
+  unfolding countsAt
+  word-head = r .counted .head
+
+  pub word-tail : get words atTail ≡ tailOf (r .queue)
+  unfolding countsAt
+  word-tail = r .counted .tail
+
+  pub word-removals : get words atRemovals ≡ length (t .removals)
+  unfolding countsAt
+  word-removals = r .counted .removals
+
+  -- ---- the seats
+
+  -- the seat of an idle station
+  pub related-idle : {s : ℕ} → s < 8 → t .stations s ≡ idle → Idle (seatAt words s)
+  related-idle {s} l e = subst (Says t (r .tree) (r .queue) (seatAt words s)) e (r .seats s l)
+
+  -- of an unfinished call
+  pub related-busy : {s i : ℕ} {c : Call} {o : Option Answer} → s < 8 → t .stations s ≡ unfinished i c o → Busy t (r .tree) (r .queue) (seatAt words s) i c o
+  related-busy {s} l e = subst (Says t (r .tree) (r .queue) (seatAt words s)) e (r .seats s l)
+
+  -- and of a waiting answer
+  pub related-waits : {s : ℕ} {a : Answer} → s < 8 → t .stations s ≡ waiting a → Waits (seatAt words s) a
+  related-waits {s} l e = subst (Says t (r .tree) (r .queue) (seatAt words s)) e (r .seats s l)
+
+  -- ---- the places taken
+
+  -- the number of removals is never the word for none
+  pub removals-word : Sound t → length (t .removals) ≤ 4000000000
+  removals-word h = omega (arith, removals-changes t h, h .spent, related-is-open .limit-most)
+
+  -- the since words say what the table's stations say
+  pub related-since : Sound t → (s : ℕ) → s < 8 → SinceSays (t .removals) (get words (atSince s)) (t .stations s)
+  unfolding seatAt placeAt
+  related-since h s l = says-since t (r .tree) (r .queue) (seatAt words s) (t .stations s) (omega (arith, removals-word h)) (r .seats s l)
+
+  -- what is released is the least since in the table's sense
+  pub related-least : IsLeast (length (t .removals)) (λ s. get words (atSince s)) (leastSince words)
+  related-least = rw word-removals at (least-words words)
+
+  -- The number of places taken that a report gives is the table's.
+  pub related-taken : Sound t → takenIn words ≡ taken t
+  related-taken h =
+      let e : taken t ≡ length (t .held) + (length (t .removals) - leastSince words) = taken-oldest t (λ s. get words (atSince s)) (related-since h) h (leastSince words) related-least in
+      omega (arith, taken-is words, awaiting-is words, word-held, word-removals)

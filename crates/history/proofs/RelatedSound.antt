@@ -1,0 +1,160 @@
+-- The fields of the two records are in range in a related slice (`related-sound`), so that no step meets question 11 there.
+use Prim.Native.Nat.{ℕ, _*_, _≤_, _<_}
+use mathlib.Core.Path.{_≡_, refl}
+use mathlib.Core.Logic.{inl}
+use mathlib.Core.Bool.{Bool, true, false, or-true}
+use mathlib.Core.List.{List, List·Memᴰ}
+use mathlib.Core.Option.{Option, none, some}
+use native.Mathlib.Omega.{arith}
+use lib.Dec.{eqb}
+use lib.ListN.{length}
+use borrow.Author.Tests.{eqb-true, eq-eqb, le-leb}
+use Rattle.points.specs.declared.point.Point.{Point}
+use Rattle.points.specs.Point.{inRange}
+use Rattle.points.specs.Word.{NONE}
+use Rattle.rows.specs.declared.call.Best.{Best as WordBest}
+use Rattle.rows.specs.Layout.{atCursor, atMissed}
+use Rattle.rows.specs.Words.{get}
+use Rattle.rows.specs.Range.{curveIn}
+use Rattle.rows.specs.Common.{sinceIn, commonSound}
+use Rattle.rows.specs.Call.{bestSound, curveFor, callSound}
+use Rattle.rows.proofs.CommonLaws.{common-of}
+use Rattle.rows.proofs.RangeLaws.{curve-tells}
+use Rattle.rows.proofs.SoundLaws.{best-none, best-record, call-of}
+use Rattle.table.specs.Call.{Call, add, remove, contains, nearest, Answer}
+use Rattle.table.specs.Table.{Station, idle, unfinished, waiting, Table}
+use Rattle.table.proofs.Sound.{Sound, removals-changes, held-places}
+use Rattle.table.proofs.Removals.{since-le}
+use Rattle.trees.specs.Row.{Entry, Heap}
+use Rattle.trees.specs.Tree.{Tree}
+use Rattle.trees.specs.Queue.{Free}
+use Rattle.trees.specs.Store.{Store}
+use Rattle.trees.specs.Search.{Found}
+use Rattle.trees.proofs.ChoiceOf.{choiceOf}
+use Rattle.steps.specs.Step.{recordsSound}
+use Rattle.history.specs.View.{Place, Seat, placeAt, seatAt, bestOf}
+use Rattle.history.specs.Related.{kindOf, curveOf, Quiet, Walks, Busy, Says, Related}
+use Rattle.history.proofs.RelatedLaws.{related-is-open, related-rows, related-busy, word-places, word-limit, word-changes, word-held, word-root, word-head, word-tail, word-removals}
+use Rattle.history.proofs.RelatedRows.{Link, link-in, standing-link, walking-link, missed-link, head-inside, tail-inside, root-link}
+
+-- ---- the common record
+
+-- what a place has in range
+pub record PlaceIn (rows removals : ℕ) (place : Place) : Type 0 where
+  pub cursor : Link rows (place .cursor)
+  pub phase : place .phase ≤ 1
+  pub since : sinceIn removals (place .since) ≡ true
+  pub missed : Link rows (place .missed)
+
+-- a since word that is none, or at most the removals
+since-none : (removals x : ℕ) → x ≡ NONE → sinceIn removals x ≡ true
+since-none removals x e = rw (eq-eqb x NONE e)
+
+since-some : (removals x : ℕ) → x ≤ removals → sinceIn removals x ≡ true
+since-some removals x l = rw (le-leb x removals l) (or-true (eqb x NONE))
+
+quiet-place : (rows removals : ℕ) (place : Place) → Quiet place → PlaceIn rows removals place
+quiet-place rows removals place q =
+    record { cursor = inl (q .cursor); phase = omega (arith, q .phase); since = since-none removals (place .since) (q .since); missed = inl (q .missed) }
+
+module _ {h : Heap} {tree : Option Tree} {q : List Free} {released : ℕ} (t : Table) (st : Store (t .places) h tree q (t .changes) (length (t .removals)) released) where
+  walk-place : (seat : Seat) (p : Point) (o : Option Answer) → seat .place .phase ≤ 1 → Walks tree seat p o → PlaceIn (2 * t .places) (length (t .removals)) (seat .place)
+  walk-place seat p o l w = record {
+    cursor = walking-link st p (seat .place .cursor) (w .walking);
+    phase = l;
+    since = since-none (length (t .removals)) (seat .place .since) (w .since);
+    missed = inl (w .missed);
+  }
+
+  busy-place : (seat : Seat) (i : ℕ) (c : Call) (o : Option Answer) → Busy t tree q seat i c o → PlaceIn (2 * t .places) (length (t .removals)) (seat .place)
+  busy-place seat i (add p c) o b = walk-place seat p o (b .phase) (b .works)
+  busy-place seat i (remove p) o b = walk-place seat p o (b .phase) (b .works)
+  busy-place seat i (contains p) o b = walk-place seat p o (b .phase) (b .works)
+  busy-place seat i (nearest p) o b = record {
+    cursor = standing-link st (seat .place .cursor) (b .works .search .stands);
+    phase = b .phase;
+    since = since-some (length (t .removals)) (seat .place .since) (omega (arith, b .works .since, since-le i (t .removals)));
+    missed = missed-link st (seat .place .since) (seat .place .missed) (b .works .search .rest) (b .works .search .missing);
+  }
+
+  -- whatever the station says, its place is in range
+  pub says-place : (seat : Seat) (x : Station) → Says t tree q seat x → PlaceIn (2 * t .places) (length (t .removals)) (seat .place)
+  says-place seat idle b = quiet-place (2 * t .places) (length (t .removals)) (seat .place) (b .quiet)
+  says-place seat (waiting a) b = quiet-place (2 * t .places) (length (t .removals)) (seat .place) (b .quiet)
+  says-place seat (unfinished i c o) b = busy-place seat i c o b
+
+-- the place of each station is in range
+pub related-place : {words : List ℕ} {t : Table} (r : Related words t) (s : ℕ) → s < 8 → PlaceIn (2 * t .places) (length (t .removals)) (placeAt words s)
+unfolding seatAt
+related-place {words} {t} r s l = says-place t (r .store) (seatAt words s) (t .stations s) (r .seats s l)
+
+-- the common record is in range
+pub related-common : {words : List ℕ} {t : Table} → Sound t → (r : Related words t) → commonSound words (2 * t .places) ≡ true
+unfolding placeAt
+related-common {words} {t} h r =
+    let o = related-is-open r in
+    common-of words (2 * t .places) (record {
+      there = omega (arith, o .long);
+      counts = record {
+        changes = omega (arith, word-changes r, word-limit r, h .spent);
+        held = omega (arith, word-held r, word-places r, held-places t h);
+        removals = omega (arith, word-removals r, word-changes r, removals-changes t h);
+        root = rw (word-root r) (link-in (2 * t .places) _ (root-link (r .tree) (r .store)));
+        head = rw (word-head r) (head-inside (r .store) (o .places-least));
+        tail = rw (word-tail r) (tail-inside (r .store) (o .places-least));
+      };
+      cursor = λ s l. link-in (2 * t .places) (get words (atCursor s)) (related-place r s l .cursor);
+      phase = λ s l. related-place r s l .phase;
+      since = λ s l. rw (word-removals r) (related-place r s l .since);
+      missed = λ s l. link-in (2 * t .places) (get words (atMissed s)) (related-place r s l .missed);
+    })
+
+-- ---- the station's call
+
+-- a best that is one of the records held at submission is in range
+found-best : (target : Point) (entries : List Entry) → ((e : Entry) → List·Memᴰ e entries → (inRange (e .point) ≡ true) × (curveIn (e .curve) ≡ true))
+    → (best : WordBest) → inRange (best .point) ≡ true → Found (choiceOf target) (λ e. List·Memᴰ e entries) (bestOf best) → bestSound best ≡ true
+found-best target entries ranged best k f = go (eqb (best .curve) 0) refl f
+  where
+    go : (b : Bool) → eqb (best .curve) 0 ≡ b
+        → Found (choiceOf target) (λ e. List·Memᴰ e entries) (elim b [ true ↦ none | false ↦ some (record { point = best .point; curve = best .curve }) ])
+        → bestSound best ≡ true
+    go true e f = best-none best (eqb-true (best .curve) 0 e)
+    go false e f = best-record best (omega (arith, f .curve, curve-tells (f .entry .curve) (ranged (f .entry) (f .held) .1) .1)) k
+
+kind-range : (c : Call) → (1 ≤ kindOf c) × (kindOf c ≤ 4)
+kind-range (add p c) = omega arith
+kind-range (remove p) = omega arith
+kind-range (contains p) = omega arith
+kind-range (nearest p) = omega arith
+
+module _ {t : Table} {tree : Option Tree} {q : List Free} {seat : Seat} {i : ℕ} {o : Option Answer} where
+  busy-best : (c : Call) → Busy t tree q seat i c o → bestSound (seat .call .best) ≡ true
+  busy-best (add p c) b = best-none (seat .call .best) (b .works .best)
+  busy-best (remove p) b = best-none (seat .call .best) (b .works .best)
+  busy-best (contains p) b = best-none (seat .call .best) (b .works .best)
+  busy-best (nearest p) b = found-best p (b .works .entries) (b .works .ranged) (seat .call .best) (b .kept) (b .works .search .found)
+
+  busy-curve : (c : Call) → Busy t tree q seat i c o → curveFor (kindOf c) (curveOf c) ≡ true
+  busy-curve (add p c) b = b .fits
+  busy-curve (remove p) b = refl
+  busy-curve (contains p) b = refl
+  busy-curve (nearest p) b = refl
+
+  -- the call of a seat is in range
+  pub busy-sound : (c : Call) → Busy t tree q seat i c o → callSound (seat .call) (t .changes) ≡ true
+  busy-sound c b = call-of (seat .call) (t .changes) (record {
+    kind-least = omega (arith, kind-range c, b .kind);
+    kind-most = omega (arith, kind-range c, b .kind);
+    point = rw (b .point) (b .ranged);
+    curve = rw (b .kind, b .curve) (busy-curve c b);
+    asof = b .asof;
+    best = busy-best c b;
+  })
+
+-- Both records of a station with an unfinished call are in range.
+pub related-sound : {words : List ℕ} {t : Table} {s i : ℕ} {c : Call} {o : Option Answer} → Sound t → (r : Related words t) → s < 8 → t .stations s ≡ unfinished i c o
+    → recordsSound words s ≡ true
+unfolding recordsSound seatAt
+related-sound {words} {t} {s} {i} {c} {o} h r l e =
+    rw (related-rows r, related-common h r, word-changes r) (busy-sound c (related-busy r l e))

@@ -1,0 +1,60 @@
+-- Rows, written and read through the view: a row in range is written over a heap, and no count and no seat changes.
+use Prim.Native.Nat.{ℕ, _*_, _<_}
+use mathlib.Core.Path.{_≡_, refl, _∙_}
+use mathlib.Core.Bool.{Bool, true, false}
+use mathlib.Core.List.{List}
+use lib.Dec.{eqb}
+use borrow.Author.Tests.{eqb-true, eqb-false}
+use Rattle.points.specs.Word.{NONE}
+use Rattle.rows.specs.declared.common.Opening.the-variants.{Opened}
+use Rattle.rows.specs.declared.row.Row.{Row as WordRow}
+use Rattle.rows.specs.Agree.{inCommon, inStation, inRow}
+use Rattle.rows.specs.Row.{Room}
+use Rattle.rows.specs.Row.{rowAt, putRow, isRow, inRows}
+use Rattle.rows.specs.Common.{openedIn}
+use Rattle.rows.proofs.AgreeLaws.{common-row, station-row, elsewhere}
+use Rattle.rows.proofs.RowLaws.{row-sound, putRow-none, putRow-only, rowAt-putRow-same, rowAt-putRow-other}
+use Rattle.rows.proofs.OpeningLaws.{opened-tells, opened-room}
+use Rattle.rows.proofs.UnseenLaws.{reads-unseen}
+use Rattle.trees.specs.Row.{Row, spareRow, removedRow, leafRow, cutRow, Heap}
+use Rattle.history.specs.View.{countsAt, seatAt, wordRow, Reads, heapPut, Written}
+use Rattle.history.proofs.Frame.{seat-same, counts-agree, place-agree}
+
+-- a row in range is written over a heap
+pub reads-put : (words : List ℕ) (places limit : ℕ) (h : Heap) (r : ℕ) (row : Row) → openedIn words ≡ Opened places limit → r < 2 * places → inRows (2 * places) (wordRow row) ≡ true
+    → Reads words (2 * places) h → Reads (putRow words r (wordRow row)) (2 * places) (heapPut h r row)
+unfolding heapPut
+reads-put words places limit h r row o l e w q k = go (eqb q r) refl
+  where
+    room : Room words (2 * places)
+    room = opened-room words places limit (opened-tells words places limit o)
+
+    go : (b : Bool) → eqb q r ≡ b → rowAt (putRow words r (wordRow row)) (2 * places) q ≡ wordRow (elim b [ true ↦ row | false ↦ h q ])
+    go true f = rw (eqb-true q r f) (rowAt-putRow-same words r (wordRow row) (2 * places) room l e)
+    go false f = rowAt-putRow-other words r (wordRow row) (2 * places) q (eqb-false q r f) ∙ w q k
+
+-- writing at none writes nothing
+pub put-none : (words : List ℕ) (row : WordRow) → putRow words NONE row ≡ words
+put-none words row = putRow-none words row
+
+-- a row written leaves the counts and the seats
+pub row-written : (words : List ℕ) (r : ℕ) (row : WordRow) → Written words (putRow words r row) (countsAt words) (λ s. seatAt words s)
+row-written words r row =
+    let only = putRow-only words r row in
+    let common = elsewhere (inRow r) inCommon only (common-row r) in
+    record {
+      opened = reads-unseen (inRow r) inCommon only (common-row r) .opened;
+      counted = counts-agree common;
+      seated = λ s l. seat-same (putRow words r row) words s (place-agree common s l) (reads-unseen (inRow r) (inStation s) only (station-row s r));
+    }
+
+-- a row of a heap is a row
+is-row : (row : Row) → isRow (wordRow row) ≡ true
+is-row (spareRow next n) = refl
+is-row (removedRow next n e) = refl
+is-row (leafRow parent e) = refl
+is-row (cutRow parent k l r) = refl
+
+-- every row that the words read is in range
+pub reads-in : (words : List ℕ) (rows : ℕ) (h : Heap) (r : ℕ) → r < rows → Reads words rows h → inRows rows (wordRow (h r)) ≡ true
+reads-in words rows h r l w = rw (w r l) at (row-sound words rows r (rw (w r l) (is-row (h r))))

@@ -1,0 +1,119 @@
+-- Rows with another link: as the words have them they are the rows that the trees have, and they stay in range.
+use Prim.Native.Nat.{ℕ, _<_}
+use mathlib.Core.Path.{_≡_, refl, sym, _∙_}
+use mathlib.Core.Logic.{_⊎_, inl, inr}
+use mathlib.Core.Bool.{Bool, true, false, cond, _&&_}
+use mathlib.Core.Option.{Option, none, some}
+use lib.Dec.{eqb, ltb}
+use borrow.Author.Tests.{lt-ltb}
+use Rattle.points.specs.declared.cut.Cut.{Cut as PointCut}
+use Rattle.points.specs.Point.{inRange}
+use Rattle.points.specs.Word.{NONE, cutInRange}
+use Rattle.points.proofs.Tests.{and-l, and-r, and-i}
+use Rattle.rows.specs.Range.{linkIn, curveIn}
+use Rattle.rows.specs.Row.{inRows}
+use Rattle.rows.proofs.RangeLaws.{link-row}
+use Rattle.rows.proofs.RowLaws.{in-rows-spare, in-rows-removed, in-rows-leaf, in-rows-cut}
+use Rattle.trees.specs.Row.{Entry, Row, pickRow, removedRow, leafRow, cutRow, Heap, setParent, setNext, replaceChild}
+use Rattle.trees.specs.Tree.{Tree}
+use Rattle.trees.specs.Queue.{Free, keptRow, freeRow}
+use Rattle.trees.specs.Reads.{LeafAt, CutAt}
+use Rattle.steps.specs.Link.{withNext, withParent, replaced}
+use Rattle.history.specs.View.{wordRow}
+
+-- a free row with another next link
+pub next-words : (x : ℕ) (row : Row) (f : Free) → row ≡ freeRow NONE f → withNext x (wordRow row) ≡ wordRow (setNext x row)
+next-words x row f e = rw e (go (f .kept))
+  where
+    go : (o : Option Entry) → withNext x (wordRow (keptRow NONE (f .freed) o)) ≡ wordRow (setNext x (keptRow NONE (f .freed) o))
+    go none = refl
+    go (some d) = refl
+
+pub next-in : (rows x : ℕ) (row : Row) (f : Free) → row ≡ freeRow NONE f → x < rows → inRows rows (wordRow row) ≡ true → inRows rows (wordRow (setNext x row)) ≡ true
+next-in rows x row f e l i = rw e (go (f .kept) (rw e at i))
+  where
+    go : (o : Option Entry) → inRows rows (wordRow (keptRow NONE (f .freed) o)) ≡ true → inRows rows (wordRow (setNext x (keptRow NONE (f .freed) o))) ≡ true
+    go none j = in-rows-spare rows x (f .freed) ∙ link-row rows x l
+    go (some d) j =
+        let k : ((linkIn rows NONE && inRange (d .point)) && curveIn (d .curve)) ≡ true = sym (in-rows-removed rows NONE (f .freed) (d .added) (d .point) (d .curve)) ∙ j in
+        let both : (linkIn rows NONE && inRange (d .point)) ≡ true = and-l (linkIn rows NONE && inRange (d .point)) (curveIn (d .curve)) k in
+        in-rows-removed rows x (f .freed) (d .added) (d .point) (d .curve)
+        ∙ and-i (and-i (link-row rows x l) (and-r (linkIn rows NONE) (inRange (d .point)) both)) (and-r (linkIn rows NONE && inRange (d .point)) (curveIn (d .curve)) k)
+
+-- a leaf as a removed row
+pub freed-in : (rows link n : ℕ) (e : Entry) → inRows rows (wordRow (leafRow link e)) ≡ true → inRows rows (wordRow (removedRow link n e)) ≡ true
+freed-in rows link n e i = in-rows-removed rows link n (e .added) (e .point) (e .curve) ∙ sym (in-rows-leaf rows link (e .added) (e .point) (e .curve)) ∙ i
+
+-- a leaf in range has a link, a point and a curve in range
+pub record LeafIn (rows link : ℕ) (e : Entry) : Type 0 where
+  pub link-in : linkIn rows link ≡ true
+  pub point-in : inRange (e .point) ≡ true
+  pub curve-in : curveIn (e .curve) ≡ true
+
+pub leaf-tells : (rows link : ℕ) (e : Entry) → inRows rows (wordRow (leafRow link e)) ≡ true → LeafIn rows link e
+leaf-tells rows link e i =
+    let a = linkIn rows link in
+    let b = inRange (e .point) in
+    let c = curveIn (e .curve) in
+    let two : ((a && b) && c) ≡ true = sym (in-rows-leaf rows link (e .added) (e .point) (e .curve)) ∙ i in
+    let one : (a && b) ≡ true = and-l (a && b) c two in
+    record { link-in = and-l a b one; point-in = and-r a b one; curve-in = and-r (a && b) c two }
+
+pub leaf-of : (rows link : ℕ) (e : Entry) → LeafIn rows link e → inRows rows (wordRow (leafRow link e)) ≡ true
+leaf-of rows link e c = in-rows-leaf rows link (e .added) (e .point) (e .curve) ∙ and-i (and-i (c .link-in) (c .point-in)) (c .curve-in)
+
+-- a leaf with another parent link
+pub leaf-in : (rows x link : ℕ) (e : Entry) → linkIn rows x ≡ true → inRows rows (wordRow (leafRow link e)) ≡ true → inRows rows (wordRow (leafRow x e)) ≡ true
+leaf-in rows x link e l i = let c = leaf-tells rows link e i in leaf-of rows x e (record { link-in = l; point-in = c .point-in; curve-in = c .curve-in })
+
+-- a cut in range has a link, a cut and two rows in range
+pub record CutIn (rows link : ℕ) (k : PointCut) (left right : ℕ) : Type 0 where
+  pub link-in : linkIn rows link ≡ true
+  pub cut-in : cutInRange k ≡ true
+  pub left-in : ltb left rows ≡ true
+  pub right-in : ltb right rows ≡ true
+
+pub cut-tells : (rows link : ℕ) (k : PointCut) (left right : ℕ) → inRows rows (wordRow (cutRow link k left right)) ≡ true → CutIn rows link k left right
+cut-tells rows link k left right i =
+    let a = linkIn rows link in
+    let b = cutInRange k in
+    let c = ltb left rows in
+    let d = ltb right rows in
+    let three : (((a && b) && c) && d) ≡ true = sym (in-rows-cut rows link k left right) ∙ i in
+    let two : ((a && b) && c) ≡ true = and-l ((a && b) && c) d three in
+    let one : (a && b) ≡ true = and-l (a && b) c two in
+    record { link-in = and-l a b one; cut-in = and-r a b one; left-in = and-r (a && b) c two; right-in = and-r ((a && b) && c) d three }
+
+pub cut-of : (rows link : ℕ) (k : PointCut) (left right : ℕ) → CutIn rows link k left right → inRows rows (wordRow (cutRow link k left right)) ≡ true
+cut-of rows link k left right c = in-rows-cut rows link k left right ∙ and-i (and-i (and-i (c .link-in) (c .cut-in)) (c .left-in)) (c .right-in)
+
+-- a cut with a new child
+pub child-words : (old new link : ℕ) (k : PointCut) (x y : ℕ) → replaced old new (wordRow (cutRow link k x y)) ≡ wordRow (replaceChild old new (cutRow link k x y))
+child-words old new link k x y = go (eqb x old)
+  where
+    go : (b : Bool) → cond b (wordRow (cutRow link k new y)) (wordRow (cutRow link k x new)) ≡ wordRow (pickRow b (cutRow link k new y) (cutRow link k x new))
+    go true = refl
+    go false = refl
+
+pub child-in : (rows old new link : ℕ) (k : PointCut) (x y : ℕ) → new < rows → inRows rows (wordRow (cutRow link k x y)) ≡ true
+    → inRows rows (wordRow (replaceChild old new (cutRow link k x y))) ≡ true
+child-in rows old new link k x y l i = go (eqb x old)
+  where
+    c : CutIn rows link k x y
+    c = cut-tells rows link k x y i
+
+    go : (b : Bool) → inRows rows (wordRow (pickRow b (cutRow link k new y) (cutRow link k x new))) ≡ true
+    go true = cut-of rows link k new y (record { link-in = c .link-in; cut-in = c .cut-in; left-in = lt-ltb new rows l; right-in = c .right-in })
+    go false = cut-of rows link k x new (record { link-in = c .link-in; cut-in = c .cut-in; left-in = c .left-in; right-in = lt-ltb new rows l })
+
+-- a leaf or a cut with another parent link
+pub parent-words : {h : Heap} {t : Option Tree} (x link : ℕ) → LeafAt h t x ⊎ CutAt h t x → withParent link (wordRow (h x)) ≡ wordRow (setParent link (h x))
+parent-words x link (inl v) = rw (v .reads) refl
+parent-words x link (inr v) = rw (v .reads) refl
+
+pub parent-in : {h : Heap} {t : Option Tree} (rows x link : ℕ) → linkIn rows link ≡ true → LeafAt h t x ⊎ CutAt h t x → inRows rows (wordRow (h x)) ≡ true
+    → inRows rows (wordRow (setParent link (h x))) ≡ true
+parent-in rows x link l (inl v) i = rw (v .reads) (leaf-in rows link (v .parent) (v .entry) l (rw (v .reads) at i))
+parent-in rows x link l (inr v) i =
+    let c : CutIn rows (v .parent) (v .key) (v .left) (v .right) = cut-tells rows (v .parent) (v .key) (v .left) (v .right) (rw (v .reads) at i) in
+    rw (v .reads) (cut-of rows link (v .key) (v .left) (v .right) (record { link-in = l; cut-in = c .cut-in; left-in = c .left-in; right-in = c .right-in }))

@@ -1,0 +1,141 @@
+-- What the seats say of a table's stations is kept where changes and removals are the same (`says-kept`), and a slice with the same rows and
+-- counts is related again to a table that differs in its stations alone (`related-written`).
+use Prim.Native.Nat.{ℕ, _*_, _≤_, _<_}
+use mathlib.Core.Path.{_≡_, refl, sym, ap, _∙_, subst}
+use mathlib.Core.Logic.{inl, inr}
+use mathlib.Core.Bool.{Bool, true, false}
+use mathlib.Core.List.{List}
+use mathlib.Core.Option.{Option}
+use native.Mathlib.Omega.{arith}
+use lib.Dec.{eqb}
+use borrow.Author.Tests.{eqb-true, eqb-false, eq-eqb, ne-eqb}
+use Rattle.rows.specs.Layout.{atRemovals, atSince}
+use Rattle.rows.specs.Words.{get}
+use Rattle.rows.specs.Common.{leastSince}
+use Rattle.rows.proofs.TakenLaws.{least-removals}
+use Rattle.table.specs.Call.{Call, add, remove, contains, nearest, Answer}
+use Rattle.table.specs.Table.{Station, idle, unfinished, waiting, Table, put}
+use Rattle.table.proofs.Stations.{put-cases}
+use Rattle.trees.specs.Tree.{Tree}
+use Rattle.trees.specs.Queue.{Free}
+use Rattle.trees.proofs.Room.{store-release}
+use Rattle.history.specs.View.{Counts, Seat, countsAt, placeAt, seatAt, seatPut, SameRows, Written}
+use Rattle.history.specs.Related.{Works, Says, Related}
+
+-- ---- the same table but for its stations
+
+-- two tables that differ in their stations and the number of calls alone
+pub record Alike (t t′ : Table) : Type 0 where
+  pub places : t′ .places ≡ t .places
+  pub limit : t′ .limit ≡ t .limit
+  pub held : t′ .held ≡ t .held
+  pub changes : t′ .changes ≡ t .changes
+  pub removals : t′ .removals ≡ t .removals
+
+module _ (t t′ : Table) (changes : t′ .changes ≡ t .changes) (removals : t′ .removals ≡ t .removals) (tree : Option Tree) (queue : List Free) (seat : Seat) where
+  -- an unfinished call goes on as before
+  works-kept : (i : ℕ) (c : Call) (o : Option Answer) → Works t tree queue seat i c o → Works t′ tree queue seat i c o
+  works-kept i (add p c) o w = w
+  works-kept i (remove p) o w = w
+  works-kept i (contains p) o w = w
+  works-kept i (nearest p) o w = record {
+    since = rw removals (w .since);
+    entries = w .entries;
+    once = w .once;
+    ranged = w .ranged;
+    search = rw (changes, removals) (w .search);
+    answer = w .answer;
+  }
+
+  -- a seat says the same of another table with these changes and removals
+  pub says-kept : (x : Station) → Says t tree queue seat x → Says t′ tree queue seat x
+  says-kept idle b = b
+  says-kept (waiting a) b = b
+  says-kept (unfinished i c o) b = record {
+    state = b .state;
+    kind = b .kind;
+    point = b .point;
+    curve = b .curve;
+    ranged = b .ranged;
+    fits = b .fits;
+    asof = rw changes (b .asof);
+    kept = b .kept;
+    phase = b .phase;
+    works = works-kept i c o (b .works);
+  }
+
+-- ---- one seat anew
+
+-- the seat put, and the others
+pub seat-put-same : (seats : ℕ → Seat) (s : ℕ) (x : Seat) → seatPut seats s x s ≡ x
+unfolding seatPut
+seat-put-same seats s x = rw (eq-eqb s s refl, seatPut)
+
+pub seat-put-other : (seats : ℕ → Seat) (s u : ℕ) (x : Seat) → ¬ (u ≡ s) → seatPut seats s x u ≡ seats u
+unfolding seatPut
+seat-put-other seats s u x n = rw (ne-eqb u s n, seatPut)
+
+-- what agrees for the seat put agrees for all
+pub seat-put-agrees : {A : Type 0} (g : Seat → A) (seats : ℕ → Seat) (s : ℕ) (x : Seat) → g x ≡ g (seats s) → (u : ℕ) → g (seatPut seats s x u) ≡ g (seats u)
+seat-put-agrees g seats s x e u = go (eqb u s) refl
+  where
+    go : (b : Bool) → eqb u s ≡ b → g (seatPut seats s x u) ≡ g (seats u)
+    go true q = let d : u ≡ s = eqb-true u s q in rw d (ap g (seat-put-same seats s x) ∙ e)
+    go false q = ap g (seat-put-other seats s u x (eqb-false u s q))
+
+-- what holds of the seat put and of the others before holds of all
+pub seat-put-each : (P : Seat → Type 0) (seats : ℕ → Seat) (s : ℕ) (x : Seat) → P x → (u : ℕ) → P (seats u) → P (seatPut seats s x u)
+seat-put-each P seats s x h u k = go (eqb u s) refl
+  where
+    go : (b : Bool) → eqb u s ≡ b → P (seatPut seats s x u)
+    go true q = let d : u ≡ s = eqb-true u s q in rw (d, seat-put-same seats s x) h
+    go false q = rw (seat-put-other seats s u x (eqb-false u s q)) k
+
+-- a seat and a station put anew: the others say what they said
+pub says-put : (t t′ : Table) → t′ .changes ≡ t .changes → t′ .removals ≡ t .removals → (tree : Option Tree) (queue : List Free) (seats : ℕ → Seat) (stations : ℕ → Station)
+    → ((u : ℕ) → u < 8 → Says t tree queue (seats u) (stations u)) → (s : ℕ) (x : Seat) (y : Station) → Says t′ tree queue x y
+    → (u : ℕ) → u < 8 → Says t′ tree queue (seatPut seats s x u) (put stations s y u)
+says-put t t′ changes removals tree queue seats stations says s x y b u l = elim (put-cases stations s u y) [
+  | inl w ↦
+      let v : seatPut seats s x u ≡ x = rw (w .0) (seat-put-same seats s x) in
+      subst (Says t′ tree queue (seatPut seats s x u)) (sym (w .1)) (subst (λ z. Says t′ tree queue z y) (sym v) b)
+  | inr w ↦
+      let v : Says t′ tree queue (seats u) (stations u) = says-kept t t′ changes removals tree queue (seats u) (stations u) (says u l) in
+      subst (Says t′ tree queue (seatPut seats s x u)) (sym (w .1)) (subst (λ z. Says t′ tree queue z (stations u)) (sym (seat-put-other seats s u x (w .0))) v)
+]
+
+-- ---- what was written
+
+module _ {words words′ : List ℕ} {counts : Counts} {seats : ℕ → Seat} (w : Written words words′ counts seats) where
+  -- a word of the common record as it was written
+  pub written-removals : get words′ atRemovals ≡ counts .removals
+  unfolding countsAt
+  written-removals = ap (λ (c : Counts). c .removals) (w .counted)
+
+  pub written-since : (s : ℕ) → s < 8 → get words′ (atSince s) ≡ seats s .place .since
+  unfolding seatAt placeAt
+  written-since s l = ap (λ (x : Seat). x .place .since) (w .seated s l)
+
+-- Where the rows and the counts are as they were, the table differs in its stations alone, no removal is awaited anew, and the seats say what
+-- the stations say, words and table are related again.
+pub related-written : {words words′ : List ℕ} {t t′ : Table} {seats : ℕ → Seat} (r : Related words t) → Written words words′ (countsAt words) seats → SameRows words words′ (2 * t .places)
+    → Alike t t′ → leastSince words ≤ leastSince words′ → ((s : ℕ) → s < 8 → Says t′ (r .tree) (r .queue) (seats s) (t′ .stations s)) → Related words′ t′
+related-written {words} {words′} {t} {t′} {seats} r w rows a le says = record {
+  opened = rw (a .places, a .limit) (w .opened ∙ r .opened);
+  heap = r .heap;
+  tree = r .tree;
+  queue = r .queue;
+  reads = rw (a .places) (λ i l. rows i l ∙ r .reads i l);
+  store = rw (a .places, a .changes, a .removals) (store-release le (omega (arith, least-removals words′, written-removals w, r .counted .removals)) (r .store));
+  counted = rw (w .counted) (record {
+    changes = rw (a .changes) (r .counted .changes);
+    held = r .counted .held;
+    root = r .counted .root;
+    head = r .counted .head;
+    tail = r .counted .tail;
+    removals = rw (a .removals) (r .counted .removals);
+  });
+  records = rw (a .held) (r .records);
+  number = rw (a .held) (r .number);
+  seats = λ s l. subst (λ x. Says t′ (r .tree) (r .queue) x (t′ .stations s)) (sym (w .seated s l)) (says s l);
+}

@@ -1,0 +1,114 @@
+-- The work of one step of a nearest call over words: no row is refused, and the invariant of the search is kept (`seek-words`).
+use Prim.Native.Nat.{ℕ, suc, _*_, _≤_, _<_}
+use mathlib.Core.Path.{_≡_, sym, _∙_, subst}
+use mathlib.Core.Logic.{_≢_, _⊎_, inl, inr}
+use mathlib.Core.Bool.{false, false≢true}
+use mathlib.Core.List.{List, [], _∷_}
+use mathlib.Core.Option.{Option, none, some}
+use native.Mathlib.Omega.{arith}
+use native.Mathlib.Decide.{ℕ-discrete}
+use borrow.Author.Tests.{eq-eqb}
+use Rattle.points.specs.Word.{NONE}
+use Rattle.points.proofs.Tests.{and-i}
+use Rattle.rows.specs.declared.call.Call.{Call}
+use Rattle.trees.specs.Row.{Entry, Heap}
+use Rattle.trees.specs.Tree.{Tree}
+use Rattle.trees.specs.Queue.{Free, Removal}
+use Rattle.trees.specs.Store.{Store}
+use Rattle.trees.specs.Stand.{Standing}
+use Rattle.trees.specs.Tour.{Progress, look, tour}
+use Rattle.trees.specs.Search.{Missing, Search}
+use Rattle.trees.specs.Measure.{searchLeft}
+use Rattle.trees.proofs.ChoiceOf.{choiceOf}
+use Rattle.trees.proofs.MissingLaws.{missing-in}
+use Rattle.trees.proofs.SearchMoves.{search-look, search-tour}
+use Rattle.steps.specs.declared.search.Progress.{Progress as WordProgress}
+use Rattle.steps.specs.Search.{look as lookWord, tour as tourWord, seek as seekWord, isFinished}
+use Rattle.history.specs.View.{Reads}
+use Rattle.history.proofs.ProgressWords.{viewOf, Fit, Shows, Keeps}
+use Rattle.history.proofs.LookWords.{look-words}
+use Rattle.history.proofs.TourWords.{tour-words}
+
+-- a search over words that no row refused, with the invariant of the search over rows that it is, and at most so many moves left
+pub record Seeks (call : Call) (since : ℕ) (Then : Entry → Type 0) (t : Option Tree) (q : List Free) (changes removals : ℕ) (p : WordProgress) (most : ℕ) : Type 0 where
+  pub fit : Fit p
+  pub search : Search (choiceOf (call .point)) (call .asof) since Then t q changes removals (viewOf p)
+  pub left : searchLeft search ≤ most
+
+-- what a move over rows comes to, and the move over words that shows it
+shown : {call : Call} {since : ℕ} {Then : Entry → Type 0} {t : Option Tree} {q : List Free} {changes removals most : ℕ} (p : WordProgress) (out : Option Progress) (to : Progress)
+    → Keeps p out → out ≡ some to → (v : Search (choiceOf (call .point)) (call .asof) since Then t q changes removals to) → searchLeft v ≤ most
+    → Seeks call since Then t q changes removals p most
+shown {call} {since} {Then} {t} {q} {changes} {removals} {most} p out to k e v l =
+    let w : Shows p to = k to e in
+    let z = subst (λ (x : Progress). (u : Search (choiceOf (call .point)) (call .asof) since Then t q changes removals x) × (searchLeft u ≤ most)) (sym (w .is)) (v, l) in
+    record { fit = w .fit; search = z .0; left = z .1 }
+
+module _ {places : ℕ} {h : Heap} {t : Option Tree} {q : List Free} {changes removals released : ℕ} (st : Store places h t q changes removals released) where
+  -- the cursor is none or a row
+  standing-row : (x : ℕ) → Standing t x → (x ≡ NONE) ⊎ (x < 2 * places)
+  standing-row x v = elim v [ inl e ↦ inl e | inr m ↦ inr (st .inside x m) ]
+
+  -- so is the missed row
+  missing-row : {since missed : ℕ} (rs : List Removal) → Missing q removals since missed rs → (missed ≡ NONE) ⊎ (missed < 2 * places)
+  missing-row [] v = inl (v .first)
+  missing-row (r ∷ rs) v = inr (rw (v .first) (st .free (r .row) (missing-in v)))
+
+  module _ (words : List ℕ) (reads : Reads words (2 * places) h) (call : Call) (since : ℕ) (Then : Entry → Type 0) where
+    abbrev Here : WordProgress → ℕ → Type 0
+    Here p most = Seeks call since Then t q changes removals p most
+
+    -- a look leaves no more, and less where a row was missed
+    look-shows : (p : WordProgress) (most : ℕ) → Fit p → (v : Search (choiceOf (call .point)) (call .asof) since Then t q changes removals (viewOf p))
+        → searchLeft (search-look st (viewOf p) v .search) ≤ most → Here (lookWord words (2 * places) call p) most
+    look-shows p most f v l =
+        let a = search-look st (viewOf p) v in
+        shown (lookWord words (2 * places) call p) (look (choiceOf (call .point)) (call .asof) h (viewOf p)) (a .to)
+        (look-words words (2 * places) h reads (st .fits) call p f (missing-row (v .rest) (v .missing))) (a .is) (a .search) l
+
+    look-seeks : (p : WordProgress) (most : ℕ) → Here p most → Here (lookWord words (2 * places) call p) most
+    look-seeks p most g = look-shows p most (g .fit) (g .search) (omega (arith, search-look st (viewOf p) (g .search) .fewer, g .left))
+
+    look-less : (p : WordProgress) (most : ℕ) → p .missed ≢ NONE → Here p (suc most) → Here (lookWord words (2 * places) call p) most
+    look-less p most n g = look-shows p most (g .fit) (g .search) (omega (arith, search-look st (viewOf p) (g .search) .less n, g .left))
+
+    -- a tour likewise, less where the cursor is a row
+    tour-shows : (p : WordProgress) (most : ℕ) → Fit p → (v : Search (choiceOf (call .point)) (call .asof) since Then t q changes removals (viewOf p))
+        → searchLeft (search-tour t st (viewOf p) v .search) ≤ most → Here (tourWord words (2 * places) call p) most
+    tour-shows p most f v l =
+        let a = search-tour t st (viewOf p) v in
+        shown (tourWord words (2 * places) call p) (tour (choiceOf (call .point)) (call .asof) h (viewOf p)) (a .to)
+        (tour-words words (2 * places) h reads call p f (standing-row (p .cursor) (v .stands))) (a .is) (a .search) l
+
+    tour-seeks : (p : WordProgress) (most : ℕ) → Here p most → Here (tourWord words (2 * places) call p) most
+    tour-seeks p most g = tour-shows p most (g .fit) (g .search) (omega (arith, search-tour t st (viewOf p) (g .search) .fewer, g .left))
+
+    tour-less : (p : WordProgress) (most : ℕ) → p .cursor ≢ NONE → Here p (suc most) → Here (tourWord words (2 * places) call p) most
+    tour-less p most n g = tour-shows p most (g .fit) (g .search) (omega (arith, search-tour t st (viewOf p) (g .search) .less n, g .left))
+
+    -- where nothing is missed a look changes nothing
+    look-none : (p : WordProgress) → p .missed ≡ NONE → lookWord words (2 * places) call p ≡ p
+    unfolding lookWord
+    look-none p e = rw (eq-eqb (p .missed) NONE e)
+
+    -- `look`, `tour`, `tour`: of a search that is not finished less is left
+    pub seek-words : (p : WordProgress) (most : ℕ) → isFinished p ≡ false → Here p (suc most) → Here (seekWord words (2 * places) call p) most
+    unfolding seekWord
+    seek-words p most f g = go (ℕ-discrete (p .missed) NONE) (ℕ-discrete (p .cursor) NONE)
+      where
+        looked : WordProgress
+        looked = lookWord words (2 * places) call p
+
+        go : Dec (p .missed ≡ NONE) → Dec (p .cursor ≡ NONE) → Here (tourWord words (2 * places) call (tourWord words (2 * places) call looked)) most
+        go (no n) d = tour-seeks (tourWord words (2 * places) call looked) most (tour-seeks looked most (look-less p most n g))
+        go (yes e) (no n) =
+            let same : looked ≡ p = look-none p e in
+            tour-seeks (tourWord words (2 * places) call looked) most (tour-less looked most (rw same n) (rw same g))
+        go (yes e) (yes d) = absurd (false≢true (sym f ∙ and-i (eq-eqb (p .cursor) NONE d) (eq-eqb (p .missed) NONE e)))
+
+    -- of any search no more is left
+    pub seek-keeps : (p : WordProgress) (most : ℕ) → Here p most → Here (seekWord words (2 * places) call p) most
+    unfolding seekWord
+    seek-keeps p most g =
+        tour-seeks (tourWord words (2 * places) call (lookWord words (2 * places) call p)) most
+        (tour-seeks (lookWord words (2 * places) call p) most (look-seeks p most g))

@@ -1,0 +1,221 @@
+-- An add that finds its point not held, a change left and room: the record is inserted, and the step answers 1 (`insert-outcome`).
+use Prim.Native.Nat.{ℕ, suc, _+_, _-_, _*_, _≤_, _<_}
+use mathlib.Core.Path.{_≡_, refl, sym, _∙_, ap, subst}
+use mathlib.Core.Logic.{_↔_, _⊎_, inl, inr}
+use mathlib.Core.Bool.{true}
+use mathlib.Core.List.{List, _∷_, map, List·Memᴰ, List·Memᴰ·head, List·Memᴰ·tail, List·Memᴰ·cases-cons, Memᴰ·map, Memᴰ·of-map}
+use mathlib.Core.Option.{Option, none, some}
+use native.Mathlib.Omega.{arith}
+use native.Mathlib.Numerals.{add-one}
+use lib.ListN.{length}
+use borrow.Author.Tests.{ne-eqb, lt-ltb}
+use Rattle.points.specs.declared.point.Point.{Point}
+use Rattle.points.specs.Word.{NONE}
+use Rattle.rows.specs.Layout.{atChanges, atHeld, atRoot, atTail, atRemovals}
+use Rattle.rows.specs.Words.{get}
+use Rattle.rows.specs.Common.{leastSince}
+use Rattle.rows.specs.Call.{callAt}
+use Rattle.rows.proofs.TakenLaws.{awaiting-is, taken-is}
+use Rattle.rows.proofs.RangeLaws.{curve-tells}
+use Rattle.rows.proofs.SoundLaws.{answer-of}
+use Rattle.table.specs.Record.{Record, Same, curveAt}
+use Rattle.table.specs.Call.{add, answer}
+use Rattle.table.specs.Table.{unfinished, waiting, Table, put, withStations, taken}
+use Rattle.table.proofs.Sound.{Sound}
+use Rattle.table.proofs.Eager.{Settled}
+use Rattle.table.proofs.Answers.{add-room, finished-change}
+use Rattle.trees.specs.Row.{Entry, Heap, leafRow, nextOf}
+use Rattle.trees.specs.Tree.{Tree, topOf, Holds, countOf, entriesOf}
+use Rattle.trees.specs.Queue.{headOf}
+use Rattle.trees.specs.Store.{Store}
+use Rattle.trees.specs.Route.{OnRoute}
+use Rattle.trees.specs.Reads.{Leaf}
+use Rattle.trees.specs.Insert.{leafOf, cutFor, Ends, OtherPoint, insertRoot, insertHead, Inserted}
+use Rattle.trees.proofs.ShapeLaws.{entries-held}
+use Rattle.trees.proofs.RouteLaws.{on-route-has}
+use Rattle.trees.proofs.Insert.{insert}
+use Rattle.steps.specs.declared.insert.Room.{Room}
+use Rattle.steps.specs.Reply.{more}
+use Rattle.steps.specs.Answer.{answer as given, answeredWords}
+use Rattle.steps.specs.Insert.{roomAt, roomSound, insertRoot as rootAfter, insertHead as headAfter, insertRows, insertCounts, cursorsMoved, insertWords, insertOf}
+use Rattle.history.specs.View.{Counts, Seat, countsAt, seatAt}
+use Rattle.history.specs.Related.{recordOf, Busy, Related}
+use Rattle.history.proofs.Readings.{added-change, addedTable, changed-add}
+use Rattle.history.proofs.Effects.{movedCursor, insert-written, insert-same-rows}
+use Rattle.history.proofs.RelatedLaws.{related-is-open, removals-word, related-busy, related-taken}
+use Rattle.history.proofs.Outcome.{Outcome, ends}
+use Rattle.history.proofs.OwnSeat.{least-same, least-seat, related-answered}
+use Rattle.history.proofs.OtherSeats.{says-insert}
+use Rattle.history.proofs.RowWrites.{Holding, held-first}
+use Rattle.history.proofs.InsertRows.{next-word, Finds, beside-finds, besideRoom, room-beside, sound-beside, beside-writes, alone-finds, aloneRoom, room-alone, sound-alone, alone-writes}
+
+-- ---- counts and records
+
+more-next : (x n : ℕ) → x ≡ n → n < NONE → more x ≡ suc n
+unfolding more
+more-next x n e l = rw (e, lt-ltb n NONE l) (omega arith)
+
+-- the records of a tree with one entry more
+records-insert : (tree tree′ : Option Tree) (new : Entry) (held : List Record) → Same (map recordOf (entriesOf tree)) held
+    → ((e : Entry) → Holds tree′ e ↔ (Holds tree e ⊎ (e ≡ new))) → Same (map recordOf (entriesOf tree′)) (recordOf new ∷ held)
+records-insert tree tree′ new held same holds r = (forth, back)
+  where
+    forth : List·Memᴰ r (map recordOf (entriesOf tree′)) → List·Memᴰ r (recordOf new ∷ held)
+    forth m =
+        let u = Memᴰ·of-map recordOf (entriesOf tree′) m in
+        elim (holds (u .0) .0 (entries-held tree′ (u .0) .0 (u .1))) [
+          | inl n ↦ List·Memᴰ·tail (same r .0 (subst (λ (x : Record). List·Memᴰ x (map recordOf (entriesOf tree))) (u .2) (Memᴰ·map recordOf (entries-held tree (u .0) .1 n))))
+          | inr e ↦ List·Memᴰ·head (sym (u .2) ∙ ap recordOf e)
+        ]
+
+    back : List·Memᴰ r (recordOf new ∷ held) → List·Memᴰ r (map recordOf (entriesOf tree′))
+    back m = elim (List·Memᴰ·cases-cons m) [
+      | inl e ↦ subst (λ (x : Record). List·Memᴰ x (map recordOf (entriesOf tree′))) (sym e) (Memᴰ·map recordOf (entries-held tree′ new .1 (holds new .1 (inr refl))))
+      | inr n ↦
+          let u = Memᴰ·of-map recordOf (entriesOf tree) (same r .1 n) in
+          subst (λ (x : Record). List·Memᴰ x (map recordOf (entriesOf tree′))) (u .2)
+          (Memᴰ·map recordOf (entries-held tree′ (u .0) .1 (holds (u .0) .1 (inl (entries-held tree (u .0) .0 (u .1))))))
+    ]
+
+-- ---- the relation after an insert
+
+-- the words after an insert, given what was read, what is written and what that makes of tree and queue
+related-inserted : {words : List ℕ} {t : Table} {h′ : Heap} {a b : ℕ} {new : Entry} (place : Option Leaf) (room : Room) → Sound t → Settled t → (r : Related words t)
+    → new .added ≡ more (get words atChanges) → t .changes < NONE → countOf (r .tree) < NONE
+    → (leafOf place ≡ NONE → cutFor place b ≡ NONE) → room .at ≡ leafOf place → room .second ≡ cutFor place b
+    → rootAfter room (get words atRoot) ≡ insertRoot place a b (topOf (r .tree)) → headAfter room ≡ insertHead (r .heap) place a b
+    → Holding (cursorsMoved (room .at) (room .second) 8 (insertCounts words room))
+    (insertRows (cursorsMoved (room .at) (room .second) 8 (insertCounts words room)) room (new .added) (new .point) (new .curve)) (t .places) (t .limit) h′
+    → Inserted (t .places) (r .heap) h′ (r .tree) (r .queue) (t .changes) (length (t .removals)) (leastSince words) new place a b
+    → Related (insertWords words room (new .point) (new .curve)) (addedTable t (new .point) (new .curve))
+unfolding countsAt insertWords
+related-inserted {words} {t} {h′} {a} {b} {new} place room sound settled r number below few still at second root head v w =
+    rw (← number) record {
+      opened = v .opened;
+      heap = h′;
+      tree = w .tree;
+      queue = w .queue;
+      reads = v .reads;
+      store = rw (add-one (t .changes), least) (w .store);
+      counted = rw counts (record {
+        changes = more-next (get words atChanges) (t .changes) (r .counted .changes) below ∙ sym (add-one (t .changes));
+        held = more-next (get words atHeld) (countOf (r .tree)) (r .counted .held) few ∙ sym (w .count);
+        root = root ∙ sym (w .root);
+        head = head ∙ sym (w .head);
+        tail = r .counted .tail ∙ sym (w .tail);
+        removals = r .counted .removals;
+      });
+      records = records-insert (r .tree) (w .tree) new (t .held) (r .records) (w .holds);
+      number = w .count ∙ ap suc (r .number);
+      seats = λ s l. rw (seated s l, at, second) (says-insert t (addedTable t (new .point) (new .curve)) w (add-one (t .changes)) refl (seatAt words s) (t .stations s) (least-seat words s l) still (settled s l) (r .seats s l));
+    }
+  where
+    base : List ℕ
+    base = cursorsMoved (room .at) (room .second) 8 (insertCounts words room)
+
+    written : List ℕ
+    written = insertRows base room (new .added) (new .point) (new .curve)
+
+    counts : countsAt written ≡ record {
+      changes = more (get words atChanges);
+      held = more (get words atHeld);
+      root = rootAfter room (get words atRoot);
+      head = headAfter room;
+      tail = get words atTail;
+      removals = get words atRemovals;
+    }
+    counts = v .written .counted ∙ insert-written words (t .places) (t .limit) (r .opened) room .counted
+
+    seated : (s : ℕ) → s < 8 → seatAt written s ≡ movedCursor (room .at) (room .second) (seatAt words s)
+    seated s l = v .written .seated s l ∙ insert-written words (t .places) (t .limit) (r .opened) room .seated s l
+
+    least : leastSince written ≡ leastSince words
+    least = least-same words written (ap (λ (c : Counts). c .removals) counts) (λ s l. ap (λ (x : Seat). x .place .since) (seated s l))
+
+-- ---- the step
+
+module _ {words : List ℕ} {t : Table} (r : Related words t) (sound : Sound t) where
+  -- the changes fit a word with room to spare
+  changes-word : t .changes ≤ 4000000000
+  changes-word = omega (arith, sound .spent, related-is-open r .limit-most)
+
+  -- with a place free there is room in the queue
+  related-room : ¬ (taken t ≡ t .places) → countOf (r .tree) + (length (t .removals) - leastSince words) < t .places
+  unfolding countsAt
+  related-room n = omega (arith, n, sound .room, related-taken r sound, taken-is words, awaiting-is words, r .counted .held, r .counted .removals)
+
+module _ {words : List ℕ} {t : Table} {s i : ℕ} {p : Point} {c : ℕ} (sound : Sound t) (settled : Settled t) (l : s < 8) (q : t .stations s ≡ unfinished i (add p c) none) (r : Related words t) (free : curveAt p (t .held) ≡ none)
+    (left : ¬ (t .changes ≡ t .limit)) (place-left : ¬ (taken t ≡ t .places)) where
+  busy : Busy t (r .tree) (r .queue) (seatAt words s) i (add p c) none
+  busy = related-busy r l q
+
+  -- once the record is inserted the answer waits
+  inserted-outcome : {n : ℕ} (at : ℕ) (room : Room) → roomAt words (2 * t .places) at ≡ room → roomSound room ≡ true → Related (insertWords words room p c) (addedTable t p c)
+      → Outcome t s (add p c) none n (insertOf words (2 * t .places) s (callAt words s) at)
+  unfolding insertOf seatAt
+  inserted-outcome at room e ok v =
+      rw (e, ok, busy .point, busy .curve)
+      (ends refl (subst (λ (u : Table). Related (answeredWords (insertWords words room p c) s (given 1 p c 0)) u)
+      (sym (finished-change t s (add p c) (answer 1 p c 0) (add-room t p c free left place-left) (added-change p c) ∙ ap (λ (u : Table). withStations u (put (t .stations) s (waiting (answer 1 p c 0)))) (changed-add t p c)))
+      (related-answered s l v (given 1 p c 0) (omega (arith, removals-word r sound))
+      (answer-of (given 1 p c 0) (record { code-least = omega arith; code-most = omega arith; point = busy .ranged; curve = curve-tells c (busy .fits) .1; square = omega arith })))))
+
+  abbrev entry : Entry
+  entry = record { point = p; curve = c; added = more (get words atChanges) }
+
+  entry-number : more (get words atChanges) ≡ suc (t .changes)
+  unfolding countsAt
+  entry-number = more-next (get words atChanges) (t .changes) (r .counted .changes) (omega (arith, changes-word r sound))
+
+  -- the slice with the counts and cursors of the insert has the same rows
+  begun : (room : Room) → let base : List ℕ = cursorsMoved (room .at) (room .second) 8 (insertCounts words room) in Holding base base (t .places) (t .limit) (r .heap)
+  begun room =
+      held-first (cursorsMoved (room .at) (room .second) 8 (insertCounts words room)) (t .places) (t .limit) (r .heap)
+      (insert-written words (t .places) (t .limit) (r .opened) room .opened ∙ r .opened)
+      (λ x lx. insert-same-rows words (t .places) (t .limit) (r .opened) room x lx ∙ r .reads x lx)
+
+  few : countOf (r .tree) < NONE
+  few = omega (arith, related-room r sound place-left, related-is-open r .places-most)
+
+  -- into the empty tree
+  alone-outcome : {n : ℕ} → r .tree ≡ none → Outcome t s (add p c) none n (insertOf words (2 * t .places) s (callAt words s) NONE)
+  unfolding countsAt rootAfter headAfter
+  alone-outcome e =
+      let h : Heap = r .heap in
+      let a : ℕ = headOf (r .queue) in
+      let f = alone-finds (subst (λ (x : Option Tree). Store (t .places) h x (r .queue) (t .changes) (length (t .removals)) (leastSince words)) e (r .store)) (omega (arith, related-room r sound place-left)) in
+      let w = alone-writes words (t .places) h a (f .0) (r .reads) (r .store .fits) entry (busy .ranged) (busy .fits) (begun (aloneRoom h a)) in
+      let v : Inserted (t .places) h (w .0) (r .tree) (r .queue) (t .changes) (length (t .removals)) (leastSince words) entry none a (nextOf (h a)) =
+      insert (w .0) entry (r .tree) none (r .store) (related-room r sound place-left) e tt (busy .ranged) entry-number (w .2) in
+      inserted-outcome NONE (aloneRoom h a) (room-alone words (t .places) h a (f .0) (r .reads) (r .store .fits) (r .counted .head))
+      (sound-alone words (t .places) h a (f .0) (r .reads) (r .store .fits) (f .1))
+      (related-inserted none (aloneRoom h a) sound settled r refl (omega (arith, changes-word r sound)) few (λ d. refl) refl refl refl (next-word (h a)) (w .1) v)
+
+  -- beside a leaf
+  beside-outcome : {n : ℕ} (leaf : Leaf) → OnRoute (r .tree) p (leaf .row) → r .heap (leaf .row) ≡ leafRow (leaf .parent) (leaf .entry) → ¬ (p ≡ leaf .entry .point)
+      → Outcome t s (add p c) none n (insertOf words (2 * t .places) s (callAt words s) (leaf .row))
+  unfolding countsAt rootAfter headAfter
+  beside-outcome leaf on reads other =
+      let h : Heap = r .heap in
+      let a : ℕ = headOf (r .queue) in
+      let b : ℕ = nextOf (h a) in
+      let f : Finds (t .places) h a b leaf = finds (r .tree) (r .store) (related-room r sound place-left) on in
+      let room : Room = besideRoom words (2 * t .places) h a b leaf in
+      let there : ¬ (leaf .row ≡ NONE) = λ d. omega (arith, d, f .leaf-row, r .store .fits) in
+      let w = beside-writes words f (r .reads) (r .store .fits) entry (busy .ranged) (busy .fits) (begun room) in
+      let v : Inserted (t .places) h (w .0) (r .tree) (r .queue) (t .changes) (length (t .removals)) (leastSince words) entry (some leaf) a b =
+      insert (w .0) entry (r .tree) (some leaf) (r .store) (related-room r sound place-left) (on, reads) other (busy .ranged) entry-number (w .2) in
+      inserted-outcome (leaf .row) room (room-beside words f (r .reads) (r .store .fits) (r .counted .head)) (sound-beside words f (r .reads) (r .store .fits))
+      (related-inserted (some leaf) room sound settled r refl (omega (arith, changes-word r sound)) few (λ d. absurd (there d)) refl refl (rw (ne-eqb (leaf .row) NONE there, r .counted .root)) (rw (ne-eqb (leaf .row) NONE there) (next-word (h b))) (w .1) v)
+    where
+      finds : (tree : Option Tree) → Store (t .places) (r .heap) tree (r .queue) (t .changes) (length (t .removals)) (leastSince words)
+          → countOf tree + (length (t .removals) - leastSince words) < t .places → OnRoute tree p (leaf .row)
+          → Finds (t .places) (r .heap) (headOf (r .queue)) (nextOf (r .heap (headOf (r .queue)))) leaf
+      finds none store lt o = absurd o
+      finds (some tree) store lt o = beside-finds leaf store lt (on-route-has (some tree) p (leaf .row) o) reads
+
+  -- The record is inserted where the walk of its point ended.
+  pub insert-outcome : {n : ℕ} (place : Option Leaf) → Ends (r .heap) (r .tree) p place → OtherPoint p place
+      → Outcome t s (add p c) none n (insertOf words (2 * t .places) s (callAt words s) (leafOf place))
+  insert-outcome none e o = alone-outcome e
+  insert-outcome (some leaf) e o = beside-outcome leaf (e .0) (e .1) o

@@ -1,0 +1,233 @@
+-- A step of a nearest call: it goes on, or it ends with the answer that was set down for it (`search-outcome`).
+use Prim.Native.Nat.{ℕ, suc, pred, _*_, _≤_, _<_}
+use mathlib.Core.Path.{_≡_, refl, sym, _∙_, ap, subst}
+use mathlib.Core.Logic.{_⊎_, inl, inr}
+use mathlib.Core.Bool.{Bool, true, false, false≢true}
+use mathlib.Core.List.{List, map, List·Memᴰ}
+use mathlib.Core.Option.{Option, some}
+use native.Mathlib.Omega.{arith}
+use native.Mathlib.Decide.{ℕ-discrete}
+use lib.Dec.{eqb}
+use lib.ListN.{length}
+use borrow.Author.Tests.{eq-eqb}
+use Rattle.points.specs.declared.point.Point.{Point}
+use Rattle.points.specs.Point.{inRange}
+use Rattle.points.specs.Word.{NONE}
+use Rattle.points.proofs.Tests.{and-l, and-r, and-i}
+use Rattle.rows.specs.declared.call.Call.{Call}
+use Rattle.rows.specs.declared.answer.Answer.{Answer as WordAnswer}
+use Rattle.rows.specs.Layout.{atSince}
+use Rattle.rows.specs.Words.{get}
+use Rattle.rows.specs.Common.{leastSince}
+use Rattle.rows.specs.Call.{callAt}
+use Rattle.rows.specs.Answer.{answerSound}
+use Rattle.rows.proofs.OpeningLaws.{opened-tells}
+use Rattle.rows.proofs.TakenLaws.{least-removals, least-since}
+use Rattle.table.specs.Record.{nearestOf}
+use Rattle.table.specs.Call.{nearest, Answer, nearestAnswer}
+use Rattle.table.specs.Table.{Station, unfinished, waiting, Table, put}
+use Rattle.table.proofs.Sound.{Sound, removals-changes}
+use Rattle.table.proofs.Stations.{put-same, put-other}
+use Rattle.table.proofs.Simulation.{finished}
+use Rattle.trees.specs.Row.{Entry, Heap}
+use Rattle.trees.specs.Tree.{Tree}
+use Rattle.trees.specs.Queue.{Free}
+use Rattle.trees.specs.Store.{Store}
+use Rattle.trees.specs.Choice.{Choice}
+use Rattle.trees.specs.Tour.{Progress, finished as finishedTree}
+use Rattle.trees.specs.Search.{Search, Nearest}
+use Rattle.trees.specs.Measure.{searchLeft}
+use Rattle.trees.proofs.ChoiceOf.{choiceOf}
+use Rattle.trees.proofs.SearchLaws.{search-seek, search-finish}
+use Rattle.steps.specs.declared.search.Progress.{Progress as WordProgress}
+use Rattle.steps.specs.Answer.{answeredWords}
+use Rattle.steps.specs.Reply.{done, ask}
+use Rattle.steps.specs.Search.{look, tour, seek, progressAt, isFinished, foundAnswer, keptWords, pickWords, searchWords, searchTo, searchOf}
+use Rattle.history.specs.Index.{answerOf}
+use Rattle.history.specs.View.{Seat, countsAt, placeAt, seatAt, seatPut, progressOf, noPlace}
+use Rattle.history.specs.Related.{recordOf, Busy, Searching, Waits, Says, Related}
+use Rattle.history.proofs.Effects.{answer-written, answer-rows, kept-written, kept-rows}
+use Rattle.history.proofs.Outcome.{LeftSays, Left, Outcome, goesOn, ends}
+use Rattle.history.proofs.ProgressWords.{viewOf}
+use Rattle.history.proofs.SeekLaws.{Seeks, seek-words, seek-keeps}
+use Rattle.history.proofs.SaysLaws.{seat-put-same}
+use Rattle.history.proofs.SeatLaws.{related-seat}
+use Rattle.history.proofs.FoundAnswer.{found-is, found-sound}
+
+-- the seat of a search that goes on
+abbrev keptSeat : Seat → WordProgress → Seat
+keptSeat seat g = record {
+  place = record { cursor = g .cursor; phase = g .phase; since = seat .place .since; missed = g .missed };
+  state = seat .state;
+  call = record { kind = seat .call .kind; point = seat .call .point; curve = seat .call .curve; asof = seat .call .asof; best = g .best };
+  answer = seat .answer;
+}
+
+-- the seat of a search that ends
+abbrev endedSeat : Seat → WordAnswer → Seat
+endedSeat seat x = record { place = noPlace; state = 2; call = seat .call; answer = x }
+
+module _ {words : List ℕ} {t : Table} {s i : ℕ} {p : Point} {a : Answer} (h : Sound t) (l : s < 8) (q : t .stations s ≡ unfinished i (nearest p) (some a)) (r : Related words t)
+    (work : Searching t (r .tree) (r .queue) (seatAt words s) i p (some a)) where
+  busy : Busy t (r .tree) (r .queue) (seatAt words s) i (nearest p) (some a)
+  busy = subst (λ (x : Station). Says t (r .tree) (r .queue) (seatAt words s) x) q (r .seats s l)
+
+  -- the records held at the submission
+  abbrev entries : List Entry
+  entries = work .entries
+
+  -- what holds of the progress of the call's search before its moves and after them
+  abbrev Sought : WordProgress → ℕ → Type 0
+  Sought g m = Seeks (callAt words s) (get words (atSince s)) (λ e. List·Memᴰ e entries) (r .tree) (r .queue) (t .changes) (length (t .removals)) g m
+
+  -- the search of one target as that of another that is the same, with the moves left
+  abbrev Sighted : Point → Progress → ℕ → Type 0
+  Sighted x g m =
+      (v : Search (choiceOf x) (callAt words s .asof) (get words (atSince s)) (λ e. List·Memᴰ e entries) (r .tree) (r .queue) (t .changes) (length (t .removals)) g)
+      × (searchLeft v ≤ m)
+
+  -- before the step
+  begins : (n : ℕ) → searchLeft (work .search) ≤ n → Sought (progressAt words s (callAt words s)) n
+  unfolding seatAt placeAt progressAt
+  begins n f =
+      let z = subst (λ (x : Point). Sighted x (progressOf (seatAt words s)) n) (sym (busy .point)) (work .search, f) in
+      record { fit = record { sound = refl; phase = busy .phase; best = busy .kept }; search = z .0; left = z .1 }
+
+  module _ (g : WordProgress) (m : ℕ) (v : Sought g m) where
+    -- it goes on
+    sighted : Sighted p (viewOf g) m
+    unfolding seatAt
+    sighted = subst (λ (x : Point). Sighted x (viewOf g) m) (busy .point) (v .search, v .left)
+
+    kept-works : Searching t (r .tree) (r .queue) (keptSeat (seatAt words s) g) i p (some a)
+    unfolding seatAt placeAt
+    kept-works = record { since = work .since; entries = work .entries; once = work .once; ranged = work .ranged; search = sighted .0; answer = work .answer }
+
+    kept-busy : Busy t (r .tree) (r .queue) (keptSeat (seatAt words s) g) i (nearest p) (some a)
+    kept-busy = record {
+      state = busy .state;
+      kind = busy .kind;
+      point = busy .point;
+      curve = busy .curve;
+      ranged = busy .ranged;
+      fits = busy .fits;
+      asof = busy .asof;
+      kept = v .fit .best;
+      phase = v .fit .phase;
+      works = kept-works;
+    }
+
+    kept-seat : seatAt (keptWords words s g) s ≡ keptSeat (seatAt words s) g
+    unfolding seatAt placeAt
+    kept-seat = kept-written words (t .places) (t .limit) (r .opened) s l g (v .fit .best) .seated s l ∙ seat-put-same (λ u. seatAt words u) s (keptSeat (seatAt words s) g)
+
+    kept-related : Related (keptWords words s g) t
+    unfolding seatAt placeAt
+    kept-related =
+        related-seat words (keptWords words s g) t (t .stations) s (keptSeat (seatAt words s) g) r (kept-written words (t .places) (t .limit) (r .opened) s l g (v .fit .best))
+        (kept-rows words (t .places) (t .limit) (r .opened) s l g) (least-since words s l) (λ u n. refl)
+        (subst (λ (x : Station). Says t (r .tree) (r .queue) (keptSeat (seatAt words s) g) x) (sym q) kept-busy)
+
+    kept-left : Left (keptWords words s g) t s m
+    unfolding kept-works kept-related related-seat
+    kept-left = record {
+      related = kept-related;
+      left = subst (λ (x : Station). LeftSays t (r .tree) (r .queue) (seatAt (keptWords words s g) s) x m) (sym q)
+          (subst (λ (z : Seat). LeftSays t (r .tree) (r .queue) z (unfinished i (nearest p) (some a)) m) (sym kept-seat) (kept-works, sighted .1));
+    }
+
+    -- it ends
+    module _ (f : isFinished g ≡ true) where
+      nearest-found : Nearest (choiceOf (callAt words s .point)) (λ e. List·Memᴰ e entries) (viewOf g .best)
+      nearest-found = search-finish (r .tree) (r .store) (v .search) f
+
+      target-ranged : inRange (callAt words s .point) ≡ true
+      unfolding seatAt
+      target-ranged = ap inRange (busy .point) ∙ busy .ranged
+
+      found-ranged : answerSound (foundAnswer (callAt words s) (g .best)) ≡ true
+      found-ranged = found-sound (callAt words s) (g .best) entries nearest-found target-ranged (v .fit .best) (work .ranged)
+
+      -- the answer that was set down
+      found-set : answerOf (foundAnswer (callAt words s) (g .best)) ≡ a
+      unfolding seatAt
+      found-set =
+          found-is (callAt words s) (g .best) entries nearest-found (work .once)
+          ∙ ap (λ (x : Point). nearestAnswer x (nearestOf x (map recordOf entries))) (busy .point) ∙ sym (work .answer)
+
+      -- no removal is numbered as high as none
+      least-none : leastSince words ≤ NONE
+      unfolding countsAt
+      least-none =
+          omega (arith, least-removals words, r .counted .removals, removals-changes t h, h .spent, opened-tells words (t .places) (t .limit) (r .opened) .limit-most)
+
+      ended-waits : Waits (endedSeat (seatAt words s) (foundAnswer (callAt words s) (g .best))) a
+      ended-waits = record { state = refl; sound = found-ranged; answer = found-set; quiet = record { cursor = refl; phase = refl; since = refl; missed = refl } }
+
+      ended-related : Related (answeredWords words s (foundAnswer (callAt words s) (g .best))) (finished t s (nearest p) (some a))
+      unfolding finished
+      ended-related =
+          let x : WordAnswer = foundAnswer (callAt words s) (g .best) in
+          related-seat words (answeredWords words s x) t (put (t .stations) s (waiting a)) s (endedSeat (seatAt words s) x) r
+          (answer-written words (t .places) (t .limit) (r .opened) s l x found-ranged) (answer-rows words (t .places) (t .limit) (r .opened) s l x) least-none
+          (λ u n. put-other (t .stations) s u (waiting a) n)
+          (subst (λ (y : Station). Says t (r .tree) (r .queue) (endedSeat (seatAt words s) x) y) (sym (put-same (t .stations) s (waiting a))) ended-waits)
+
+    -- what the step writes after its moves
+    outcome-of : (n : ℕ) → (m < n) ⊎ (isFinished g ≡ true) → Outcome t s (nearest p) (some a) n (searchTo words s (callAt words s) g)
+    unfolding searchWords
+    outcome-of n d =
+        subst (λ (b : Bool). Outcome t s (nearest p) (some a) n (ask b 11 words (done (searchWords words s (callAt words s) g)))) (sym (v .fit .sound)) (go (isFinished g) refl d)
+      where
+        go : (b : Bool) → isFinished g ≡ b → (m < n) ⊎ (isFinished g ≡ true)
+            → Outcome t s (nearest p) (some a) n (done (pickWords b (answeredWords words s (foundAnswer (callAt words s) (g .best))) (keptWords words s g)))
+        go true f d = ends refl (ended-related f)
+        go false f (inl k) = goesOn refl m k kept-left
+        go false f (inr e) = absurd (false≢true (sym f ∙ e))
+
+-- a search with nothing left to look at stays where it is
+seek-finished : (words : List ℕ) (rows : ℕ) (call : Call) (g : WordProgress) → isFinished g ≡ true → isFinished (seek words rows call g) ≡ true
+unfolding seek look tour
+seek-finished words rows call g f =
+    let c : eqb (g .cursor) NONE ≡ true = and-l (eqb (g .cursor) NONE) (eqb (g .missed) NONE) f in
+    let m : eqb (g .missed) NONE ≡ true = and-r (eqb (g .cursor) NONE) (eqb (g .missed) NONE) f in
+    rw (m, c, c, c, m)
+
+-- a search that is not finished has something left
+search-left : {places : ℕ} {h : Heap} {q : List Free} {changes removals released asOf since : ℕ} {c : Choice} {Then : Entry → Type 0} (t : Option Tree) → Store places h t q changes removals released
+    → (g : Progress) (v : Search c asOf since Then t q changes removals g) → finishedTree g ≡ false → 1 ≤ searchLeft v
+search-left t st g v f = go (ℕ-discrete (g .stand .cursor) NONE) (ℕ-discrete (g .missed) NONE)
+  where
+    go : Dec (g .stand .cursor ≡ NONE) → Dec (g .missed ≡ NONE) → 1 ≤ searchLeft v
+    go (no n) d = omega (arith, search-seek t st g v .less (inl n))
+    go (yes e) (no n) = omega (arith, search-seek t st g v .less (inr n))
+    go (yes e) (yes d) = absurd (false≢true (sym f ∙ and-i (eq-eqb (g .stand .cursor) NONE e) (eq-eqb (g .missed) NONE d)))
+
+-- The step of an unfinished nearest call whose answer is set down: its moves, and then it is kept for the next step with less left, or ends with
+-- that answer.
+pub search-outcome : {words : List ℕ} {t : Table} {s i n : ℕ} {p : Point} {a : Answer} → Sound t → s < 8 → t .stations s ≡ unfinished i (nearest p) (some a) → Left words t s n
+    → Outcome t s (nearest p) (some a) n (searchOf words (2 * t .places) s (callAt words s))
+unfolding searchOf seatAt placeAt progressAt
+search-outcome {words} {t} {s} {i} {n} {p} {a} h l q r =
+    let z : LeftSays t (r .related .tree) (r .related .queue) (seatAt words s) (unfinished i (nearest p) (some a)) n =
+    subst (λ (x : Station). LeftSays t (r .related .tree) (r .related .queue) (seatAt words s) x n) q (r .left) in
+    go (z .0) (z .1) (isFinished start) refl
+  where
+    start : WordProgress
+    start = progressAt words s (callAt words s)
+
+    sought : WordProgress
+    sought = seek words (2 * t .places) (callAt words s) start
+
+    unfinished-view : isFinished start ≡ false → finishedTree (progressOf (seatAt words s)) ≡ false
+    unfinished-view f = f
+
+    go : (work : Searching t (r .related .tree) (r .related .queue) (seatAt words s) i p (some a)) → searchLeft (work .search) ≤ n → (b : Bool) → isFinished start ≡ b
+        → Outcome t s (nearest p) (some a) n (searchTo words s (callAt words s) sought)
+    go work few true f =
+        outcome-of h l q (r .related) work sought n (seek-keeps (r .related .store) words (r .related .reads) (callAt words s) (get words (atSince s)) (λ e. List·Memᴰ e (work .entries)) start n (begins h l q (r .related) work n few)) n
+        (inr (seek-finished words (2 * t .places) (callAt words s) start f))
+    go work few false f =
+        let e : suc (pred n) ≡ n = omega (arith, search-left (r .related .tree) (r .related .store) (progressOf (seatAt words s)) (work .search) (unfinished-view f)) in
+        outcome-of h l q (r .related) work sought (pred n)
+        (seek-words (r .related .store) words (r .related .reads) (callAt words s) (get words (atSince s)) (λ e. List·Memᴰ e (work .entries)) start (pred n) f (begins h l q (r .related) work (suc (pred n)) (omega arith))) n (inl (omega arith))

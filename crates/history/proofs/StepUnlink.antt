@@ -1,0 +1,271 @@
+-- The step that ends a remove at the leaf of its point: the leaf is taken from the tree, and the answer is 5 with the curve that was held
+-- (`unlink-outcome`).
+use Prim.Native.Nat.{ℕ, suc, _*_, _-_, _≤_, _<_}
+use mathlib.Core.Path.{_≡_, refl, sym, ap, subst, _∙_}
+use mathlib.Core.Logic.{inl, inr}
+use mathlib.Core.Bool.{true, cond, _&&_}
+use mathlib.Core.List.{List, map}
+use mathlib.Core.Option.{none}
+use native.Mathlib.Omega.{arith}
+use native.Mathlib.Numerals.{add-one}
+use native.Mathlib.Decide.{ℕ-discrete}
+use lib.Dec.{eqb, leb}
+use lib.ListN.{length}
+use borrow.Author.Tests.{eq-eqb, ne-eqb, le-leb, lt-ltb}
+use Rattle.points.specs.declared.point.Point.{Point}
+use Rattle.points.specs.Point.{inRange}
+use Rattle.points.specs.Word.{NONE}
+use Rattle.points.proofs.Tests.{and-r, and-i}
+use Rattle.rows.specs.declared.common.Opening.the-variants.{Opened}
+use Rattle.rows.specs.declared.answer.Answer.{Answer as Given}
+use Rattle.rows.specs.Layout.{atChanges, atHeld, atRoot, atHead, atRemovals, atSince}
+use Rattle.rows.specs.Words.{get}
+use Rattle.rows.specs.Range.{linkIn, curveIn}
+use Rattle.rows.specs.Common.{openedIn, leastSince}
+use Rattle.rows.specs.Call.{callAt}
+use Rattle.rows.specs.Answer.{answerSound}
+use Rattle.rows.proofs.RangeLaws.{curve-tells}
+use Rattle.rows.proofs.RowLaws.{in-rows-leaf}
+use Rattle.rows.proofs.OpeningLaws.{opened-tells}
+use Rattle.rows.proofs.TakenLaws.{least-removals, least-since, least-greatest}
+use Rattle.rows.proofs.SoundLaws.{answer-of}
+use Rattle.table.specs.Record.{Same, without}
+use Rattle.table.specs.Call.{remove, Answer, answer}
+use Rattle.table.specs.Table.{Station, unfinished, waiting, Table, put, withStations, answerOf}
+use Rattle.table.proofs.Sound.{Sound, removals-changes}
+use Rattle.table.proofs.Eager.{Settled}
+use Rattle.table.proofs.Stations.{put-cases}
+use Rattle.table.proofs.Simulation.{finished}
+use Rattle.table.proofs.Answers.{remove-held, finished-change}
+use Rattle.trees.specs.Row.{Entry, leafRow}
+use Rattle.trees.specs.Tree.{Has, entriesOf}
+use Rattle.trees.specs.Queue.{tailOf}
+use Rattle.trees.specs.Store.{Store}
+use Rattle.trees.specs.Route.{OnRoute}
+use Rattle.trees.specs.Reads.{Leaf}
+use Rattle.trees.specs.Unlink.{siblingRow, grandRow, Unlinked}
+use Rattle.trees.proofs.Room.{store-release}
+use Rattle.trees.proofs.RouteLaws.{on-route-has}
+use Rattle.trees.proofs.Unlink.{unlink}
+use Rattle.steps.specs.declared.unlink.Around.{Around}
+use Rattle.steps.specs.Reply.{done, more}
+use Rattle.steps.specs.Answer.{answer as wordAnswer, answeredWords}
+use Rattle.steps.specs.Unlink.{aroundAt, aroundSound, unlinkTail, unlinkRoot, unlinkCounts, unlinkRows, stationsMoved, unlinkWords, unlinkOf}
+use Rattle.history.specs.View.{Counts, Seat, countsAt, placeAt, seatAt, noPlace, seatPut, Written}
+use Rattle.history.specs.Related.{recordOf, Busy, Says, Counted, Related}
+use Rattle.history.proofs.Effects.{reads-in, answer-written, answer-rows, movedSeat, unlink-written, unlink-same-rows}
+use Rattle.history.proofs.Outcome.{Outcome, ends}
+use Rattle.history.proofs.Readings.{removed-change, removedTable, changed-remove}
+use Rattle.history.proofs.UnlinkAround.{aroundOf, around-is, around-sound}
+use Rattle.history.proofs.UnlinkRows.{RowsUnlinked, rows-unlinked}
+use Rattle.history.proofs.UnlinkSeats.{says-moved}
+use Rattle.history.proofs.UnlinkHeld.{curve-removed, records-unlinked, number-unlinked}
+
+-- one more, below the greatest word
+more-is : (x : ℕ) → x < NONE → more x ≡ suc x
+unfolding more
+more-is x l = rw (lt-ltb x NONE l) (add-one x)
+
+-- the seat of a station after an answer, and the others
+put-own : (seats : ℕ → Seat) (s : ℕ) (x : Seat) → seatPut seats s x s ≡ x
+unfolding seatPut
+put-own seats s x = rw (eq-eqb s s refl, seatPut)
+
+put-other : (seats : ℕ → Seat) (s u : ℕ) (x : Seat) → ¬ (u ≡ s) → seatPut seats s x u ≡ seats u
+unfolding seatPut
+put-other seats s u x n = rw (ne-eqb u s n, seatPut)
+
+module _ (words : List ℕ) (t : Table) (s i : ℕ) (p : Point) (at parent : ℕ) (e : Entry) (sound : Sound t) (settled : Settled t) (below : s < 8)
+    (is : t .stations s ≡ unfinished i (remove p) none) (R : Related words t) (route : OnRoute (R .tree) p at) (reads : R .heap at ≡ leafRow parent e) (same : e .point ≡ p)
+    (more-left : ¬ (t .changes ≡ t .limit)) where
+  -- ---- what is read
+
+  abbrev leaf : Leaf
+  leaf = record { row = at; parent = parent; entry = e }
+
+  abbrev rows : ℕ
+  rows = 2 * t .places
+
+  abbrev around : Around
+  around = aroundOf (R .heap) (tailOf (R .queue)) leaf
+
+  has : Has (R .tree) at
+  has = on-route-has (R .tree) p at route
+
+  gathered : aroundAt words rows at ≡ around
+  unfolding countsAt
+  gathered = around-is words (R .store) (R .reads) (R .counted .tail) leaf has reads
+
+  -- changes and removals are below the greatest word
+  changes-few : t .changes < NONE
+  changes-few = omega (arith, sound .spent, opened-tells words (t .places) (t .limit) (R .opened) .limit-most)
+
+  removals-few : length (t .removals) < NONE
+  removals-few = omega (arith, changes-few, removals-changes t sound)
+
+  -- ---- what is written
+
+  abbrev number : ℕ
+  number = more (get words atRemovals)
+
+  number-is : number ≡ suc (length (t .removals))
+  unfolding countsAt
+  number-is = ap more (R .counted .removals) ∙ more-is (length (t .removals)) removals-few
+
+  abbrev counts : Counts
+  counts = record {
+    changes = more (get words atChanges);
+    held = get words atHeld - 1;
+    root = unlinkRoot around (get words atRoot);
+    head = get words atHead;
+    tail = unlinkTail around;
+    removals = number;
+  }
+
+  abbrev words₁ : List ℕ
+  words₁ = stationsMoved around 8 (unlinkCounts words around)
+
+  counted₁ : Written words words₁ counts (λ u. movedSeat around (seatAt words u))
+  counted₁ = unlink-written words (t .places) (t .limit) (R .opened) around
+
+  abbrev words₂ : List ℕ
+  words₂ = unlinkRows words₁ around number
+
+  unlinked-rows : RowsUnlinked words₁ words₂ (t .places) (R .heap) (tailOf (R .queue)) number leaf
+  unlinked-rows =
+      rows-unlinked words₁ (counted₁ .opened ∙ R .opened) (λ r k. unlink-same-rows words (t .places) (t .limit) (R .opened) around r k ∙ R .reads r k) (R .store) number leaf has reads
+
+  counted₂ : Written words words₂ counts (λ u. movedSeat around (seatAt words u))
+  counted₂ =
+      let v = unlinked-rows .written in
+      record { opened = v .opened ∙ counted₁ .opened; counted = v .counted ∙ counted₁ .counted; seated = λ u k. v .seated u k ∙ counted₁ .seated u k }
+
+  after : Unlinked (t .places) (R .heap) (unlinked-rows .heap) (R .tree) (R .queue) (t .changes) (length (t .removals)) (leastSince words) leaf (siblingRow (R .heap) leaf) (grandRow (R .heap) leaf)
+  after = unlink (R .tree) (R .store) has reads (rw number-is at (unlinked-rows .writes))
+
+  -- ---- the answer
+
+  abbrev given : Given
+  given = wordAnswer 5 p (e .curve) 0
+
+  own : Busy t (R .tree) (R .queue) (seatAt words s) i (remove p) none
+  own = rw is at (R .seats s below)
+
+  asked : callAt words s .point ≡ p
+  unfolding seatAt
+  asked = own .point
+
+  given-sound : answerSound given ≡ true
+  given-sound =
+      let k = sym (in-rows-leaf rows parent (e .added) (e .point) (e .curve)) ∙ rw reads at (reads-in words rows (R .heap) at (R .store .inside at has) (R .reads)) in
+      let c = curve-tells (e .curve) (and-r (linkIn rows parent && inRange (e .point)) (curveIn (e .curve)) k) in
+      answer-of given (record { code-least = omega arith; code-most = omega arith; point = own .ranged; curve = c .1; square = omega arith })
+
+  abbrev words₃ : List ℕ
+  words₃ = answeredWords words₂ s given
+
+  opened₂ : openedIn words₂ ≡ Opened (t .places) (t .limit)
+  opened₂ = counted₂ .opened ∙ R .opened
+
+  answered : Written words₂ words₃ (countsAt words₂) (seatPut (λ u. seatAt words₂ u) s (record { place = noPlace; state = 2; call = seatAt words₂ s .call; answer = given }))
+  answered = answer-written words₂ (t .places) (t .limit) opened₂ s below given given-sound
+
+  counts-are : countsAt words₃ ≡ counts
+  counts-are = answered .counted ∙ counted₂ .counted
+
+  seat-own : seatAt words₃ s ≡ record { place = noPlace; state = 2; call = seatAt words₂ s .call; answer = given }
+  seat-own = answered .seated s below ∙ put-own (λ u. seatAt words₂ u) s (record { place = noPlace; state = 2; call = seatAt words₂ s .call; answer = given })
+
+  seat-other : (u : ℕ) → u < 8 → ¬ (u ≡ s) → seatAt words₃ u ≡ movedSeat around (seatAt words u)
+  seat-other u k n = answered .seated u k ∙ put-other (λ v. seatAt words₂ v) s u (record { place = noPlace; state = 2; call = seatAt words₂ s .call; answer = given }) n ∙ counted₂ .seated u k
+
+  -- ---- the table
+
+  abbrev spoken : Answer
+  spoken = answer 5 p (e .curve) 0
+
+  abbrev stations : ℕ → Station
+  stations = put (t .stations) s (waiting spoken)
+
+  answer-is : answerOf t (remove p) ≡ spoken
+  answer-is = remove-held t p (e .curve) (rw same at (curve-removed after (t .held) (R .records) (sound .once))) more-left
+
+  finished-is : finished t s (remove p) none ≡ removedTable t p stations
+  finished-is = finished-change t s (remove p) spoken answer-is (removed-change p (e .curve)) ∙ ap (λ (x : Table). withStations x stations) (changed-remove t p)
+
+  -- ---- the relation afterwards
+
+  removals-after : get words₃ atRemovals ≡ suc (length (t .removals))
+  unfolding countsAt
+  removals-after = ap (λ (c : Counts). c .removals) counts-are ∙ number-is
+
+  -- no since word has fallen below what was released
+  since-after : (u : ℕ) → u < 8 → leastSince words ≤ get words₃ (atSince u)
+  unfolding countsAt seatAt placeAt
+  since-after u k = go (ℕ-discrete u s)
+    where
+      go : Dec (u ≡ s) → leastSince words ≤ get words₃ (atSince u)
+      go (yes z) =
+          let none-there : get words₃ (atSince s) ≡ NONE = ap (λ (x : Seat). x .place .since) seat-own in
+          rw (z, none-there) (omega (arith, least-removals words, R .counted .removals, removals-few))
+      go (no n) =
+          let stays : get words₃ (atSince u) ≡ get words (atSince u) = ap (λ (x : Seat). x .place .since) (seat-other u k n) in
+          rw stays (least-since words u k)
+
+  store-after : Store (t .places) (unlinked-rows .heap) (after .tree) (after .queue) (suc (t .changes)) (suc (length (t .removals))) (leastSince words₃)
+  unfolding countsAt
+  store-after =
+      let most : leastSince words ≤ get words₃ atRemovals = omega (arith, removals-after, least-removals words, R .counted .removals) in
+      store-release (least-greatest words₃ (leastSince words) most since-after) (omega (arith, least-removals words₃, removals-after)) (after .store)
+
+  counted-after : Counted (removedTable t p stations) (after .tree) (after .queue) (countsAt words₃)
+  unfolding countsAt unlinkRoot unlinkTail
+  counted-after = rw counts-are record {
+    changes = ap more (R .counted .changes) ∙ more-is (t .changes) changes-few ∙ sym (add-one (t .changes));
+    held = omega (arith, R .counted .held, after .count);
+    root = ap (λ (x : ℕ). cond (eqb (grandRow (R .heap) leaf) NONE) (siblingRow (R .heap) leaf) x) (R .counted .root) ∙ sym (after .root);
+    head = R .counted .head ∙ sym (after .head);
+    tail = sym (after .tail);
+    removals = number-is;
+  }
+
+  seats-after : (u : ℕ) → u < 8 → Says (removedTable t p stations) (after .tree) (after .queue) (seatAt words₃ u) (stations u)
+  seats-after u k = elim (put-cases (t .stations) s u (waiting spoken)) [
+    | inl v ↦ rw (v .1, v .0, seat-own) record { state = refl; sound = given-sound; answer = refl; quiet = record { cursor = refl; phase = refl; since = refl; missed = refl } }
+    | inr v ↦ rw (v .1, seat-other u k (v .0))
+        (says-moved t p stations (R .heap) (unlinked-rows .heap) (R .tree) (R .queue) (leastSince words) (tailOf (R .queue)) leaf (R .store) has after removals-few
+        (seatAt words u) u (t .stations u) k (settled u k) refl (R .seats u k))
+  ]
+
+  related : Related words₃ (removedTable t p stations)
+  related = record {
+    opened = answered .opened ∙ opened₂;
+    heap = unlinked-rows .heap;
+    tree = after .tree;
+    queue = after .queue;
+    reads = λ r k. answer-rows words₂ (t .places) (t .limit) opened₂ s below given r k ∙ unlinked-rows .reads r k;
+    store = rw (add-one (t .changes)) store-after;
+    counted = counted-after;
+    records = subst (λ (x : Point). Same (map recordOf (entriesOf (after .tree))) (without x (t .held))) same (records-unlinked after (t .held) (R .records));
+    number = number-unlinked after (t .held) (R .records) (sound .once) (R .number) ∙ ap (λ (x : Point). length (without x (t .held))) same;
+    seats = seats-after;
+  }
+
+  -- ---- the reply
+
+  passes : (aroundSound around && leb 1 (get words atHeld)) ≡ true
+  unfolding countsAt
+  passes = and-i (around-sound (R .store) leaf has reads) (le-leb 1 (get words atHeld) (omega (arith, R .counted .held, after .count)))
+
+  reply-is : unlinkOf words rows s (callAt words s) at ≡ done words₃
+  unfolding unlinkOf unlinkWords
+  reply-is = rw (gathered, passes, asked) refl
+
+  outcome : (n : ℕ) → Outcome t s (remove p) none n (unlinkOf words rows s (callAt words s) at)
+  outcome n = rw reply-is (ends refl (rw finished-is related))
+
+-- A remove that stands at the leaf of its point, with changes left, ends there with code 5.
+pub unlink-outcome : {words : List ℕ} {t : Table} {s i : ℕ} {p : Point} (at parent : ℕ) (e : Entry) → Sound t → Settled t → s < 8 → t .stations s ≡ unfinished i (remove p) none → (R : Related words t)
+    → OnRoute (R .tree) p at → R .heap at ≡ leafRow parent e → e .point ≡ p → ¬ (t .changes ≡ t .limit)
+    → (n : ℕ) → Outcome t s (remove p) none n (unlinkOf words (2 * t .places) s (callAt words s) at)
+unlink-outcome {words} {t} {s} {i} {p} at parent e sound settled below is R route reads same left = outcome words t s i p at parent e sound settled below is R route reads same left

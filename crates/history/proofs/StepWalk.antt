@@ -1,0 +1,182 @@
+-- The step of an unfinished add, remove or contains (`walk-outcome`): at a cut six rows down, with fewer leaves below; at a leaf or in the empty tree
+-- the decision.
+use Prim.Native.Nat.{ℕ, _*_, _≤_, _<_}
+use mathlib.Core.Path.{_≡_, refl, sym, _∙_, ap, subst}
+use mathlib.Core.Logic.{_≢_, inl, inr}
+use mathlib.Core.Bool.{true, false, false≢true, true≢false}
+use mathlib.Core.List.{List}
+use mathlib.Core.Option.{Option, none, some}
+use native.Mathlib.Omega.{arith}
+use lib.Dec.{eqb}
+use borrow.Author.Tests.{ne-eqb}
+use Rattle.points.specs.declared.point.Point.{Point}
+use Rattle.points.specs.declared.cut.Cut.{Cut}
+use Rattle.points.specs.Word.{NONE}
+use Rattle.points.proofs.OrderLaws.{same-point-true, same-point-false}
+use Rattle.rows.specs.declared.row.Row.{Row as WordRow}
+use Rattle.rows.specs.declared.row.Row.the-variants.{Bad}
+use Rattle.rows.specs.Row.{rowAt}
+use Rattle.rows.specs.Call.{callAt}
+use Rattle.rows.proofs.RangeLaws.{or-right}
+use Rattle.rows.proofs.RowLaws.{rowAt-outside}
+use Rattle.table.specs.Call.{Call, add, remove, contains, nearest, isSearch}
+use Rattle.table.specs.Table.{unfinished, Table}
+use Rattle.table.proofs.Sound.{Sound}
+use Rattle.table.proofs.Eager.{Settled}
+use Rattle.trees.specs.Row.{Entry, Row, spareRow, removedRow, leafRow, cutRow}
+use Rattle.trees.specs.Tree.{Tree}
+use Rattle.trees.specs.Queue.{Free}
+use Rattle.trees.specs.Route.{OnRoute, Walking, standsAt, downRow}
+use Rattle.trees.specs.Reads.{LeafAt, CutAt}
+use Rattle.trees.specs.Measure.{walkLeft, Descends}
+use Rattle.trees.proofs.RouteLaws.{on-route-has, walk-stands, walk-down}
+use Rattle.trees.proofs.ReadLaws.{read-row}
+use Rattle.steps.specs.Walk.{downFrom, down as downWords, sixDown, conclude, standsAt as standsIn, walkFrom, walkOf}
+use Rattle.history.specs.View.{Seat, countsAt, placeAt, seatAt, wordRow}
+use Rattle.history.specs.Related.{pointOf, Works, Busy, Related}
+use Rattle.history.proofs.RelatedLaws.{related-busy}
+use Rattle.history.proofs.Outcome.{Left, Outcome, goesOn}
+use Rattle.history.proofs.Readings.{nearest-search, down-row}
+use Rattle.history.proofs.OwnSeat.{left-tells, left-walks}
+use Rattle.history.proofs.StepInsert.{insert-outcome}
+use Rattle.history.proofs.StepUnlink.{unlink-outcome}
+use Rattle.history.proofs.Decision.{decided-empty, decided-leaf, add-decides, remove-decides, contains-decides}
+
+-- ---- down
+
+-- a row of the words leads where the row of the heap does
+down-word : (p : Point) (x to : ℕ) (row : Row) → downRow row p x ≡ some to → downFrom p x (wordRow row) ≡ to
+down-word p x to (spareRow next n) e = let z : _≡_ {A = ℕ} 0 1 = cc in absurd (omega arith)
+down-word p x to (removedRow next n d) e = let z : _≡_ {A = ℕ} 0 1 = cc in absurd (omega arith)
+down-word p x to (leafRow parent d) e = cc
+down-word p x to (cutRow parent k l r) e = cc
+
+-- the row x, and one that is further down the way with no more leaves below
+record Onward (tree : Option Tree) (p : Point) (x to : ℕ) : Type 0 where
+  route : OnRoute tree p to
+  fewer : walkLeft tree to ≤ walkLeft tree x
+
+module _ {words : List ℕ} {t : Table} (r : Related words t) (p : Point) where
+  abbrev next : ℕ → ℕ
+  next x = downWords words (2 * t .places) p x
+
+  -- one row down, as the heap says
+  down-is : (x : ℕ) (o : OnRoute (r .tree) p x) → next x ≡ walk-down (r .tree) p x (r .store) o .to
+  unfolding downWords
+  down-is x o =
+      let d : Descends (r .heap) (r .tree) p x = walk-down (r .tree) p x (r .store) o in
+      ap (λ (row : WordRow). downFrom p x row) (r .reads x (r .store .inside x (on-route-has (r .tree) p x o))) ∙ down-word p x (d .to) (r .heap x) (sym (down-row (r .heap) p x) ∙ d .is)
+
+  goes-down : (x : ℕ) → OnRoute (r .tree) p x → Onward (r .tree) p x (next x)
+  goes-down x o =
+      let d : Descends (r .heap) (r .tree) p x = walk-down (r .tree) p x (r .store) o in
+      rw (down-is x o) (record { route = d .route; fewer = elim (d .stays-or-less) [ inl u ↦ rw (u .1) (omega arith) | inr u ↦ omega (arith, u .1) ] })
+
+  -- from a cut there are fewer leaves below
+  cut-down : (x : ℕ) → OnRoute (r .tree) p x → {parent left right : ℕ} {k : Cut} → r .heap x ≡ cutRow parent k left right → walkLeft (r .tree) (next x) < walkLeft (r .tree) x
+  cut-down x o {parent} {left} {right} {k} reads =
+      let d : Descends (r .heap) (r .tree) p x = walk-down (r .tree) p x (r .store) o in
+      rw (down-is x o) (elim (d .stays-or-less) [
+        | inl u ↦
+            let e : cutRow parent k left right ≡ leafRow (u .0 .parent) (u .0 .entry) = sym reads ∙ u .0 .reads in
+            let z : _≡_ {A = ℕ} 0 1 = cc in
+            absurd (omega arith)
+        | inr u ↦ u .1
+      ])
+
+  -- six rows down from a cut
+  six-down : (x : ℕ) → OnRoute (r .tree) p x → {parent left right : ℕ} {k : Cut} → r .heap x ≡ cutRow parent k left right
+      → OnRoute (r .tree) p (sixDown words (2 * t .places) p x) × (walkLeft (r .tree) (sixDown words (2 * t .places) p x) < walkLeft (r .tree) x)
+  unfolding sixDown
+  six-down x o reads =
+      let a = goes-down x o in
+      let b = goes-down (next x) (a .route) in
+      let c = goes-down (next (next x)) (b .route) in
+      let d = goes-down (next (next (next x))) (c .route) in
+      let e = goes-down (next (next (next (next x)))) (d .route) in
+      let f = goes-down (next (next (next (next (next x))))) (e .route) in
+      (f .route, omega (arith, cut-down x o reads, b .fewer, c .fewer, d .fewer, e .fewer, f .fewer))
+
+-- ---- where the walk ends
+
+-- in the empty tree
+at-empty : {words : List ℕ} {t : Table} {s i n : ℕ} (c : Call) → Sound t → Settled t → s < 8 → t .stations s ≡ unfinished i c none → isSearch c ≡ false → (r : Related words t) → r .tree ≡ none
+    → Outcome t s c none n (conclude words (2 * t .places) s (callAt words s) NONE Bad)
+at-empty (add p v) sound settled l q e r f = add-decides NONE Bad sound l q r (decided-empty sound r p f) (λ h a d g. insert-outcome sound settled l q r a d g none f tt)
+at-empty (remove p) sound settled l q e r f = remove-decides NONE Bad sound l q r (decided-empty sound r p f) (λ h d. absurd (false≢true h))
+at-empty (contains p) sound settled l q e r f = contains-decides NONE Bad sound l q r (decided-empty sound r p f)
+at-empty (nearest p) sound settled l q e r f = absurd (true≢false (sym (nearest-search p) ∙ e))
+
+-- at a leaf on the way
+at-leaf : {words : List ℕ} {t : Table} {s i n : ℕ} (c : Call) → Sound t → Settled t → s < 8 → t .stations s ≡ unfinished i c none → isSearch c ≡ false → (r : Related words t)
+    → (x parent : ℕ) (d : Entry) → OnRoute (r .tree) (pointOf c) x → r .heap x ≡ leafRow parent d
+    → Outcome t s c none n (conclude words (2 * t .places) s (callAt words s) x (wordRow (leafRow parent d)))
+at-leaf (add p v) sound settled l q e r x parent d o reads =
+    add-decides x (wordRow (leafRow parent d)) sound l q r (decided-leaf sound r p x parent d o reads)
+    (λ h a g f. insert-outcome sound settled l q r a g f (some (record { row = x; parent = parent; entry = d })) (o, reads) (λ y. same-point-false (d .point) p h (sym y)))
+at-leaf {n = n} (remove p) sound settled l q e r x parent d o reads =
+    remove-decides x (wordRow (leafRow parent d)) sound l q r (decided-leaf sound r p x parent d o reads)
+    (λ h g. unlink-outcome x parent d sound settled l q r o reads (same-point-true (d .point) p h) g n)
+at-leaf (contains p) sound settled l q e r x parent d o reads = contains-decides x (wordRow (leafRow parent d)) sound l q r (decided-leaf sound r p x parent d o reads)
+at-leaf (nearest p) sound settled l q e r x parent d o reads = absurd (true≢false (sym (nearest-search p) ∙ e))
+
+-- ---- the step
+
+-- the walk of a call is on the way of its point
+call-walks : (t : Table) (tree : Option Tree) (queue : List Free) (seat : Seat) (i : ℕ) (c : Call) → isSearch c ≡ false → Works t tree queue seat i c none
+    → Walking tree (pointOf c) (seat .place .cursor)
+call-walks t tree queue seat i (add p c) e w = w .walking
+call-walks t tree queue seat i (remove p) e w = w .walking
+call-walks t tree queue seat i (contains p) e w = w .walking
+call-walks t tree queue seat i (nearest p) e w = absurd (true≢false (sym (nearest-search p) ∙ e))
+
+module _ {words : List ℕ} {t : Table} {s i n : ℕ} {c : Call} (sound : Sound t) (settled : Settled t) (l : s < 8) (q : t .stations s ≡ unfinished i c none) (e : isSearch c ≡ false)
+    (z : Left words t s n) where
+  abbrev r : Related words t
+  r = z .related
+
+  busy : Busy t (r .tree) (r .queue) (seatAt words s) i c none
+  busy = related-busy r l q
+
+  -- the step from row x
+  abbrev From : ℕ → Type 0
+  From x = Outcome t s c none n (walkFrom words (2 * t .places) s (callAt words s) x (rowAt words (2 * t .places) x))
+
+  from-none : r .tree ≡ none → From NONE
+  from-none f = rw (rowAt-outside words (2 * t .places) NONE (r .store .fits)) (at-empty c sound settled l q e r f)
+
+  from-leaf : (x : ℕ) → OnRoute (r .tree) (pointOf c) x → LeafAt (r .heap) (r .tree) x → From x
+  from-leaf x o a =
+      rw (r .reads x (r .store .inside x (on-route-has (r .tree) (pointOf c) x o)), a .reads, or-right (eqb x NONE) {b = true} refl)
+      (at-leaf c sound settled l q e r x (a .parent) (a .entry) o (a .reads))
+
+  from-cut : (x : ℕ) → OnRoute (r .tree) (pointOf c) x → walkLeft (r .tree) x ≤ n → CutAt (r .heap) (r .tree) x → From x
+  unfolding seatAt
+  from-cut x o few a =
+      let to : ℕ = sixDown words (2 * t .places) (pointOf c) x in
+      let d = six-down r (pointOf c) x o (a .reads) in
+      let there : to ≢ NONE = λ y. omega (arith, y, r .store .inside to (on-route-has (r .tree) (pointOf c) to (d .0)), r .store .fits) in
+      rw (r .reads x (r .store .inside x (on-route-has (r .tree) (pointOf c) x o)), a .reads, busy .point, ne-eqb to NONE there)
+      (goesOn refl (walkLeft (r .tree) to) (omega (arith, d .1)) (left-walks s l r to q e (d .0) (walkLeft (r .tree) to) there (omega arith)))
+
+  from-row : (x : ℕ) → OnRoute (r .tree) (pointOf c) x → walkLeft (r .tree) x ≤ n → From x
+  from-row x o few = elim (read-row (r .tree) (r .store) (on-route-has (r .tree) (pointOf c) x o)) [ inl a ↦ from-leaf x o a | inr a ↦ from-cut x o few a ]
+
+  -- the row where the walk stands, in the words
+  stands-word : standsIn words s ≡ standsAt (r .tree) (seatAt words s .place .cursor)
+  unfolding standsIn seatAt placeAt countsAt
+  stands-word = rw (r .counted .root)
+
+  from-cursor : From (standsAt (r .tree) (seatAt words s .place .cursor))
+  from-cursor = elim (walk-stands (r .tree) (pointOf c) (seatAt words s .place .cursor) (call-walks t (r .tree) (r .queue) (seatAt words s) i c e (busy .works))) [
+    | inl u ↦ subst (λ (x : ℕ). From x) (sym (u .1)) (from-none (u .0))
+    | inr o ↦ from-row (standsAt (r .tree) (seatAt words s .place .cursor)) o (left-tells t (r .tree) (r .queue) (seatAt words s) i c n e (rw q at (z .left)))
+  ]
+
+-- The step of an unfinished add, remove or contains: it goes on with less left, or ends as the table says.
+pub walk-outcome : {words : List ℕ} {t : Table} {s i n : ℕ} {c : Call} → Sound t → Settled t → s < 8 → t .stations s ≡ unfinished i c none → isSearch c ≡ false → Left words t s n
+    → Outcome t s c none n (walkOf words (2 * t .places) s (callAt words s))
+unfolding walkOf
+walk-outcome {words} {t} {s} {i} {n} {c} sound settled l q e z =
+    subst (λ (x : ℕ). Outcome t s c none n (walkFrom words (2 * t .places) s (callAt words s) x (rowAt words (2 * t .places) x))) (sym (stands-word sound settled l q e z))
+    (from-cursor sound settled l q e z)

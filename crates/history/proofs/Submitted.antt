@@ -1,0 +1,126 @@
+-- The slice after an accepted submission is related to the table with the call unfinished (`related-submitted`): a walk or a search begins at
+-- the root.
+use Prim.Native.Nat.{ℕ, zero, suc, _≤_, _<_}
+use mathlib.Core.Path.{_≡_, refl, sym, _∙_}
+use mathlib.Core.Logic.{_↔_}
+use mathlib.Core.Bool.{Bool, true, false, cond}
+use mathlib.Core.List.{List}
+use mathlib.Core.Option.{Option, none, some}
+use native.Mathlib.Omega.{arith}
+use lib.Dec.{eqb, leb}
+use borrow.Author.Tests.{leb-true}
+use Rattle.points.specs.declared.point.Point.{Point}
+use Rattle.points.specs.Point.{inRange}
+use Rattle.points.specs.Word.{NONE}
+use Rattle.rows.specs.Layout.{atChanges, atRoot, atRemovals}
+use Rattle.rows.specs.Words.{get}
+use Rattle.rows.specs.Common.{leastSince}
+use Rattle.rows.proofs.SoundLaws.{noBest-point}
+use Rattle.rows.proofs.TakenLaws.{least-removals, least-since, least-greatest}
+use Rattle.table.specs.Call.{Call, add, remove, contains, nearest, callOf, kindInRange}
+use Rattle.table.specs.Table.{unfinished, Table}
+use Rattle.table.specs.Event.{enter}
+use Rattle.table.proofs.Tests.{and-left, and-right}
+use Rattle.table.proofs.Sound.{Sound}
+use Rattle.table.proofs.Taken.{since-enter}
+use Rattle.trees.specs.Row.{Entry}
+use Rattle.trees.specs.Tree.{Tree, entriesOf}
+use Rattle.trees.specs.Queue.{Free}
+use Rattle.trees.specs.Tour.{Best, Progress}
+use Rattle.trees.specs.Choice.{Choice}
+use Rattle.trees.specs.Search.{Found, Search}
+use Rattle.trees.proofs.ChoiceOf.{choiceOf}
+use Rattle.trees.proofs.RouteLaws.{walk-begin}
+use Rattle.trees.proofs.SearchLaws.{search-begin}
+use Rattle.trees.proofs.ShapeLaws.{entries-held}
+use Rattle.steps.specs.Submit.{curveFits, callFor, sinceFor, submittedWords}
+use Rattle.history.specs.View.{Seat, countsAt, placeAt, seatAt}
+use Rattle.history.specs.Related.{kindOf, pointOf, curveOf, CurveFits, Walks, Searching, Works, Busy, Related}
+use Rattle.history.proofs.Effects.{submit-written, submit-rows}
+use Rattle.history.proofs.RelatedLaws.{word-changes, word-root, word-removals, removals-word}
+use Rattle.history.proofs.RelatedRows.{held-ranged}
+use Rattle.history.proofs.HeldLaws.{entries-once}
+use Rattle.history.proofs.SaysLaws.{seat-put-each, says-put, written-removals, written-since, related-written}
+
+-- ---- a search of the same records
+
+-- ---- the new seat
+
+-- the seat of a call that was just submitted
+abbrev begunSeat : List ℕ → ℕ → ℕ → Point → ℕ → Seat
+begunSeat words s kind p c = record {
+  place = record { cursor = get words atRoot; phase = 0; since = sinceFor (get words atRemovals) kind; missed = NONE };
+  state = 1;
+  call = callFor (get words atChanges) kind p c;
+  answer = seatAt words s .answer;
+}
+
+module _ {words : List ℕ} {t : Table} (s : ℕ) (p : Point) (c : ℕ) (h : Sound t) (r : Related words t) (ranged : inRange p ≡ true) where
+  -- a walk begins at the root
+  walk-begun : (kind : ℕ) → sinceFor (get words atRemovals) kind ≡ NONE → Walks (r .tree) (begunSeat words s kind p c) p none
+  unfolding callFor
+  walk-begun kind e = record { since = e; missed = refl; unset = refl; walking = rw (word-root r) (walk-begin (r .tree) p); best = refl }
+
+  -- so does a search, for the records held now
+  search-begun : Searching (enter t s (nearest p)) (r .tree) (r .queue) (begunSeat words s 4 p c) (t .calls) p none
+  unfolding callFor enter
+  search-begun = record {
+    since = word-removals r ∙ sym (since-enter t s (nearest p) h);
+    entries = entriesOf (r .tree);
+    once = entries-once r;
+    ranged = λ e m. held-ranged r e (entries-held (r .tree) e .0 m);
+    search = rw (word-changes r, word-removals r, word-root r) (search-begin (choiceOf p) (r .tree) (r .store) (λ e. (entries-held (r .tree) e .1, entries-held (r .tree) e .0)));
+    answer = entries-held (r .tree);
+  }
+
+  -- the call is unfinished, whatever its kind
+  busy-begun : (kind : ℕ) (call : Call) → kindOf call ≡ kind → pointOf call ≡ p → curveOf call ≡ cond (eqb kind 1) c 0 → CurveFits call
+      → Works (enter t s call) (r .tree) (r .queue) (begunSeat words s kind p c) (t .calls) call none
+      → Busy (enter t s call) (r .tree) (r .queue) (begunSeat words s kind p c) (t .calls) call none
+  unfolding callFor enter
+  busy-begun kind call k e v fits works = record {
+    state = refl;
+    kind = sym k;
+    point = sym e;
+    curve = sym v;
+    ranged = rw e ranged;
+    fits = fits;
+    asof = omega (arith, word-changes r);
+    kept = noBest-point;
+    phase = omega arith;
+    works = works;
+  }
+
+  -- by kind
+  begun-busy : (kind : ℕ) → 1 ≤ kind → kind ≤ 4 → curveFits kind c ≡ true
+      → Busy (enter t s (callOf kind p c)) (r .tree) (r .queue) (begunSeat words s kind p c) (t .calls) (callOf kind p c) none
+  unfolding callOf
+  begun-busy zero l m f = absurd (omega arith)
+  begun-busy (suc zero) l m f = busy-begun 1 (add p c) refl refl refl f (walk-begun 1 refl)
+  begun-busy (suc (suc zero)) l m f = busy-begun 2 (remove p) refl refl refl tt (walk-begun 2 refl)
+  begun-busy (suc (suc (suc zero))) l m f = busy-begun 3 (contains p) refl refl refl tt (walk-begun 3 refl)
+  begun-busy (suc (suc (suc (suc zero)))) l m f = busy-begun 4 (nearest p) refl refl refl tt search-begun
+  begun-busy (suc (suc (suc (suc (suc n))))) l m f = absurd (omega arith)
+
+-- the since word of a new call is no less than the removals
+since-begun : (removals kind : ℕ) → removals ≤ NONE → removals ≤ sinceFor removals kind
+since-begun removals kind l = go (eqb kind 4)
+  where
+    go : (b : Bool) → removals ≤ cond b removals NONE
+    go true = omega arith
+    go false = l
+
+-- The slice with the call written is related to the table with the call entered.
+pub related-submitted : {words : List ℕ} {t : Table} (s kind : ℕ) (p : Point) (c : ℕ) → Sound t → Related words t → s < 8 → kindInRange kind ≡ true → inRange p ≡ true → curveFits kind c ≡ true
+    → Related (submittedWords words s kind p c) (enter t s (callOf kind p c))
+unfolding enter countsAt seatAt placeAt kindInRange
+related-submitted {words} {t} s kind p c h r l k ranged fits =
+    let w = submit-written words (t .places) (t .limit) (r .opened) s l kind p c ranged in
+    let x : Seat = begunSeat words s kind p c in
+    let low : leastSince words ≤ sinceFor (get words atRemovals) kind =
+    omega (arith, least-removals words, since-begun (get words atRemovals) kind (omega (arith, word-removals r, removals-word r h))) in
+    related-written r w (submit-rows words (t .places) (t .limit) (r .opened) s l kind p c) (record { places = refl; limit = refl; held = refl; changes = refl; removals = refl })
+    (least-greatest (submittedWords words s kind p c) (leastSince words) (omega (arith, least-removals words, written-removals w)) (λ u m.
+    rw (written-since w u m) (seat-put-each (λ (y : Seat). leastSince words ≤ y .place .since) (λ v. seatAt words v) s x low u (least-since words u m))))
+    (says-put t (enter t s (callOf kind p c)) refl refl (r .tree) (r .queue) (λ u. seatAt words u) (t .stations) (r .seats) s x (unfinished (t .calls) (callOf kind p c) none)
+    (begun-busy s p c h r ranged kind (leb-true 1 kind (and-left (leb 1 kind) (leb kind 4) k)) (leb-true kind 4 (and-right (leb 1 kind) (leb kind 4) k)) fits))

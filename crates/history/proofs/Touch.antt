@@ -1,0 +1,92 @@
+-- What a step touches (document 01, the last paragraph of "The plain table"): `touch`, for every content of the words.
+-- `submit-touch` and `take-touch` are the same of a submission and of a taking.
+use Prim.Native.Nat.{ℕ, _*_, _≤_, _<_}
+use mathlib.Core.Path.{_≡_, refl, ap, ap₂, _∙_}
+use mathlib.Core.Bool.{Bool, true, false, cond, _&&_}
+use mathlib.Core.List.{List, List·Memᴰ}
+use native.Mathlib.Omega.{arith}
+use borrow.Author.Tests.{ltb-true}
+use lib.Dec.{eqb, leb, ltb}
+use lib.ListN.{length}
+use Rattle.rows.specs.Layout.{atPlaces, atChanges}
+use Rattle.rows.specs.Row.{rowAt}
+use Rattle.rows.specs.Common.{openedIn, commonSound}
+use Rattle.rows.specs.Station.{isUnfinished, stateAt}
+use Rattle.rows.specs.Call.{callAt, callSound}
+use Rattle.rows.proofs.CommonLaws.{commonSound-agree}
+use Rattle.rows.proofs.RecordLaws.{stateAt-agree, callAt-agree}
+use Rattle.steps.specs.Reply.{isOpened, rowsIn}
+use Rattle.steps.specs.Link.{isCut}
+use Rattle.steps.specs.Walk.{codeAt, standsAt}
+use Rattle.steps.specs.Step.{recordsSound, workOf, stepOf}
+use Rattle.history.specs.Touch.{AgreeOn, Leaves, pickRows, searchRows, walkRows, stepRows}
+use Rattle.history.proofs.TouchLaws.{get-same, opened-same}
+use Rattle.history.proofs.TouchRows.{below-there, below-few}
+use Rattle.history.proofs.TouchReply.{Alike, alike-ask, alike-rows}
+use Rattle.history.proofs.TouchWalk.{walk-alike}
+use Rattle.history.proofs.TouchSearch.{search-alike}
+
+-- ---- at most six rows
+
+pick-few : (b : Bool) (x y : List ℕ) → length x ≤ 6 → length y ≤ 6 → length (pickRows b x y) ≤ 6
+pick-few true x y m n = m
+pick-few false x y m n = n
+
+pub step-rows : (v : List ℕ) (s : ℕ) → length (stepRows v s) ≤ 6
+unfolding stepRows
+step-rows v s =
+    let call = callAt v s in
+    let row = rowAt v (rowsIn v) (standsAt v s) in
+    let needed = pickRows (eqb (call .kind) 4) (searchRows v (rowsIn v) s call) (walkRows v (rowsIn v) s call) in
+    let few : length needed ≤ 6 = pick-few (eqb (call .kind) 4) _ _ (omega arith)
+    (pick-few (isCut row) _ _ (omega arith)
+    (pick-few (eqb (codeAt v call row) 1) _ _ (omega arith) (pick-few (eqb (codeAt v call row) 5) _ _ (omega arith) (omega arith))))
+    in
+    omega (arith, few, below-few (rowsIn v) needed)
+
+-- each is a row of the index
+pub step-rows-there : (v : List ℕ) (s r : ℕ) → List·Memᴰ r (stepRows v s) → r < rowsIn v
+unfolding stepRows
+step-rows-there v s r m = below-there (rowsIn v) _ r m
+
+-- ---- what is read of the two records
+
+module _ {v w : List ℕ} {s : ℕ} {rows : List ℕ} (a : AgreeOn v w s rows) where
+  rows-same : rowsIn v ≡ rowsIn w
+  unfolding rowsIn
+  rows-same = ap (λ x. cond (leb x 4096) (2 * x) 0) (get-same a atPlaces (omega arith))
+
+  sound-same : recordsSound v s ≡ recordsSound w s
+  unfolding recordsSound
+  sound-same =
+      ap₂ _&&_ (ap (commonSound v) rows-same ∙ commonSound-agree (a .common) (rowsIn w))
+      (ap₂ callSound (callAt-agree s (a .station)) (get-same a atChanges (omega arith)))
+
+-- ---- one step
+
+work-alike : {v w : List ℕ} {s : ℕ} → s < 8 → AgreeOn v w s (stepRows v s)
+    → Alike v w (workOf v (rowsIn v) s (callAt v s)) (workOf w (rowsIn w) s (callAt w s)) s (stepRows v s)
+unfolding stepRows
+work-alike {v} {w} {s} h a =
+    rw (← rows-same a, ← callAt-agree s (a .station))
+    (alike-rows (rowsIn v) (eqb (callAt v s .kind) 4) _ _ a (search-alike h (rowsIn v) (callAt v s)) (walk-alike h (rowsIn v) (callAt v s)))
+
+step-alike : {v w : List ℕ} {s : ℕ} → AgreeOn v w s (stepRows v s) → Alike v w (stepOf v s) (stepOf w s) s (stepRows v s)
+unfolding stepOf
+step-alike {v} {w} {s} a =
+    alike-ask a (isOpened (openedIn v)) (isOpened (openedIn w)) 4 (ap isOpened (opened-same a))
+    (λ o. alike-ask a (ltb s 8) (ltb s 8) 5 refl
+    (λ l. alike-ask a (isUnfinished (stateAt v s)) (isUnfinished (stateAt w s)) 10 (ap isUnfinished (stateAt-agree s (a .station)))
+    (λ u. alike-ask a (recordsSound v s) (recordsSound w s) 11 (sound-same a) (λ r. work-alike (ltb-true s 8 l) a))))
+
+-- the rows `stepRows` of a step do what the sentence says
+pub step-touch : (v w : List ℕ) (s : ℕ) → AgreeOn v w s (stepRows v s)
+    → (stepOf v s .number ≡ stepOf w s .number) × Leaves v w (stepOf v s .words) (stepOf w s .words) s (stepRows v s)
+step-touch v w s a = let x = step-alike a in (x .number, x .leaves)
+
+-- "For each slice and step there are at most six rows such that this holds, with those rows added to the two records, against every slice that
+-- agrees with it there." Each of them is one of the 2 × places rows.
+pub touch : (v : List ℕ) (s : ℕ)
+    → (rows : List ℕ) × (length rows ≤ 6) × ((r : ℕ) → List·Memᴰ r rows → r < rowsIn v)
+    × ((w : List ℕ) → AgreeOn v w s rows → (stepOf v s .number ≡ stepOf w s .number) × Leaves v w (stepOf v s .words) (stepOf w s .words) s rows)
+touch v s = (stepRows v s, step-rows v s, step-rows-there v s, λ w a. step-touch v w s a)

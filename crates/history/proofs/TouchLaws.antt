@@ -1,0 +1,91 @@
+-- What is read alike in two slices that agree, and what single writes leave (`Leaves`): the parts of which the theorems on touching are made.
+use Prim.Native.Nat.{ℕ, _<_}
+use mathlib.Core.Path.{_≡_, refl, _∙_}
+use mathlib.Core.List.{List, List·Memᴰ}
+use native.Mathlib.Omega.{arith}
+use Rattle.rows.specs.declared.row.Row.{Row}
+use Rattle.rows.specs.declared.station.State.{State}
+use Rattle.rows.specs.declared.call.Best.{Best}
+use Rattle.rows.specs.declared.call.Call.{Call}
+use Rattle.rows.specs.declared.answer.Answer.{Answer}
+use Rattle.rows.specs.Words.{get, put}
+use Rattle.rows.specs.Agree.{Agree, Region, inCommon, inStation, inRow, OnlyIn}
+use Rattle.rows.specs.Row.{rowAt, putRow}
+use Rattle.rows.specs.Common.{openedIn}
+use Rattle.rows.specs.Station.{putState, putPlace, putSince, putMissed}
+use Rattle.rows.specs.Call.{putBest, putCall}
+use Rattle.rows.specs.Answer.{putAnswer}
+use Rattle.rows.proofs.AgreeLaws.{put-agree}
+use Rattle.rows.proofs.RowLaws.{putRow-only, putRow-agree, rowAt-agree}
+use Rattle.rows.proofs.OpeningLaws.{openedIn-agree}
+use Rattle.rows.proofs.StationLaws.{putState-only, putState-agree, putBest-only, putBest-agree, putCall-only, putCall-agree, putAnswer-only, putAnswer-agree, putPlace-only, putPlace-agree, putSince-only, putSince-agree, putMissed-only, putMissed-agree, put-common}
+use Rattle.history.specs.Touch.{AgreeOn, KeepsOthers, Leaves}
+
+-- ---- reads
+
+module _ {v w : List ℕ} {s : ℕ} {rows : List ℕ} (a : AgreeOn v w s rows) where
+  pub get-same : (k : ℕ) → k < 96 → get v k ≡ get w k
+  get-same k h = a .common .words k (omega arith) (omega arith)
+
+  pub opened-same : openedIn v ≡ openedIn w
+  opened-same = openedIn-agree (a .common)
+
+  pub row-same : (count r : ℕ) → List·Memᴰ r rows → rowAt v count r ≡ rowAt w count r
+  row-same count r m = rowAt-agree count r (a .row r m)
+
+-- ---- writes
+
+nothing-kept : (v : List ℕ) (s : ℕ) (rows : List ℕ) → KeepsOthers v v s rows
+nothing-kept v s rows = record { lengths = refl; others = λ k c t r. refl }
+
+-- an event that writes nothing
+pub leaves-nothing : {v w : List ℕ} {s : ℕ} {rows : List ℕ} → AgreeOn v w s rows → Leaves v w v w s rows
+leaves-nothing {v} {w} {s} {rows} a = record { agree = a; first = nothing-kept v s rows; second = nothing-kept w s rows }
+
+-- a write in the common record, in the station's record, or in one of the rows
+data Among (s : ℕ) (rows : List ℕ) : Region → Type 0 where
+  the-common : Among s rows inCommon
+  the-station : Among s rows (inStation s)
+  a-row : {r : ℕ} → List·Memᴰ r rows → Among s rows (inRow r)
+
+kept-more : {v v′ v″ : List ℕ} {s : ℕ} {rows : List ℕ} (x : Region) → Among s rows x → KeepsOthers v v′ s rows → OnlyIn v″ v′ x → KeepsOthers v v″ s rows
+kept-more inCommon the-common k o = record { lengths = o .lengths ∙ k .lengths; others = λ i c t r. o .others i c ∙ k .others i c t r }
+kept-more (inStation s) the-station k o = record { lengths = o .lengths ∙ k .lengths; others = λ i c t r. o .others i t ∙ k .others i c t r }
+kept-more (inRow q) (a-row m) k o = record { lengths = o .lengths ∙ k .lengths; others = λ i c t r. o .others i (r q m) ∙ k .others i c t r }
+
+-- one more write, the same on both sides
+more-leaves : {v w v′ w′ v″ w″ : List ℕ} {s : ℕ} {rows : List ℕ} (x : Region) → Among s rows x → ((a n : ℕ) → Agree v′ w′ a n → Agree v″ w″ a n) → OnlyIn v″ v′ x → OnlyIn w″ w′ x
+    → Leaves v w v′ w′ s rows → Leaves v w v″ w″ s rows
+more-leaves x m f o p l = record {
+  agree = record { common = f _ _ (l .agree .common); station = f _ _ (l .agree .station); row = λ r h. f _ _ (l .agree .row r h) };
+  first = kept-more x m (l .first) o;
+  second = kept-more x m (l .second) p;
+}
+
+module _ {v w v′ w′ : List ℕ} {s : ℕ} {rows : List ℕ} (l : Leaves v w v′ w′ s rows) where
+  pub leaves-put : (i x y : ℕ) → i < 96 → x ≡ y → Leaves v w (put v′ i x) (put w′ i y) s rows
+  leaves-put i x y h e = rw (← e) (more-leaves inCommon the-common (λ j n a. put-agree a i x) (put-common v′ i x h) (put-common w′ i x h) l)
+
+  pub leaves-state : (x y : State) → x ≡ y → Leaves v w (putState v′ s x) (putState w′ s y) s rows
+  leaves-state x y e = rw (← e) (more-leaves (inStation s) the-station (λ i n a. putState-agree a s x) (putState-only v′ s x) (putState-only w′ s x) l)
+
+  pub leaves-call : (x y : Call) → x ≡ y → Leaves v w (putCall v′ s x) (putCall w′ s y) s rows
+  leaves-call x y e = rw (← e) (more-leaves (inStation s) the-station (λ i n a. putCall-agree a s x) (putCall-only v′ s x) (putCall-only w′ s x) l)
+
+  pub leaves-best : (x y : Best) → x ≡ y → Leaves v w (putBest v′ s x) (putBest w′ s y) s rows
+  leaves-best x y e = rw (← e) (more-leaves (inStation s) the-station (λ i n a. putBest-agree a s x) (putBest-only v′ s x) (putBest-only w′ s x) l)
+
+  pub leaves-answer : (x y : Answer) → x ≡ y → Leaves v w (putAnswer v′ s x) (putAnswer w′ s y) s rows
+  leaves-answer x y e = rw (← e) (more-leaves (inStation s) the-station (λ i n a. putAnswer-agree a s x) (putAnswer-only v′ s x) (putAnswer-only w′ s x) l)
+
+  pub leaves-place : (c d p q : ℕ) → c ≡ d → p ≡ q → Leaves v w (putPlace v′ s c p) (putPlace w′ s d q) s rows
+  leaves-place c d p q e f = rw (← e, ← f) (more-leaves inCommon the-common (λ i n a. putPlace-agree a s c p) (putPlace-only v′ s c p) (putPlace-only w′ s c p) l)
+
+  pub leaves-since : (x y : ℕ) → x ≡ y → Leaves v w (putSince v′ s x) (putSince w′ s y) s rows
+  leaves-since x y e = rw (← e) (more-leaves inCommon the-common (λ i n a. putSince-agree a s x) (putSince-only v′ s x) (putSince-only w′ s x) l)
+
+  pub leaves-missed : (x y : ℕ) → x ≡ y → Leaves v w (putMissed v′ s x) (putMissed w′ s y) s rows
+  leaves-missed x y e = rw (← e) (more-leaves inCommon the-common (λ i n a. putMissed-agree a s x) (putMissed-only v′ s x) (putMissed-only w′ s x) l)
+
+  pub leaves-row : (r : ℕ) (x : Row) → List·Memᴰ r rows → Leaves v w (putRow v′ r x) (putRow w′ r x) s rows
+  leaves-row r x m = more-leaves (inRow r) (a-row m) (λ i n a. putRow-agree a r x) (putRow-only v′ r x) (putRow-only w′ r x) l

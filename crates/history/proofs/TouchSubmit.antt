@@ -1,0 +1,50 @@
+-- What a submission touches: the common record and the station's, and these alone decide it (`submit-touch`).
+use Prim.Native.Nat.{ℕ}
+use mathlib.Core.Path.{_≡_, refl, ap}
+use mathlib.Core.List.{List, []}
+use native.Mathlib.Omega.{arith}
+use lib.Dec.{ltb}
+use Rattle.points.specs.declared.point.Point.{Point}
+use Rattle.points.specs.Point.{inRange}
+use Rattle.rows.specs.Layout.{atChanges, atRoot, atRemovals}
+use Rattle.rows.specs.Common.{openedIn}
+use Rattle.rows.specs.Station.{isIdle, stateAt}
+use Rattle.rows.proofs.RecordLaws.{stateAt-agree}
+use Rattle.steps.specs.Reply.{isOpened}
+use Rattle.steps.specs.Submit.{kindIn, curveFits, callFor, sinceFor, begunWords, submittedWords, submitOf}
+use Rattle.history.specs.Touch.{AgreeOn, Leaves}
+use Rattle.history.proofs.TouchLaws.{get-same, opened-same, leaves-nothing, leaves-state, leaves-call, leaves-place, leaves-since, leaves-missed}
+use Rattle.history.proofs.TouchReply.{Alike, alike-done, alike-ask}
+
+module _ {v w : List ℕ} {s : ℕ} {rows : List ℕ} where
+  -- the call stands at the root
+  begun-leaves : {v′ w′ : List ℕ} → Leaves v w v′ w′ s rows → (kind : ℕ) → Leaves v w (begunWords v′ s kind) (begunWords w′ s kind) s rows
+  unfolding begunWords
+  begun-leaves {v′} {w′} l kind =
+      leaves-missed
+      (leaves-since (leaves-place l _ _ _ _ (get-same (l .agree) atRoot (omega arith)) refl) _ _
+      (ap (λ x. sinceFor x kind) (get-same (l .agree) atRemovals (omega arith)))) _ _ refl
+
+  -- what is written
+  submitted-leaves : AgreeOn v w s rows → (kind : ℕ) (p : Point) (c : ℕ) → Leaves v w (submittedWords v s kind p c) (submittedWords w s kind p c) s rows
+  unfolding submittedWords
+  submitted-leaves a kind p c =
+      begun-leaves
+      (leaves-state (leaves-call (leaves-nothing a) _ _ (ap (λ x. callFor x kind p c) (get-same a atChanges (omega arith)))) _ _ refl) kind
+
+  -- the questions, which two slices that agree answer alike
+  submit-alike : AgreeOn v w s rows → (kind : ℕ) (p : Point) (c : ℕ) → Alike v w (submitOf v s kind p c) (submitOf w s kind p c) s rows
+  unfolding submitOf
+  submit-alike a kind p c =
+      alike-ask a (isOpened (openedIn v)) (isOpened (openedIn w)) 4 (ap isOpened (opened-same a))
+      (λ o. alike-ask a (ltb s 8) (ltb s 8) 5 refl
+      (λ l. alike-ask a (isIdle (stateAt v s)) (isIdle (stateAt w s)) 6 (ap isIdle (stateAt-agree s (a .station)))
+      (λ i. alike-ask a (kindIn kind) (kindIn kind) 7 refl
+      (λ k. alike-ask a (inRange p) (inRange p) 8 refl
+      (λ r. alike-ask a (curveFits kind c) (curveFits kind c) 9 refl (λ f. alike-done (submitted-leaves a kind p c)))))))
+
+-- "from two slices of one length that agree in the common record and the station's, as far as they are there, the same submission … gets the
+-- same result, leaves them agreeing there, and keeps every other word"
+pub submit-touch : (v w : List ℕ) (s kind : ℕ) (p : Point) (c : ℕ) → AgreeOn v w s []
+    → (submitOf v s kind p c .number ≡ submitOf w s kind p c .number) × Leaves v w (submitOf v s kind p c .words) (submitOf w s kind p c .words) s []
+submit-touch v w s kind p c a = let x = submit-alike a kind p c in (x .number, x .leaves)

@@ -1,0 +1,30 @@
+-- What a taking touches: the common record and the station's, and these alone decide it (`take-touch`).
+use Prim.Native.Nat.{ℕ}
+use mathlib.Core.Path.{_≡_, refl}
+use mathlib.Core.Bool.{cond}
+use mathlib.Core.List.{List, []}
+use lib.Dec.{ltb}
+use Rattle.rows.proofs.RecordLaws.{waitingAt-agree}
+use Rattle.steps.specs.declared.take.Taking.{Taking}
+use Rattle.steps.specs.declared.take.Taking.the-variants.{Refused as Refusal, Given as Taken}
+use Rattle.steps.specs.Reply.{isOpened}
+use Rattle.steps.specs.Take.{takingOf, takeOf, takenWords, takeWords}
+use Rattle.history.specs.Touch.{AgreeOn, Leaves}
+use Rattle.history.proofs.TouchLaws.{opened-same, leaves-nothing, leaves-state}
+
+module _ {v w : List ℕ} {s : ℕ} {rows : List ℕ} (a : AgreeOn v w s rows) where
+  take-same : takeOf v s ≡ takeOf w s
+  unfolding takeOf
+  take-same = λ i. cond (isOpened (opened-same a i)) (cond (ltb s 8) (takingOf (waitingAt-agree s (a .station) i)) (Refusal 5)) (Refusal 4)
+
+  taken-leaves : (x : Taking) → Leaves v w (takenWords v s x) (takenWords w s x) s rows
+  taken-leaves (Refusal number) = leaves-nothing a
+  taken-leaves (Taken answer) = leaves-state (leaves-nothing a) _ _ refl
+
+  take-leaves : Leaves v w (takeWords v s) (takeWords w s) s rows
+  unfolding takeWords
+  take-leaves = rw (← take-same) (taken-leaves (takeOf v s))
+
+-- "the same submission or taking gets the same result, leaves them agreeing there, and keeps every other word"
+pub take-touch : (v w : List ℕ) (s : ℕ) → AgreeOn v w s [] → (takeOf v s ≡ takeOf w s) × Leaves v w (takeWords v s) (takeWords w s) s []
+take-touch v w s a = (take-same a, take-leaves a)

@@ -1,0 +1,23 @@
+-- The words after a history: "each getting the index as the last one left it".
+use mathlib.Core.List.{List, [], _∷_}
+use Prim.Native.Nat.{ℕ, zero, suc}
+use mathlib.Core.Path.{_≡_}
+use mathlib.Core.Logic.{_⊎_}
+use Rattle.table.specs.Event.{Event}
+use Rattle.table.specs.History.{reply}
+use Rattle.steps.specs.Step.{stepOf}
+use Rattle.steps.specs.Take.{takeOf, numberOf}
+use Rattle.history.specs.Index.{wordIndex}
+
+unfoldable pub after : List Event → List ℕ → List ℕ
+after [] words = words
+after (ev ∷ evs) words = after evs (reply wordIndex words ev .next)
+
+-- a taking by the station would be accepted next
+abbrev pub Answered : List ℕ → ℕ → Type 0
+Answered words s = numberOf (takeOf words s) ≡ 0
+
+-- the station, "stepped while the others stand still, is answered within" so many steps, none of which is refused
+abbrev pub AnsweredWithin : ℕ → List ℕ → ℕ → Type 0
+AnsweredWithin zero words s = ⊥
+AnsweredWithin (suc n) words s = (stepOf words s .number ≡ 0) × (Answered (stepOf words s .words) s ⊎ AnsweredWithin n (stepOf words s .words) s)

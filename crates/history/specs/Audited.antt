@@ -1,0 +1,55 @@
+-- What an audit says yes to: "the rows linked from the root, if any, have fields in range as for question 11 and form a tree in which each
+-- leaf's point is on the side that every cut above it sends it, parent links agree, and every row lies in the tree, among the spare rows, or in
+-- the records awaiting release, once and in order of removal."
+use Prim.Native.Nat.{ℕ, _+_, _*_, _≤_, _<_}
+use mathlib.Core.Path.{_≡_}
+use mathlib.Core.Logic.{_⊎_}
+use mathlib.Core.List.{List, _++_}
+use mathlib.Core.Option.{Option}
+use lib.ListN.{length}
+use Rattle.rows.specs.declared.common.Opening.the-variants.{Opened}
+use Rattle.rows.specs.Layout.{atRoot, atHead, atTail, atRemovals}
+use Rattle.rows.specs.Words.{get}
+use Rattle.rows.specs.Common.{openedIn, leastSince}
+use Rattle.trees.specs.Row.{Heap}
+use Rattle.trees.specs.Tree.{Tree, topOf, Has, Shape, Routed, Distinct}
+use Rattle.trees.specs.Queue.{Free, headOf, tailOf, Linked, InQueue, Once, UpTo, Removal, freedAfter}
+use Rattle.history.specs.View.{Reads}
+
+-- the queue is spare rows, whose numbers are at most removals − awaiting, and then for each number from there to removals, in that order, a
+-- removed row and at most one spare row of that number; `released` is removals − awaiting
+pub record InOrder (queue : List Free) (removals released : ℕ) : Type 0 where
+  pub spare : List Free
+  pub awaited : List Removal
+  pub parts : queue ≡ spare ++ freedAfter released awaited
+  pub counted : released + length awaited ≡ removals
+  pub past : UpTo released spare
+
+-- question 4 passes, and there are a tree, or none, and a queue of free rows such that
+pub record Audited (words : List ℕ) : Type 0 where
+  pub places : ℕ
+  pub limit : ℕ
+  pub opened : openedIn words ≡ Opened places limit
+  pub heap : Heap
+  pub tree : Option Tree
+  pub queue : List Free
+  -- every row reads in range, as a value
+  pub reads : Reads words (2 * places) heap
+  -- the rows linked from the root form the tree, parent links agreeing; each leaf's point is on the side that every cut above it sends it
+  pub root : get words atRoot ≡ topOf tree
+  pub shape : Shape heap tree
+  pub routed : Routed tree
+  -- the free rows are the queue, from its head by next links to its tail, whose next link is none
+  pub head : get words atHead ≡ headOf queue
+  pub tail : get words atTail ≡ tailOf queue
+  pub not-empty : 1 ≤ length queue
+  pub linked : Linked heap queue
+  -- every row lies in the tree or in the queue, once
+  pub inside : (i : ℕ) → Has tree i → i < 2 * places
+  pub free : (i : ℕ) → InQueue queue i → i < 2 * places
+  pub each : (i : ℕ) → i < 2 * places → Has tree i ⊎ InQueue queue i
+  pub apart : (i : ℕ) → Has tree i → InQueue queue i → ⊥
+  pub distinct : Distinct tree
+  pub once : Once queue
+  -- and the queue is in order of removal
+  pub order : InOrder queue (get words atRemovals) (leastSince words)

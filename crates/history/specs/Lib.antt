@@ -1,0 +1,7 @@
+pub mod Index
+pub mod View
+pub mod Related
+pub mod After
+pub mod Audited
+pub mod Questions
+pub mod Touch

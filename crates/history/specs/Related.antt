@@ -1,0 +1,143 @@
+-- The relation of words and table that every event of a history keeps: a record of named invariants.
+use Prim.Native.Nat.{ℕ, _*_, _≤_, _<_}
+use mathlib.Core.Path.{_≡_}
+use mathlib.Core.Logic.{_↔_}
+use mathlib.Core.Bool.{Bool, true, false}
+use mathlib.Core.List.{List, map, List·Memᴰ}
+use mathlib.Core.Option.{Option, none, some}
+use lib.ListN.{length}
+use Rattle.points.specs.declared.point.Point.{Point}
+use Rattle.points.specs.Point.{inRange}
+use Rattle.points.specs.Word.{NONE}
+use Rattle.rows.specs.declared.common.Opening.the-variants.{Opened}
+use Rattle.rows.specs.Range.{curveIn}
+use Rattle.rows.specs.Common.{openedIn, leastSince}
+use Rattle.rows.specs.Answer.{answerSound}
+use Rattle.table.specs.Record.{Record, Once, Same, nearestOf}
+use Rattle.table.specs.Call.{Call, add, remove, contains, nearest, Answer, nearestAnswer}
+use Rattle.table.specs.Table.{Station, idle, unfinished, waiting, Table}
+use Rattle.table.proofs.Removals.{sinceOf}
+use Rattle.trees.specs.Row.{Entry, Heap}
+use Rattle.trees.specs.Tree.{Tree, topOf, Holds, countOf, entriesOf}
+use Rattle.trees.specs.Queue.{Free, headOf, tailOf}
+use Rattle.trees.specs.Store.{Store}
+use Rattle.trees.specs.Route.{Walking}
+use Rattle.trees.specs.Search.{Search}
+use Rattle.trees.proofs.ChoiceOf.{choiceOf}
+use Rattle.history.specs.Index.{answerOf}
+use Rattle.history.specs.View.{Counts, Place, Seat, countsAt, seatAt, Reads, progressOf}
+
+-- the record of an entry
+abbrev pub recordOf : Entry → Record
+recordOf e = record { point = e .point; curve = e .curve }
+
+-- document 01's number, point and curve of a call
+abbrev pub kindOf : Call → ℕ
+kindOf (add p c) = 1
+kindOf (remove p) = 2
+kindOf (contains p) = 3
+kindOf (nearest p) = 4
+
+abbrev pub pointOf : Call → Point
+pointOf (add p c) = p
+pointOf (remove p) = p
+pointOf (contains p) = p
+pointOf (nearest p) = p
+
+abbrev pub curveOf : Call → ℕ
+curveOf (add p c) = c
+curveOf (remove p) = 0
+curveOf (contains p) = 0
+curveOf (nearest p) = 0
+
+-- an add has a curve in range
+abbrev pub CurveFits : Call → Type 0
+CurveFits (add p c) = curveIn c ≡ true
+CurveFits (remove p) = Unit {0}
+CurveFits (contains p) = Unit {0}
+CurveFits (nearest p) = Unit {0}
+
+-- the seat of a station with no unfinished call stands nowhere
+pub record Quiet (place : Place) : Type 0 where
+  pub cursor : place .cursor ≡ NONE
+  pub phase : place .phase ≡ 0
+  pub since : place .since ≡ NONE
+  pub missed : place .missed ≡ NONE
+
+-- while nothing is set down for a nearest call, the entries held at its submission are those held now; then the answer is that of their records
+abbrev pub Set : Point → List Entry → Option Tree → Option Answer → Type 0
+Set target entries tree none = (e : Entry) → List·Memᴰ e entries ↔ Holds tree e
+Set target entries tree (some a) = a ≡ nearestAnswer target (nearestOf target (map recordOf entries))
+
+-- an unfinished nearest call; `entries` were held at its submission
+pub record Searching (t : Table) (tree : Option Tree) (queue : List Free) (seat : Seat) (i : ℕ) (target : Point) (set : Option Answer) : Type 0 where
+  pub since : seat .place .since ≡ sinceOf i (t .removals)
+  pub entries : List Entry
+  pub once : Once (map recordOf entries)
+  pub ranged : (e : Entry) → List·Memᴰ e entries → (inRange (e .point) ≡ true) × (curveIn (e .curve) ≡ true)
+  pub search : Search (choiceOf target) (seat .call .asof) (seat .place .since) (λ e. List·Memᴰ e entries) tree queue (t .changes) (length (t .removals)) (progressOf seat)
+  pub answer : Set target entries tree set
+
+-- an unfinished add, remove or contains
+pub record Walks (tree : Option Tree) (seat : Seat) (p : Point) (set : Option Answer) : Type 0 where
+  pub since : seat .place .since ≡ NONE
+  pub missed : seat .place .missed ≡ NONE
+  pub unset : set ≡ none
+  pub walking : Walking tree p (seat .place .cursor)
+  pub best : seat .call .best .curve ≡ 0
+
+abbrev pub Works : Table → Option Tree → List Free → Seat → ℕ → Call → Option Answer → Type 0
+Works t tree queue seat i (add p c) set = Walks tree seat p set
+Works t tree queue seat i (remove p) set = Walks tree seat p set
+Works t tree queue seat i (contains p) set = Walks tree seat p set
+Works t tree queue seat i (nearest p) set = Searching t tree queue seat i p set
+
+-- an unfinished call
+pub record Busy (t : Table) (tree : Option Tree) (queue : List Free) (seat : Seat) (i : ℕ) (call : Call) (set : Option Answer) : Type 0 where
+  pub state : seat .state ≡ 1
+  pub kind : seat .call .kind ≡ kindOf call
+  pub point : seat .call .point ≡ pointOf call
+  pub curve : seat .call .curve ≡ curveOf call
+  pub ranged : inRange (pointOf call) ≡ true
+  pub fits : CurveFits call
+  pub asof : seat .call .asof ≤ t .changes
+  pub kept : inRange (seat .call .best .point) ≡ true
+  pub phase : seat .place .phase ≤ 1
+  pub works : Works t tree queue seat i call set
+
+pub record Idle (seat : Seat) : Type 0 where
+  pub state : seat .state ≡ 0
+  pub quiet : Quiet (seat .place)
+
+pub record Waits (seat : Seat) (a : Answer) : Type 0 where
+  pub state : seat .state ≡ 2
+  pub sound : answerSound (seat .answer) ≡ true
+  pub answer : answerOf (seat .answer) ≡ a
+  pub quiet : Quiet (seat .place)
+
+-- the seat says what the table's station says
+abbrev pub Says : Table → Option Tree → List Free → Seat → Station → Type 0
+Says t tree queue seat idle = Idle seat
+Says t tree queue seat (unfinished i call set) = Busy t tree queue seat i call set
+Says t tree queue seat (waiting a) = Waits seat a
+
+-- the counts are those of the table, the tree and the queue
+pub record Counted (t : Table) (tree : Option Tree) (queue : List Free) (counts : Counts) : Type 0 where
+  pub changes : counts .changes ≡ t .changes
+  pub held : counts .held ≡ countOf tree
+  pub root : counts .root ≡ topOf tree
+  pub head : counts .head ≡ headOf queue
+  pub tail : counts .tail ≡ tailOf queue
+  pub removals : counts .removals ≡ length (t .removals)
+
+pub record Related (words : List ℕ) (t : Table) : Type 0 where
+  pub opened : openedIn words ≡ Opened (t .places) (t .limit)
+  pub heap : Heap
+  pub tree : Option Tree
+  pub queue : List Free
+  pub reads : Reads words (2 * t .places) heap
+  pub store : Store (t .places) heap tree queue (t .changes) (length (t .removals)) (leastSince words)
+  pub counted : Counted t tree queue (countsAt words)
+  pub records : Same (map recordOf (entriesOf tree)) (t .held)
+  pub number : countOf tree ≡ length (t .held)
+  pub seats : (s : ℕ) → s < 8 → Says t tree queue (seatAt words s) (t .stations s)

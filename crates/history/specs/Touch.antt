@@ -1,0 +1,100 @@
+-- What an event may touch (document 01, the last paragraph of "The plain table").
+use Prim.Native.Nat.{ℕ}
+use mathlib.Core.Path.{_≡_}
+use mathlib.Core.Bool.{Bool, true, false}
+use mathlib.Core.List.{List, [], _∷_, List·Memᴰ}
+use lib.Dec.{eqb, ltb}
+use lib.ListN.{length}
+use Rattle.rows.specs.declared.row.Row.{Row}
+use Rattle.rows.specs.declared.call.Call.{Call}
+use Rattle.rows.specs.Words.{get}
+use Rattle.rows.specs.Agree.{Off, inCommon, inStation, inRow, startOf, sizeOf, AgreeIn}
+use Rattle.rows.specs.Row.{rowAt}
+use Rattle.rows.specs.Call.{callAt}
+use Rattle.steps.specs.declared.insert.Room.{Room}
+use Rattle.steps.specs.declared.unlink.Around.{Around}
+use Rattle.steps.specs.declared.search.Progress.{Progress}
+use Rattle.steps.specs.Reply.{rowsIn}
+use Rattle.steps.specs.Link.{nextOf, parentOf, isCut}
+use Rattle.steps.specs.Search.{look, tour, progressAt}
+use Rattle.steps.specs.Insert.{roomAt}
+use Rattle.steps.specs.Unlink.{aroundAt}
+use Rattle.steps.specs.Walk.{down, codeAt, standsAt}
+
+-- "two slices of one length that agree in the common record and the station's, as far as they are there", and in some rows
+pub record AgreeOn (v w : List ℕ) (s : ℕ) (rows : List ℕ) : Type 0 where
+  pub common : AgreeIn v w inCommon
+  pub station : AgreeIn v w (inStation s)
+  pub row : (r : ℕ) → List·Memᴰ r rows → AgreeIn v w (inRow r)
+
+-- "keeps every other word"
+pub record KeepsOthers (v v′ : List ℕ) (s : ℕ) (rows : List ℕ) : Type 0 where
+  pub lengths : length v′ ≡ length v
+  pub others : (k : ℕ) → Off (startOf inCommon) (sizeOf inCommon) k → Off (startOf (inStation s)) (sizeOf (inStation s)) k
+      → ((r : ℕ) → List·Memᴰ r rows → Off (startOf (inRow r)) (sizeOf (inRow r)) k) → get v′ k ≡ get v k
+
+-- from v and w an event left v′ and w′: they agree there again, and every other word is kept
+pub record Leaves (v w v′ w′ : List ℕ) (s : ℕ) (rows : List ℕ) : Type 0 where
+  pub agree : AgreeOn v′ w′ s rows
+  pub first : KeepsOthers v v′ s rows
+  pub second : KeepsOthers w w′ s rows
+
+-- ---- the rows that a step needs
+
+-- of a walk that goes on: six on its way
+abbrev pub wayRows : List ℕ → ℕ → Call → ℕ → List ℕ
+wayRows words rows call at =
+    let one = down words rows (call .point) at in
+    let two = down words rows (call .point) one in
+    let three = down words rows (call .point) two in
+    let four = down words rows (call .point) three in
+    let five = down words rows (call .point) four in
+    at ∷ (one ∷ (two ∷ (three ∷ (four ∷ (five ∷ [])))))
+
+-- of an insert, and of an unlink
+abbrev pub roomRows : Room → List ℕ
+roomRows room = room .at ∷ (room .first ∷ (room .second ∷ (room .over ∷ [])))
+
+abbrev pub aroundRows : Around → List ℕ
+aroundRows a = a .at ∷ (a .tail ∷ (a .over ∷ (a .side ∷ (a .above ∷ []))))
+
+abbrev pub pickRows : Bool → List ℕ → List ℕ → List ℕ
+pickRows true x y = x
+pickRows false x y = y
+
+-- of a walk that ends
+abbrev pub endRows : List ℕ → ℕ → Call → ℕ → Row → List ℕ
+endRows words rows call at row =
+    pickRows (eqb (codeAt words call row) 1) (roomRows (roomAt words rows at))
+    (pickRows (eqb (codeAt words call row) 5) (aroundRows (aroundAt words rows at)) (at ∷ []))
+
+abbrev pub walkRows : List ℕ → ℕ → ℕ → Call → List ℕ
+walkRows words rows s call =
+    pickRows (isCut (rowAt words rows (standsAt words s))) (wayRows words rows call (standsAt words s))
+    (endRows words rows call (standsAt words s) (rowAt words rows (standsAt words s)))
+
+-- of a look, and of a tour
+abbrev pub lookRows : List ℕ → ℕ → Progress → List ℕ → List ℕ
+lookRows words rows p rest = p .missed ∷ (nextOf (rowAt words rows (p .missed)) ∷ rest)
+
+abbrev pub tourRows : List ℕ → ℕ → Progress → List ℕ → List ℕ
+tourRows words rows p rest = p .cursor ∷ (parentOf (rowAt words rows (p .cursor)) ∷ rest)
+
+-- of a search
+abbrev pub searchRows : List ℕ → ℕ → ℕ → Call → List ℕ
+searchRows words rows s call =
+    let begun = progressAt words s call in
+    let looked = look words rows call begun in
+    let toured = tour words rows call looked in
+    lookRows words rows begun (tourRows words rows looked (tourRows words rows toured []))
+
+-- those numbers that are rows of an index of so many
+unfoldable pub rowsBelow : ℕ → List ℕ → List ℕ
+rowsBelow rows [] = []
+rowsBelow rows (r ∷ rest) = pickRows (ltb r rows) (r ∷ rowsBelow rows rest) (rowsBelow rows rest)
+
+-- of a step of station s
+unfoldable pub stepRows : List ℕ → ℕ → List ℕ
+stepRows words s =
+    rowsBelow (rowsIn words)
+    (pickRows (eqb (callAt words s .kind) 4) (searchRows words (rowsIn words) s (callAt words s)) (walkRows words (rowsIn words) s (callAt words s)))

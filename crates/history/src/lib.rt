@@ -1,0 +1,1 @@
+// The demands about the calls of `steps`, for every history: definitions and theorems, no code.

@@ -1,0 +1,14 @@
+-- A report: "A report gives the number of places taken, as the common record counts them".
+use Prim.Native.Nat.{ℕ}
+use mathlib.Core.Bool.{cond}
+use mathlib.Core.List.{List}
+use Rattle.rows.specs.Common.{openedIn, takenIn}
+use Rattle.steps.specs.Reply.{isOpened}
+
+pub record Report : Type 0 where
+  pub number : ℕ
+  pub taken : ℕ
+
+-- question 4; the number of places taken, 0 with a refusal
+unfoldable pub reportOf : List ℕ → Report
+reportOf words = cond (isOpened (openedIn words)) (record { number = 0; taken = takenIn words }) (record { number = 4; taken = 0 })

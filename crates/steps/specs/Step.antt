@@ -1,0 +1,28 @@
+-- A step (document 01, "Questions": 4, 5, 10, 11): all that it needs is read and checked before anything is written.
+use Prim.Native.Nat.{ℕ}
+use mathlib.Core.Bool.{Bool, _&&_}
+use mathlib.Core.List.{List}
+use lib.Dec.{eqb, ltb}
+use Rattle.rows.specs.declared.call.Call.{Call}
+use Rattle.rows.specs.Layout.{atChanges}
+use Rattle.rows.specs.Words.{get}
+use Rattle.rows.specs.Common.{openedIn, commonSound}
+use Rattle.rows.specs.Station.{isUnfinished, stateAt}
+use Rattle.rows.specs.Call.{callAt, callSound}
+use Rattle.steps.specs.Reply.{Reply, pickReply, ask, isOpened, rowsIn}
+use Rattle.steps.specs.Search.{searchOf}
+use Rattle.steps.specs.Walk.{walkOf}
+
+-- the fields of the common record and of the station's call are in range
+unfoldable pub recordsSound : List ℕ → ℕ → Bool
+recordsSound words s = commonSound words (rowsIn words) && callSound (callAt words s) (get words atChanges)
+
+-- the work of a nearest, and of any other call
+abbrev pub workOf : List ℕ → ℕ → ℕ → Call → Reply
+workOf words rows s call = pickReply (eqb (call .kind) 4) (searchOf words rows s call) (walkOf words rows s call)
+
+unfoldable pub stepOf : List ℕ → ℕ → Reply
+stepOf words s =
+    ask (isOpened (openedIn words)) 4 words
+    (ask (ltb s 8) 5 words
+    (ask (isUnfinished (stateAt words s)) 10 words (ask (recordsSound words s) 11 words (workOf words (rowsIn words) s (callAt words s)))))

@@ -1,0 +1,48 @@
+-- Submission (document 01, "Questions": 4 to 9). It reads and writes the common record and the station's alone.
+use Prim.Native.Nat.{ℕ}
+use mathlib.Core.Bool.{Bool, cond, _&&_, _||_, not}
+use mathlib.Core.List.{List}
+use lib.Dec.{eqb, leb, ltb}
+use Rattle.points.specs.declared.point.Point.{Point}
+use Rattle.points.specs.Point.{inRange}
+use Rattle.points.specs.Word.{NONE}
+use Rattle.rows.specs.declared.call.Call.{Call}
+use Rattle.rows.specs.Layout.{atChanges, atRoot, atRemovals}
+use Rattle.rows.specs.Words.{get}
+use Rattle.rows.specs.Range.{curveIn}
+use Rattle.rows.specs.Common.{openedIn}
+use Rattle.rows.specs.Station.{isIdle, submitted, stateAt, putState, putPlace, putSince, putMissed}
+use Rattle.rows.specs.Call.{noBest, putCall}
+use Rattle.steps.specs.Reply.{Reply, done, ask, isOpened}
+
+-- "Call kind 1 to 4?"
+abbrev pub kindIn : ℕ → Bool
+kindIn kind = leb 1 kind && leb kind 4
+
+-- "For an add, curve in range? Other kinds disregard the curve."
+abbrev pub curveFits : ℕ → ℕ → Bool
+curveFits kind curve = not (eqb kind 1) || curveIn curve
+
+-- the call as it is kept: the changes at its submission, and no best yet
+unfoldable pub callFor : ℕ → ℕ → Point → ℕ → Call
+callFor changes kind point curve = record { kind = kind; point = point; curve = cond (eqb kind 1) curve 0; asof = changes; best = noBest }
+
+-- "since": the removals at the submission of a nearest, none for another call
+abbrev pub sinceFor : ℕ → ℕ → ℕ
+sinceFor removals kind = cond (eqb kind 4) removals NONE
+
+-- the call stands at the root and goes down; nothing is missed
+unfoldable pub begunWords : List ℕ → ℕ → ℕ → List ℕ
+begunWords words s kind = putMissed (putSince (putPlace words s (get words atRoot) 0) s (sinceFor (get words atRemovals) kind)) s NONE
+
+unfoldable pub submittedWords : List ℕ → ℕ → ℕ → Point → ℕ → List ℕ
+submittedWords words s kind point curve =
+    begunWords (putState (putCall words s (callFor (get words atChanges) kind point curve)) s (submitted (stateAt words s))) s kind
+
+unfoldable pub submitOf : List ℕ → ℕ → ℕ → Point → ℕ → Reply
+submitOf words s kind point curve =
+    ask (isOpened (openedIn words)) 4 words
+    (ask (ltb s 8) 5 words
+    (ask (isIdle (stateAt words s)) 6 words
+    (ask (kindIn kind) 7 words
+    (ask (inRange point) 8 words (ask (curveFits kind curve) 9 words (done (submittedWords words s kind point curve)))))))

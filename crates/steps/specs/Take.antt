@@ -1,0 +1,36 @@
+-- A taking (document 01, "Questions": 4, 5, 12). It writes one word.
+use Prim.Native.Nat.{ℕ}
+use mathlib.Core.Bool.{Bool, true, false, cond}
+use mathlib.Core.List.{List}
+use lib.Dec.{ltb}
+use Rattle.rows.specs.declared.answer.Answer.{Answer}
+use Rattle.rows.specs.declared.answer.Waiting.{Waiting}
+use Rattle.rows.specs.declared.answer.Waiting.the-variants.{Nothing, Given}
+use Rattle.rows.specs.Common.{openedIn}
+use Rattle.rows.specs.Station.{taken, stateAt, putState}
+use Rattle.rows.specs.Answer.{waitingAt}
+use Rattle.steps.specs.declared.take.Taking.{Taking}
+use Rattle.steps.specs.declared.take.Taking.the-variants.{Refused as Refusal, Given as Taken}
+use Rattle.steps.specs.Reply.{isOpened}
+
+-- what a taking by a station with this waiting gives
+abbrev pub takingOf : Waiting → Taking
+takingOf Nothing = Refusal 12
+takingOf (Given a) = Taken a
+
+-- the first question that fails, or the answer
+unfoldable pub takeOf : List ℕ → ℕ → Taking
+takeOf words s = cond (isOpened (openedIn words)) (cond (ltb s 8) (takingOf (waitingAt words s)) (Refusal 5)) (Refusal 4)
+
+-- document 01's number of a taking
+abbrev pub numberOf : Taking → ℕ
+numberOf (Refusal number) = number
+numberOf (Taken a) = 0
+
+-- "Taking leaves the station idle"; a refusal leaves every word
+abbrev pub takenWords : List ℕ → ℕ → Taking → List ℕ
+takenWords words s (Refusal number) = words
+takenWords words s (Taken a) = putState words s (taken (stateAt words s))
+
+unfoldable pub takeWords : List ℕ → ℕ → List ℕ
+takeWords words s = takenWords words s (takeOf words s)
