@@ -1,0 +1,3 @@
+pub mod SearchLaws
+pub mod SubmitLaws
+pub mod UnlinkLaws
