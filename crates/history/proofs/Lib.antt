@@ -48,7 +48,15 @@ pub mod StepWalk
 pub mod StepOutcome
 pub mod Demand3
 pub mod Reached
+pub mod Stepped
 pub mod Solo
+pub mod Run
+pub mod Demand2
+pub mod Called
+pub mod StepNumbers
+pub mod OpenBeyond
+pub mod NearerHeld
+pub mod Example
 pub mod Pigeonhole
 pub mod AuditDistinct
 pub mod AuditOnce

@@ -1,17 +1,17 @@
 -- The words after a history: "each getting the index as the last one left it".
-use mathlib.Core.List.{List, [], _∷_}
+use mathlib.Core.List.{List}
 use Prim.Native.Nat.{ℕ, zero, suc}
 use mathlib.Core.Path.{_≡_}
 use mathlib.Core.Logic.{_⊎_}
 use Rattle.table.specs.Event.{Event}
-use Rattle.table.specs.History.{reply}
+use Rattle.table.specs.History.{after as afterEvents}
 use Rattle.steps.specs.Step.{stepOf}
 use Rattle.steps.specs.Take.{takeOf, numberOf}
 use Rattle.history.specs.Index.{wordIndex}
 
 unfoldable pub after : List Event → List ℕ → List ℕ
-after [] words = words
-after (ev ∷ evs) words = after evs (reply wordIndex words ev .next)
+unfolding afterEvents
+after evs words = afterEvents wordIndex words evs
 
 -- a taking by the station would be accepted next
 abbrev pub Answered : List ℕ → ℕ → Type 0

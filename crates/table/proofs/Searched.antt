@@ -16,7 +16,7 @@ use Rattle.table.specs.Record.{nearestOf}
 use Rattle.table.specs.Call.{Call, nearest, callOf, kindInRange, Answer, nearestAnswer}
 use Rattle.table.specs.Table.{Station, idle, unfinished, waiting, Table, opened, answerOf}
 use Rattle.table.specs.Event.{Event, submission, singleStep, Reply, ask, isIdle, curveFits, enter, submit, ownStep, moments, takeAt, take, perform}
-use Rattle.table.specs.History.{Index, reply, wouldGive, answered, Agree, effects, Follows, Linear}
+use Rattle.table.specs.History.{Index, reply, after, wouldGive, answered, Agree, effects, Follows, Linear}
 use Rattle.table.proofs.Tests.{and-left}
 use Rattle.table.proofs.Nearest.{nearest-same}
 use Rattle.table.proofs.Stations.{put-same}
@@ -37,7 +37,7 @@ take-given t s a = go (ltb s 8) (t .stations s) refl
     go true (unfinished i c o) q e = absurd (Option·none-ne-some a e)
     go true (waiting b) q e = q ∙ ap waiting (Option·some-injective _ _ e)
 
-submit-accepted : (t : Table) (s kind : ℕ) (p : Point) (c : ℕ) → submit t s kind p c .number ≡ 0 → submit t s kind p c .next ≡ enter t s (callOf kind p c)
+pub submit-accepted : (t : Table) (s kind : ℕ) (p : Point) (c : ℕ) → submit t s kind p c .number ≡ 0 → submit t s kind p c .next ≡ enter t s (callOf kind p c)
 unfolding submit
 submit-accepted t s kind p c =
     ask-all P (ltb s 8) 5 t _ (λ e. absurd (omega arith)) (λ l. ask-all P (isIdle (t .stations s)) 6 t _ (λ e. absurd (omega arith))
@@ -59,11 +59,6 @@ entered t s q c e = ap (λ (x : Table). x .stations s) (submit-accepted t s 4 q 
 
 module _ (I : Index) where
   open Index I using (State)
-
-  -- the state after some events
-  unfoldable pub after : State → List Event → State
-  after st [] = st
-  after st (ev ∷ evs) = after (reply I st ev .next) evs
 
   -- P holds of the state before some events, or after one of them
   abbrev pub Sometime : (State → Type 0) → State → List Event → Type 0
@@ -92,7 +87,7 @@ module _ (I : Index) where
   -- the rest of a history that follows
   follows-after : (X : Type 0) (before rest : List Event) (did : ℕ → Type 0) (mss : List (List ℕ)) (st : State) (t : Table)
       → Follows I did st t (before ++ rest) mss
-      → ((did : ℕ → Type 0) (mss : List (List ℕ)) (t : Table) → Follows I did (after st before) t rest mss → X) → X
+      → ((did : ℕ → Type 0) (mss : List (List ℕ)) (t : Table) → Follows I did (after I st before) t rest mss → X) → X
   unfolding after
   follows-after X [] rest did mss st t h k = k did mss t h
   follows-after X (ev ∷ before) rest did [] st t h k = absurd h
@@ -134,8 +129,8 @@ module _ (I : Index) where
 
   search-rest : (q : Point) (s i : ℕ) (a : Answer) (during : List Event) (did : ℕ → Type 0) (mss : List (List ℕ)) (st : State) (t : Table) (o : Option Answer)
       → Follows I did st t (during ++ (singleStep s ∷ [])) mss → t .stations s ≡ unfinished i (nearest q) o → Unanswered s st during
-      → answered I (after st during) (singleStep s) ≡ true
-      → wouldGive I (after st (during ++ (singleStep s ∷ []))) s ≡ some a → (o ≡ some a) ⊎ Sometime (Right q a) st (during ++ (singleStep s ∷ []))
+      → answered I (after I st during) (singleStep s) ≡ true
+      → wouldGive I (after I st (during ++ (singleStep s ∷ []))) s ≡ some a → (o ≡ some a) ⊎ Sometime (Right q a) st (during ++ (singleStep s ∷ []))
   unfolding after reply perform
   search-rest q s i a [] did [] st t o h e n f g = absurd h
   search-rest q s i a [] did (ms ∷ mss) st t o h e n f g =
@@ -179,8 +174,8 @@ module _ (I : Index) where
   -- of s, and no earlier one, and let a be the answer that waits then. Then a is right for the records held after the submission or after one of these events.
   pub search-held : (start : State) (places limit : ℕ) → Linear I start places limit
       → (before during : List Event) (s c : ℕ) (q : Point) (a : Answer) (st : State)
-      → reply I (after start before) (submission s 4 q c) .number ≡ 0 → reply I (after start before) (submission s 4 q c) .next ≡ st → Unanswered s st during
-      → answered I (after st during) (singleStep s) ≡ true → wouldGive I (after st (during ++ (singleStep s ∷ []))) s ≡ some a
+      → reply I (after I start before) (submission s 4 q c) .number ≡ 0 → reply I (after I start before) (submission s 4 q c) .next ≡ st → Unanswered s st during
+      → answered I (after I st during) (singleStep s) ≡ true → wouldGive I (after I st (during ++ (singleStep s ∷ []))) s ≡ some a
       → Sometime (Right q a) st (during ++ (singleStep s ∷ []))
   unfolding perform
   search-held start places limit l before during s c q a st e d n f g =
@@ -189,12 +184,12 @@ module _ (I : Index) where
       follows-after (Sometime (Right q a) st rest) before (submission s 4 q c ∷ rest) (λ s. ⊥) (w .0) start (opened places limit) (w .1) go
     where
       go : (did : ℕ → Type 0) (mss : List (List ℕ)) (t : Table)
-          → Follows I did (after start before) t (submission s 4 q c ∷ (during ++ (singleStep s ∷ []))) mss
+          → Follows I did (after I start before) t (submission s 4 q c ∷ (during ++ (singleStep s ∷ []))) mss
           → Sometime (Right q a) st (during ++ (singleStep s ∷ []))
       go did [] t h = absurd h
       go did (ms ∷ mss) t h =
           let ev : Event = submission s 4 q c in
-          let from : State = after start before in
+          let from : State = after I start before in
           let r : Reply Table = h .1 .0 in
           let k = h .1 .1 in
           let v = feed-inv t ms ev (answered I from ev) r (k .defined) in

@@ -94,6 +94,18 @@ pub settle-keeps : (P : Table → Type 0)
     → (t : Table) → P t → P (settle eight t)
 settle-keeps P g = keeps P g eight each-eight
 
+-- a station with no fresh search stays as it is
+pub settle-stays : (t : Table) (u : ℕ) → fresh (t .stations u) ≡ false → settle eight t .stations u ≡ t .stations u
+unfolding fresh
+settle-stays t u f = settle-keeps (λ v. v .stations u ≡ t .stations u) stays t refl
+  where
+    stays : (v : Table) (s i : ℕ) (c : Call) → s < 8 → isSearch c ≡ true → v .stations s ≡ unfinished i c none → v .stations u ≡ t .stations u
+        → setDown v s i c (answerOf v c) .stations u ≡ t .stations u
+    stays v s i c l g e h = elim (set-cases v s i u c (answerOf v c)) [
+      | inl w ↦ absurd (false≢true (sym f ∙ ap fresh (sym h ∙ ap (v .stations) (w .0) ∙ e) ∙ g))
+      | inr w ↦ w .1 ∙ h
+    ]
+
 -- ## What an event leaves of the unfinished calls
 
 pub forget-end : (x : Station) (i : ℕ) (c : Call) (o : Option Answer) → forget x ≡ unfinished i c o → (o ≡ none) × (busy x ≡ true)

@@ -1,6 +1,7 @@
 -- A simulation gives demand 3. `Simulation` is what is to be shown of an index, event by event: a relation R between its states and tables that
 -- every event keeps under the eager moments. `simulation-linear` concludes `Linear`; the moments of nearest calls that are never answered are dropped.
-use mathlib.Core.Path.{_≡_, refl, sym, _∙_, ap}
+-- `simulation-leads` tells the table at the end of the history too.
+use mathlib.Core.Path.{_≡_, refl, sym, _∙_, ap, subst}
 use mathlib.Core.Logic.{_⊎_, inl, inr}
 use mathlib.Core.Bool.{Bool, true, false, not, _||_, false≢true}
 use mathlib.Core.Option.{Option, none, some, Option·some-injective}
@@ -13,13 +14,14 @@ use Rattle.table.specs.Record.{Same}
 use Rattle.table.specs.Call.{Call, isSearch, Answer, isChange}
 use Rattle.table.specs.Table.{Station, idle, unfinished, waiting, Table, eight, opened, put, withStations, answerOf, changedIf}
 use Rattle.table.specs.Event.{Event, submission, singleStep, taking, Reply, accept, refuse, ask, submit, setDown, ownStep, mayFall, onlyIf, momentAt, moment, stepAt, step, take, perform, moments, feed}
-use Rattle.table.specs.History.{Index, reply, answered, Agree, effects, AtEnd, Follows, Linear}
+use Rattle.table.specs.History.{Index, reply, after, answered, Agree, effects, AtEnd, Follows, Ends, Linear}
 use Rattle.table.proofs.Tests.{and-left}
 use Rattle.table.proofs.Stations.{put-put}
 use Rattle.table.proofs.Moments.{set-same, feed-some}
 use Rattle.table.proofs.Sound.{Sound, sound-opened, sound-set}
 use Rattle.table.proofs.Reached.{sound-feed}
-use Rattle.table.proofs.Trim.{keepIf, trim, trimReply, station-trim, taken-trim, take-trim, trim-opened}
+use Rattle.table.proofs.Trim.{keepIf, trim, trimReply, station-trim, trim-opened}
+use Rattle.table.proofs.Alike.{alike-trim, alike-agree}
 use Rattle.table.proofs.Eager.{Rest, answeredIn, Settled, settle, ownAt, own, eager, feed-trim}
 use Rattle.table.proofs.Settled.{busy, settle-busy, settled, settle-keeps, forget-end, submit-busy, take-busy, still-next, answer-busy}
 
@@ -150,14 +152,7 @@ module _ (I : Index) (R : I .State → Table → Type 0) (start : I .State) (pla
 
   -- what is compared does not see what is set down
   agree-trim : (seen : ℕ → Bool) (st : State) (t : Table) → Agree I st t → Agree I st (trim seen t)
-  unfolding trim trimReply
-  agree-trim seen st t a = record {
-    records = a .records;
-    once = a .once;
-    places = a .places ∙ sym (taken-trim seen t);
-    accepted = λ s. a .accepted s ∙ sym (ap (λ (r : Reply Table). r .number) (take-trim seen t s));
-    waiting = λ s. a .waiting s ∙ sym (ap (λ (r : Reply Table). r .given) (take-trim seen t s));
-  }
+  agree-trim seen st t = alike-agree I st (alike-trim seen t)
 
   -- no unfinished call has changed the held records
   abbrev Quiet : (ℕ → Type 0) → Table → Type 0
@@ -201,11 +196,27 @@ module _ (I : Index) (R : I .State → Table → Type 0) (start : I .State) (pla
           let h : Same (I .held (I .step st s .next)) (t .held) = rw (still-next t s r g) at b in
           x .1 (λ v. (λ w. h v .1 (a v .0 w), λ w. a v .1 (h v .0 w)))
 
-  follows : (did : ℕ → Type 0) (st : State) (t : Table) → Sound t → R st t → Quiet did t → (evs : List Event)
-      → (mss : List (List ℕ)) × Follows I did st (trim (answeredIn (rest st evs)) t) evs mss
-  unfolding rest trimReply
-  follows did st t k h q [] = ([], (agree-trim (answeredIn []) st t (sim .agrees k h), at-end did t q))
-  follows did st t k h q (ev ∷ evs) =
+  -- a history that follows, and what is related at its end: the table is that one with nothing set down
+  pub record Leads (did : ℕ → Type 0) (st : State) (t : Table) (evs : List Event) : Type 0 where
+    pub moments : List (List ℕ)
+    pub follows : Follows I did st t evs moments
+    pub last : Table
+    pub sound : Sound last
+    pub related : R (after I st evs) last
+    pub ends : Ends I st t evs moments (trim (λ s. false) last)
+
+  leads : (did : ℕ → Type 0) (st : State) (t : Table) → Sound t → R st t → Quiet did t → (evs : List Event)
+      → Leads did st (trim (answeredIn (rest st evs)) t) evs
+  unfolding rest trimReply after answeredIn
+  leads did st t k h q [] = record {
+    moments = [];
+    follows = (agree-trim (answeredIn []) st t (sim .agrees k h), at-end did t q);
+    last = t;
+    sound = k;
+    related = h;
+    ends = refl;
+  }
+  leads did st t k h q (ev ∷ evs) =
       let T : Table = settle eight t in
       let w : Sound T × R st T = settle-keeps (λ t. Sound t × R st t) (λ t s i c l g e x. (sound-set t s i c l e (x .0), sim .settles (x .0) l g e (x .1))) t (k, h) in
       let m = moves st T ev (w .0) (settled t) (w .1) in
@@ -216,21 +227,25 @@ module _ (I : Index) (R : I .State → Table → Type 0) (start : I .State) (pla
       let qT : Quiet did T = λ u b. q u (sym (settle-busy eight t u) ∙ b) in
       let qr : Quiet (effects I did st ev) (r .next) =
       quiet-next did st T ev r qT (m .1) (m .2 .number) (sim .agrees (w .0) (w .1) .records) (sim .agrees kr (m .2 .next) .records) in
-      let later = follows (effects I did st ev) next (r .next) kr (m .2 .next) qr evs in
-      let seen : ℕ → Bool = answeredIn (rest st (ev ∷ evs)) in (
-        eager seen t ev answers ∷ later .0,
-        (
-          agree-trim seen st t (sim .agrees k h),
-          (
-            trimReply (answeredIn (rest next evs)) r,
-            record { defined = feed-trim (rest next evs) t ev answers r (m .1) (not-refused st ev r (m .2 .number)); number = m .2 .number; given = m .2 .given },
-            later .1,
-          ),
-        ),
-      )
+      let later = leads (effects I did st ev) next (r .next) kr (m .2 .next) qr evs in
+      let seen : ℕ → Bool = answeredIn (rest st (ev ∷ evs)) in
+      let reply-seen : Reply Table = trimReply (answeredIn (rest next evs)) r in
+      let fed : feed (trim seen t) (eager seen t ev answers) ev answers ≡ some reply-seen = feed-trim (rest next evs) t ev answers r (m .1) (not-refused st ev r (m .2 .number)) in
+      record {
+        moments = eager seen t ev answers ∷ later .moments;
+        follows = (agree-trim seen st t (sim .agrees k h), (reply-seen, record { defined = fed; number = m .2 .number; given = m .2 .given }, later .follows));
+        last = later .last;
+        sound = later .sound;
+        related = later .related;
+        ends = (reply-seen, fed, later .ends);
+      }
+
+  -- Demand 3 from a simulation, with the table at the end of the history.
+  pub simulation-leads : (evs : List Event) → Leads (λ s. ⊥) start (opened places limit) evs
+  simulation-leads evs =
+      subst (λ (t : Table). Leads (λ s. ⊥) start t evs) (trim-opened (answeredIn (rest start evs)) places limit)
+      (leads (λ s. ⊥) start (opened places limit) (sound-opened places limit) (sim .begins) (λ u b d. d) evs)
 
   -- Demand 3 from a simulation.
   pub simulation-linear : Linear I start places limit
-  simulation-linear evs =
-      let w = follows (λ s. ⊥) start (opened places limit) (sound-opened places limit) (sim .begins) (λ u b d. d) evs in
-      (w .0, rw (trim-opened (answeredIn (rest start evs)) places limit) at (w .1))
+  simulation-linear evs = let w = simulation-leads evs in (w .moments, w .follows)

@@ -90,7 +90,7 @@ put-trim seen t s x e = rw (put-kept seen (t .stations) s x e)
 
 -- ## Counts and answers
 
-searching-forget : (x : Station) → searching (forget x) ≡ searching x
+pub searching-forget : (x : Station) → searching (forget x) ≡ searching x
 unfolding forget searching
 searching-forget idle = refl
 searching-forget (waiting a) = refl

@@ -37,6 +37,11 @@ module _ (I : Index) where
   reply st (singleStep s) = I .step st s
   reply st (taking s) = I .take st s
 
+  -- the index after some events
+  unfoldable pub after : State → List Event → State
+  after st [] = st
+  after st (ev ∷ evs) = after (reply st ev .next) evs
+
   -- "what that taking would give"
   abbrev pub wouldGive : State → ℕ → Option Answer
   wouldGive st s = I .take st s .given
@@ -78,6 +83,13 @@ module _ (I : Index) where
   Follows did st t [] (ms ∷ mss) = ⊥
   Follows did st t (ev ∷ evs) [] = ⊥
   Follows did st t (ev ∷ evs) (ms ∷ mss) = Agree st t × ((r : Reply Table) × Replies st t ms ev r × Follows (effects did st ev) (reply st ev .next) (r .next) evs mss)
+
+  -- the table, fed these events with these moments and the steps that answered, is defined throughout and is u at the end
+  abbrev pub Ends : State → Table → List Event → List (List ℕ) → Table → Type 0
+  Ends st t [] [] u = t ≡ u
+  Ends st t [] (ms ∷ mss) u = ⊥
+  Ends st t (ev ∷ evs) [] u = ⊥
+  Ends st t (ev ∷ evs) (ms ∷ mss) u = (r : Reply Table) × (feed t ms ev (answered st ev) ≡ some r) × Ends (reply st ev .next) (r .next) evs mss u
 
   -- Demand 3: "For every history, each answered call, and of the unfinished ones exactly those that have taken effect, has a moment of its
   -- own between submission and answer, so that every refusal, every answer, waiting or taken, and the records held after each event are

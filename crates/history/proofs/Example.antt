@@ -1,0 +1,168 @@
+-- The statements are not empty: from a slice long enough for 2 places the theorems give the answers of document 01's input of the frame runner
+-- (`frame-runner`) and of case N (`case-n`), for each call its submission, run and taking.
+use Prim.Native.Nat.{ℕ, _≤_}
+use mathlib.Core.Path.{_≡_, refl, ap, _∙_}
+use mathlib.Core.Bool.{Bool, true, false}
+use mathlib.Core.List.{List}
+use mathlib.Core.Option.{some}
+use native.Mathlib.Omega.{arith}
+use lib.ListN.{length}
+use borrow.Author.Tests.{le-leb}
+use Rattle.points.specs.declared.point.Point.{Point}
+use Rattle.table.specs.Call.{Call, add, remove, nearest, callOf, Answer, answer, isChange}
+use Rattle.table.specs.Table.{Station, idle, unfinished, Table, opened, usedUp, answerOf, changed, changedIf}
+use Rattle.table.specs.Event.{enter, submit}
+use Rattle.table.proofs.Stations.{put-other}
+use Rattle.table.proofs.Sound.{changed-stations}
+use Rattle.table.proofs.Alike.{Alike, alike-refl, alike-answer, alike-idle}
+use Rattle.table.proofs.Eager.{fresh}
+use Rattle.table.proofs.Play.{run}
+use Rattle.table.proofs.Cases.{at, m, p, target}
+use Rattle.steps.specs.Open.{openOf}
+use Rattle.steps.specs.Submit.{submitOf}
+use Rattle.history.proofs.Called.{RunGives, CallGives, calledWords, standing-open, Called, called, Begun, begun, set-gives}
+
+-- "open 2 places, limit 10"
+opens : (words : List ℕ) → 672 ≤ length words → openOf words 2 10 .number ≡ 0
+unfolding openOf
+opens words l = rw (le-leb 672 (length words) l)
+
+-- the table after a call
+abbrev effect : Table → ℕ → Point → ℕ → Table
+effect u kind p c = changedIf (isChange (answerOf u (callOf kind p c))) u (callOf kind p c)
+
+-- ---- the frame runner
+
+pub record FrameRunner (words : List ℕ) : Type 0 where
+  pub opening : openOf words 2 10 .number ≡ 0
+  pub adds : CallGives (openOf words 2 10 .words) 0 1 (at 12 8_000) 41 (answer 1 (at 12 8_000) 41 0)
+  pub finds : CallGives (calledWords (openOf words 2 10 .words) 0 1 (at 12 8_000) 41) 1 4 (at 12 12_000) 0 (answer 8 (at 12 8_000) 41 16_000_000)
+
+-- "station 0 submits add 12, 8000, 550, 9000, 0 with curve 41; run 0; take 0; station 1 submits nearest 12, 12000, 550, 9000, 0; run 1; take 1"
+pub frame-runner : (words : List ℕ) → 672 ≤ length words → FrameRunner words
+unfolding run
+frame-runner words l =
+    let w = standing-open words 2 10 (opens words l) in
+    let first = called w 0 1 (at 12 8_000) 41 refl in
+    let second = called (first .standing) 1 4 (at 12 12_000) 0 refl in
+    record { opening = opens words l; adds = first .gives; finds = second .gives }
+
+-- ---- case N
+
+-- the words on the way: m and p held, the search submitted, m removed, p removed
+abbrev pub bothHeld : List ℕ → List ℕ
+bothHeld words = calledWords (calledWords (openOf words 2 10 .words) 0 1 m 41) 0 1 p 42
+
+abbrev pub searchBegun : List ℕ → List ℕ
+searchBegun words = submitOf (bothHeld words) 1 4 target 0 .words
+
+abbrev pub withoutM : List ℕ → List ℕ
+withoutM words = calledWords (searchBegun words) 0 2 m 0
+
+abbrev pub withoutBoth : List ℕ → List ℕ
+withoutBoth words = calledWords (withoutM words) 0 2 p 0
+
+pub record CaseN (words : List ℕ) : Type 0 where
+  pub adds-m : CallGives (openOf words 2 10 .words) 0 1 m 41 (answer 1 m 41 0)
+  pub adds-p : CallGives (calledWords (openOf words 2 10 .words) 0 1 m 41) 0 1 p 42 (answer 1 p 42 0)
+  pub submits : submitOf (bothHeld words) 1 4 target 0 .number ≡ 0
+  pub removes-m : CallGives (searchBegun words) 0 2 m 0 (answer 5 m 41 0)
+  pub removes-p : CallGives (withoutM words) 0 2 p 0 (answer 5 p 42 0)
+  pub finds-p : RunGives (withoutBoth words) 1 (answer 8 p 42 1)
+
+-- what the answer of a remove depends on
+record Plain (t u : Table) : Type 0 where
+  held : t .held ≡ u .held
+  changes : t .changes ≡ u .changes
+  limit : t .limit ≡ u .limit
+
+plain-alike : {t u v : Table} → Alike t u → Plain u v → Plain t v
+plain-alike a q = record { held = a .held ∙ q .held; changes = a .changes ∙ q .changes; limit = a .limit ∙ q .limit }
+
+plain-enter : {t u : Table} (s : ℕ) (c : Call) → Plain t u → Plain (enter t s c) u
+unfolding enter
+plain-enter s c q = record { held = q .held; changes = q .changes; limit = q .limit }
+
+remove-answer : {t u : Table} (x : Point) → Plain t u → answerOf t (remove x) ≡ answerOf u (remove x)
+unfolding answerOf usedUp
+remove-answer x q = rw (q .held, q .changes, q .limit)
+
+remove-effect : {t u : Table} (x : Point) → Plain t u → Plain (effect t 2 x 0) (effect u 2 x 0)
+unfolding callOf changedIf changed
+remove-effect {t} {u} x q = rw (remove-answer x q) (go (isChange (answerOf u (remove x))))
+  where
+    go : (b : Bool) → Plain (changedIf b t (remove x)) (changedIf b u (remove x))
+    go false = q
+    go true = record { held = rw (q .held); changes = rw (q .changes); limit = q .limit }
+
+-- an idle station may submit the removal of one of the two points
+submits-m : (t : Table) → t .stations 0 ≡ idle → submit t 0 2 m 0 .number ≡ 0
+unfolding run
+submits-m t e = rw e
+
+submits-p : (t : Table) → t .stations 0 ≡ idle → submit t 0 2 p 0 .number ≡ 0
+unfolding run
+submits-p t e = rw e
+
+module _ (words : List ℕ) (l : 672 ≤ length words) where
+  -- the tables with m, and with m and p held
+  abbrev heldM : Table
+  heldM = effect (opened 2 10) 1 m 41
+
+  abbrev heldBoth : Table
+  heldBoth = effect heldM 1 p 42
+
+  first : Called (openOf words 2 10 .words) (opened 2 10) (standing-open words 2 10 (opens words l)) 0 1 m 41
+  unfolding run
+  first = called (standing-open words 2 10 (opens words l)) 0 1 m 41 refl
+
+  second : Called (calledWords (openOf words 2 10 .words) 0 1 m 41) heldM (first .standing) 0 1 p 42
+  unfolding run
+  second = called (first .standing) 0 1 p 42 refl
+
+  search : (submitOf (bothHeld words) 1 4 target 0 .number ≡ 0) × Begun (searchBegun words) (second .standing .table) 1 target
+  unfolding run
+  search = begun (second .standing) 1 0 target refl
+
+  -- the table under the search
+  abbrev under : Table
+  under = search .1 .table
+
+  under-plain : Plain under heldBoth
+  under-plain = plain-alike (search .1 .alike) (plain-enter 1 (nearest target) (plain-alike (second .standing .alike) (record { held = refl; changes = refl; limit = refl })))
+
+  under-idle : under .stations 0 ≡ idle
+  unfolding enter
+  under-idle = alike-idle (search .1 .alike) 0 (put-other (second .standing .table .stations) 1 0 _ (λ e. omega arith) ∙ second .own)
+
+  under-set : under .stations 1 ≡ unfinished (second .standing .table .calls) (nearest target) (some (answer 8 p 42 1))
+  unfolding run
+  under-set = search .1 .is ∙ ap (λ (a : Answer). unfinished (second .standing .table .calls) (nearest target) (some a)) (alike-answer (nearest target) (second .standing .alike))
+
+  third : Called (searchBegun words) under (record { table = under; sound = search .1 .sound; related = search .1 .related; alike = alike-refl under }) 0 2 m 0
+  third = called (record { table = under; sound = search .1 .sound; related = search .1 .related; alike = alike-refl under }) 0 2 m 0 (submits-m under under-idle)
+
+  fourth : Called (withoutM words) (effect under 2 m 0) (third .standing) 0 2 p 0
+  fourth =
+      called (third .standing) 0 2 p 0
+      (submits-p (effect under 2 m 0) (ap (λ (f : ℕ → Station). f 0) (changed-stations (isChange (answerOf under (callOf 2 m 0))) under (callOf 2 m 0)) ∙ under-idle))
+
+  third-set : third .standing .table .stations 1 ≡ unfinished (second .standing .table .calls) (nearest target) (some (answer 8 p 42 1))
+  unfolding fresh
+  third-set = third .others 1 (λ e. omega arith) (ap fresh under-set) ∙ under-set
+
+  fourth-set : fourth .standing .table .stations 1 ≡ unfinished (second .standing .table .calls) (nearest target) (some (answer 8 p 42 1))
+  unfolding fresh
+  fourth-set = fourth .others 1 (λ e. omega arith) (ap fresh third-set) ∙ third-set
+
+  -- "m and nearer p are held; a nearest is submitted; m is removed and answered, then p." The search answers p, not m.
+  pub case-n : CaseN words
+  unfolding run
+  case-n = record {
+    adds-m = first .gives;
+    adds-p = second .gives;
+    submits = search .0;
+    removes-m = rw (remove-answer m under-plain) at (third .gives);
+    removes-p = rw (remove-answer p (remove-effect m under-plain)) at (fourth .gives);
+    finds-p = set-gives 1 (second .standing .table .calls) (nearest target) (answer 8 p 42 1) (fourth .standing .sound) (fourth .standing .related) (omega arith) fourth-set;
+  }

@@ -1,0 +1,58 @@
+-- The numbers of steps after a history (`step-numbers`): 0, 5 or 10. Question 11 is never met (`step-never-11`).
+use Prim.Native.Nat.{ℕ}
+use mathlib.Core.Path.{_≡_, refl}
+use mathlib.Core.Logic.{_⊎_, inl, inr}
+use mathlib.Core.Bool.{Bool, true, false}
+use mathlib.Core.List.{List}
+use native.Mathlib.Omega.{arith}
+use lib.Dec.{ltb}
+use Rattle.table.specs.Table.{Station, idle, unfinished, waiting, Table}
+use Rattle.table.specs.Event.{Event, singleStep}
+use Rattle.table.specs.History.{answered}
+use Rattle.table.proofs.Eager.{Settled}
+use Rattle.table.proofs.Reached.{ask-all}
+use Rattle.table.proofs.Simulation.{stillAt, still}
+use Rattle.steps.specs.Open.{openOf}
+use Rattle.steps.specs.Step.{stepOf}
+use Rattle.history.specs.Index.{wordIndex}
+use Rattle.history.specs.After.{after}
+use Rattle.history.proofs.Demand3.{accepted, stills, answers}
+use Rattle.history.proofs.Reached.{Stands, settled-stands, history-related}
+
+-- accepted, or refused by question 5 or 10
+abbrev pub StepNumber : ℕ → Type 0
+StepNumber n = (n ≡ 0) ⊎ ((n ≡ 5) ⊎ (n ≡ 10))
+
+still-number : (t : Table) (s : ℕ) → StepNumber (still t s .number)
+unfolding still stillAt
+still-number t s = ask-all (λ r. StepNumber (r .number)) (ltb s 8) 5 t _ (inr (inl refl)) (λ l. go (t .stations s))
+  where
+    go : (x : Station) → StepNumber (stillAt t x .number)
+    go idle = inr (inr refl)
+    go (waiting a) = inr (inr refl)
+    go (unfinished i c o) = inl refl
+
+stands-number : {words : List ℕ} {places limit : ℕ} (w : Stands words places limit) → Settled (w .table) → (s : ℕ) → StepNumber (stepOf words s .number)
+stands-number {words} w k s = go (answered wordIndex words (singleStep s)) refl
+  where
+    go : (b : Bool) → answered wordIndex words (singleStep s) ≡ b → StepNumber (stepOf words s .number)
+    go true e = inl (answers s (w .sound) k (w .related) e .matches .number)
+    go false e = rw (stills s (w .sound) k (w .related) e .number) (still-number (w .table) s)
+
+-- After every history a step of any station gets 0, 5 or 10.
+pub step-numbers : (words : List ℕ) (places limit : ℕ) → openOf words places limit .number ≡ 0 → (evs : List Event) (s : ℕ)
+    → StepNumber (stepOf (after evs (openOf words places limit .words)) s .number)
+step-numbers words places limit e evs s =
+    let a = accepted words places limit e in
+    let v = settled-stands (history-related words places limit a evs) in
+    rw (a .opens) (stands-number (v .0) (v .1) s)
+
+-- "11, never met on an index that only these calls wrote".
+pub step-never-11 : (words : List ℕ) (places limit : ℕ) → openOf words places limit .number ≡ 0 → (evs : List Event) (s : ℕ)
+    → ¬ (stepOf (after evs (openOf words places limit .words)) s .number ≡ 11)
+step-never-11 words places limit e evs s n = go (step-numbers words places limit e evs s)
+  where
+    go : StepNumber (stepOf (after evs (openOf words places limit .words)) s .number) → ⊥
+    go (inl q) = omega arith
+    go (inr (inl q)) = omega arith
+    go (inr (inr q)) = omega arith
