@@ -38,7 +38,8 @@ use Rattle.steps.specs.Unlink.{aroundAt, aroundSound, unlinkTo, unlinkOf}
 use Rattle.steps.specs.Walk.{sixDown, walkTo, codeAt, concludeAs, conclude, standsAt, walkFrom, walkOf}
 use Rattle.steps.specs.Step.{recordsSound, workOf, stepOf}
 use Rattle.steps.specs.Take.{takingOf, takeOf, numberOf, takenWords, takeWords}
-use Rattle.steps.specs.Report.{Report, reportOf}
+use Rattle.steps.specs.declared.report.Report.{Report}
+use Rattle.steps.specs.Report.{reportOf}
 use Rattle.steps.specs.Run.{isGiven}
 use Rattle.history.specs.Questions.{Question, asked, orElse, firstNo, openQuestions, stationQuestions, submitQuestions, stepQuestions, takeQuestions, reportQuestions}
 

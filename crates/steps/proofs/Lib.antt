@@ -1,3 +1,5 @@
+pub mod AuditLaws
+pub mod Questions
 pub mod SearchLaws
 pub mod SubmitLaws
 pub mod UnlinkLaws

@@ -6,6 +6,7 @@ use Prim.Native.Nat.{ℕ, zero, suc, _+_}
 use mathlib.Core.Bool.{Bool, true, false, cond, _&&_, _||_, not}
 use mathlib.Core.List.{List}
 use lib.Dec.{eqb, leb}
+use Rattle.points.specs.declared.point.Point.{Point}
 use Rattle.points.specs.declared.cut.Cut.{Cut as PointCut}
 use Rattle.points.specs.Cut.{goesLeft}
 use Rattle.points.specs.Word.{NONE}
@@ -21,18 +22,26 @@ use Rattle.steps.specs.Reply.{isOpened, rowsIn}
 
 -- ---- the tree
 
--- the leaves below a row are on one side of the cut, the left one or the right one
+-- a cut sends a point to this side, the left one or the right one
+abbrev pub sideOf : PointCut → Bool → Point → Bool
+sideOf k left point = cond left (goesLeft k point) (not (goesLeft k point))
+
+-- the leaves below a row are on one side of the cut
 abbrev pub sideRow : PointCut → Bool → Row → (ℕ → Bool) → Bool
 sideRow k left Bad below = false
 sideRow k left (Spare next freed) below = false
 sideRow k left (Removed next freed added point curve) below = false
-sideRow k left (Leaf over added point curve) below = cond left (goesLeft k point) (not (goesLeft k point))
+sideRow k left (Leaf over added point curve) below = sideOf k left point
 sideRow k left (Cut over cut first second) below = below first && below second
 
 -- at most n rows down
 unfoldable pub onSide : List ℕ → ℕ → PointCut → Bool → ℕ → ℕ → Bool
 onSide words rows k left zero r = false
 onSide words rows k left (suc n) r = sideRow k left (rowAt words rows r) (λ child. onSide words rows k left n child)
+
+-- the leaves on the two sides of a cut are where it sends them
+abbrev pub cutSides : List ℕ → ℕ → ℕ → PointCut → ℕ → ℕ → Bool
+cutSides words rows n cut left right = onSide words rows cut true n left && onSide words rows cut false n right
 
 -- one of two counts
 abbrev pub pickCount : Bool → Count → Count → Count
@@ -83,22 +92,36 @@ passed l sound next number fresh = record { sound = l .sound && sound; at = next
 abbrev pub broken : Line → Line
 broken l = record { sound = false; at = NONE; last = l .last; rows = l .rows; number = l .number; fresh = l .fresh }
 
+-- the row's removal is no longer awaited, and no awaited one was passed
+abbrev pub noLonger : ℕ → Line → ℕ → Bool
+noLonger released l freed = leb freed released && eqb (l .number) released
+
 -- a row whose number is at most that of the last removal that is no longer awaited is spare while no awaited one was passed; an awaited
 -- removal has its leaf's row and then at most one row, the cut that was freed with it
+abbrev pub passSpare : ℕ → Line → ℕ → ℕ → Line
+passSpare released l next freed =
+    passed l (noLonger released l freed || (eqb freed (l .number) && l .fresh)) next (l .number) false
+
+abbrev pub passRemoved : ℕ → Line → ℕ → ℕ → Line
+passRemoved released l next freed =
+    cond (noLonger released l freed) (passed l true next (l .number) false) (passed l (eqb freed (l .number + 1)) next freed true)
+
+-- any other row is no free one
 abbrev pub passRow : ℕ → Line → Row → Line
 passRow released l Bad = broken l
-passRow released l (Spare next freed) =
-    passed l ((leb freed released && eqb (l .number) released) || (eqb freed (l .number) && l .fresh)) next (l .number) false
-passRow released l (Removed next freed added point curve) =
-    cond (leb freed released && eqb (l .number) released) (passed l true next (l .number) false) (passed l (eqb freed (l .number + 1)) next freed true)
+passRow released l (Spare next freed) = passSpare released l next freed
+passRow released l (Removed next freed added point curve) = passRemoved released l next freed
 passRow released l (Leaf parent added point curve) = broken l
 passRow released l (Cut parent cut left right) = broken l
 
--- n rows on; the end stays
+-- one row on; the end stays
+abbrev pub passNext : List ℕ → ℕ → ℕ → Line → Line
+passNext words rows released l = cond (eqb (l .at) NONE) l (passRow released l (rowAt words rows (l .at)))
+
+-- n rows on
 unfoldable pub walkQueue : List ℕ → ℕ → ℕ → ℕ → Line → Line
 walkQueue words rows released zero l = l
-walkQueue words rows released (suc n) l =
-    walkQueue words rows released n (cond (eqb (l .at) NONE) l (passRow released l (rowAt words rows (l .at))))
+walkQueue words rows released (suc n) l = walkQueue words rows released n (passNext words rows released l)
 
 -- the whole queue
 unfoldable pub queueIn : List ℕ → Line

@@ -84,11 +84,15 @@ insertCounts words room =
     atHead
     (insertHead room)
 
+-- the cursor of station s, moved where it stands on the row gone
+abbrev pub cursorMoved : ℕ → ℕ → ℕ → List ℕ → List ℕ
+cursorMoved gone to s words =
+    put words (atCursor s) (cond (eqb (get words (atCursor s)) gone) to (get words (atCursor s)))
+
 -- "every cursor on e moves to b; phases stay": of the first n stations
 unfoldable pub cursorsMoved : ℕ → ℕ → ℕ → List ℕ → List ℕ
 cursorsMoved gone to zero words = words
-cursorsMoved gone to (suc n) words =
-    put (cursorsMoved gone to n words) (atCursor n) (cond (eqb (get (cursorsMoved gone to n words) (atCursor n)) gone) to (get (cursorsMoved gone to n words) (atCursor n)))
+cursorsMoved gone to (suc n) words = cursorMoved gone to n (cursorsMoved gone to n words)
 
 unfoldable pub insertWords : List ℕ → Room → Point → ℕ → List ℕ
 insertWords words room point curve =

@@ -14,6 +14,10 @@ pub record Reply : Type 0 where
   pub number : ℕ
   pub words : List ℕ
 
+-- this number and these words, as a call comes back with them
+abbrev pub replied : ℕ → List ℕ → Reply
+replied number words = record { number = number; words = words }
+
 -- an accepted call leaves these words
 abbrev pub done : List ℕ → Reply
 done words = record { number = 0; words = words }

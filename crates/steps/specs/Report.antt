@@ -3,11 +3,8 @@ use Prim.Native.Nat.{ℕ}
 use mathlib.Core.Bool.{cond}
 use mathlib.Core.List.{List}
 use Rattle.rows.specs.Common.{openedIn, takenIn}
+use Rattle.steps.specs.declared.report.Report.{Report}
 use Rattle.steps.specs.Reply.{isOpened}
-
-pub record Report : Type 0 where
-  pub number : ℕ
-  pub taken : ℕ
 
 -- question 4; the number of places taken, 0 with a refusal
 unfoldable pub reportOf : List ℕ → Report

@@ -36,12 +36,13 @@ pickProgress false x y = y
 abbrev pub better : Point → Best → Point → Bool
 better target best point = eqb (best .curve) 0 || chosenOver target point (best .point)
 
--- a record is considered: its number is at most as-of, its grade is the target's, and there is no best or it is chosen over the best
+-- a record prevails: its number is at most as-of, its grade is the target's, and there is no best or it is chosen over the best
+abbrev pub prevails : Call → Best → ℕ → Point → Bool
+prevails call best added point = (leb added (call .asof) && sameGrade (call .point) point) && better (call .point) best point
+
+-- a record is considered
 unfoldable pub considered : Call → Best → ℕ → Point → ℕ → Best
-considered call best added point curve =
-    pickBest ((leb added (call .asof) && sameGrade (call .point) point) && better (call .point) best point)
-    (record { curve = curve; point = point })
-    best
+considered call best added point curve = pickBest (prevails call best added point) (record { curve = curve; point = point }) best
 
 -- the search goes on so
 abbrev pub onward : Progress → ℕ → ℕ → Best → Progress

@@ -1,6 +1,6 @@
 -- A step (document 01, "Questions": 4, 5, 10, 11): all that it needs is read and checked before anything is written.
 use Prim.Native.Nat.{ℕ}
-use mathlib.Core.Bool.{Bool, _&&_}
+use mathlib.Core.Bool.{Bool, cond, _&&_}
 use mathlib.Core.List.{List}
 use lib.Dec.{eqb, ltb}
 use Rattle.rows.specs.declared.call.Call.{Call}
@@ -16,6 +16,17 @@ use Rattle.steps.specs.Walk.{walkOf}
 -- the fields of the common record and of the station's call are in range
 unfoldable pub recordsSound : List ℕ → ℕ → Bool
 recordsSound words s = commonSound words (rowsIn words) && callSound (callAt words s) (get words atChanges)
+
+-- the same, with the rows and the call given
+unfoldable pub fieldsSound : List ℕ → ℕ → Call → Bool
+fieldsSound words rows call = commonSound words rows && callSound call (get words atChanges)
+
+-- the number of the first question that fails, or 0, with the rows and the call given
+unfoldable pub firstFailed : List ℕ → ℕ → ℕ → Call → ℕ
+firstFailed words rows s call =
+    cond (isOpened (openedIn words))
+    (cond (ltb s 8) (cond (isUnfinished (stateAt words s)) (cond (fieldsSound words rows call) 0 11) 10) 5)
+    4
 
 -- the work of a nearest, and of any other call
 abbrev pub workOf : List ℕ → ℕ → ℕ → Call → Reply

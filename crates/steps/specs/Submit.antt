@@ -39,6 +39,15 @@ unfoldable pub submittedWords : List ℕ → ℕ → ℕ → Point → ℕ → L
 submittedWords words s kind point curve =
     begunWords (putState (putCall words s (callFor (get words atChanges) kind point curve)) s (submitted (stateAt words s))) s kind
 
+-- the first of questions 7 to 9 that the call fails, or 0
+unfoldable pub callQuestion : ℕ → Point → ℕ → ℕ
+callQuestion kind point curve = cond (kindIn kind) (cond (inRange point) (cond (curveFits kind curve) 0 9) 8) 7
+
+-- the first of questions 4 to 9 that the submission fails, or 0
+unfoldable pub submitQuestion : List ℕ → ℕ → ℕ → Point → ℕ → ℕ
+submitQuestion words s kind point curve =
+    cond (isOpened (openedIn words)) (cond (ltb s 8) (cond (isIdle (stateAt words s)) (callQuestion kind point curve) 6) 5) 4
+
 unfoldable pub submitOf : List ℕ → ℕ → ℕ → Point → ℕ → Reply
 submitOf words s kind point curve =
     ask (isOpened (openedIn words)) 4 words

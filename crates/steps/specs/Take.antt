@@ -18,9 +18,13 @@ abbrev pub takingOf : Waiting → Taking
 takingOf Nothing = Refusal 12
 takingOf (Given a) = Taken a
 
+-- question 5, then 12
+abbrev pub stationTaking : List ℕ → ℕ → Taking
+stationTaking words s = cond (ltb s 8) (takingOf (waitingAt words s)) (Refusal 5)
+
 -- the first question that fails, or the answer
 unfoldable pub takeOf : List ℕ → ℕ → Taking
-takeOf words s = cond (isOpened (openedIn words)) (cond (ltb s 8) (takingOf (waitingAt words s)) (Refusal 5)) (Refusal 4)
+takeOf words s = cond (isOpened (openedIn words)) (stationTaking words s) (Refusal 4)
 
 -- document 01's number of a taking
 abbrev pub numberOf : Taking → ℕ

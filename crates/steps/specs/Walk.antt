@@ -38,6 +38,11 @@ unfoldable pub sixDown : List ℕ → ℕ → Point → ℕ → ℕ
 sixDown words rows point at =
     down words rows point (down words rows point (down words rows point (down words rows point (down words rows point (down words rows point at)))))
 
+-- the same, with the first row given
+unfoldable pub sixFrom : List ℕ → ℕ → Point → ℕ → Row → ℕ
+sixFrom words rows point at row =
+    down words rows point (down words rows point (down words rows point (down words rows point (down words rows point (downFrom point at row)))))
+
 abbrev pub walkTo : List ℕ → ℕ → ℕ → Reply
 walkTo words s to = pickReply (eqb to NONE) (refused 11 words) (done (putPlace words s to 0))
 

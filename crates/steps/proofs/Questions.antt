@@ -1,0 +1,37 @@
+-- A call asks its questions first, as one number, and then writes or not. Assumes nothing.
+use Prim.Native.Nat.{ℕ}
+use mathlib.Core.Path.{_≡_, refl}
+use mathlib.Core.Bool.{Bool, true, false, cond}
+use mathlib.Core.List.{List}
+use lib.Dec.{eqb, ltb}
+use Rattle.points.specs.declared.point.Point.{Point}
+use Rattle.points.specs.Point.{inRange}
+use Rattle.rows.specs.Common.{openedIn}
+use Rattle.rows.specs.Station.{isIdle, stateAt}
+use Rattle.steps.specs.Reply.{Reply, replied, done, ask, pickReply, isOpened}
+use Rattle.steps.specs.Submit.{kindIn, curveFits, callQuestion, submitQuestion, submittedWords, submitOf}
+
+-- no question failed and the call leaves the words after, or one did and it leaves those before
+abbrev pub settled : ℕ → List ℕ → List ℕ → Reply
+settled number before after = pickReply (eqb number 0) (done after) (replied number before)
+
+-- a submission asks its questions first
+pub submit-settled : (words : List ℕ) (s kind : ℕ) (point : Point) (curve : ℕ)
+    → submitOf words s kind point curve ≡ settled (submitQuestion words s kind point curve) words (submittedWords words s kind point curve)
+unfolding submitOf submitQuestion callQuestion
+submit-settled words s kind point curve =
+    go (isOpened (openedIn words)) (ltb s 8) (isIdle (stateAt words s)) (kindIn kind) (inRange point) (curveFits kind curve)
+  where
+    after : List ℕ
+    after = submittedWords words s kind point curve
+
+    go : (a b c d e f : Bool)
+        → ask a 4 words (ask b 5 words (ask c 6 words (ask d 7 words (ask e 8 words (ask f 9 words (done after))))))
+        ≡ settled (cond a (cond b (cond c (cond d (cond e (cond f 0 9) 8) 7) 6) 5) 4) words after
+    go false b c d e f = refl
+    go true false c d e f = refl
+    go true true false d e f = refl
+    go true true true false e f = refl
+    go true true true true false f = refl
+    go true true true true true false = refl
+    go true true true true true true = refl

@@ -1,0 +1,22 @@
+-- `steps::step::records_sound` meets its contract. Assumes nothing.
+use borrow.Author.Needs.{needs}
+use Rattle.steps.proofs.step.records_sound.Statement.{statement}
+use Rattle.steps.proofs.step.records_sound.Tie as tie
+use Rattle.steps.specs.Step.{fieldsSound}
+
+common-sound-requires : tie.Need-common-sound-requires
+common-sound-requires c κs = search needs
+
+get-requires : tie.Need-get-requires
+get-requires c κs = search needs
+
+call-sound-requires : tie.Need-call-sound-requires
+call-sound-requires c κs = search needs
+
+returns : tie.Need-returns
+unfolding fieldsSound
+returns c = cc
+
+pub records-sound-spec : {M : Type 1} → statement M
+records-sound-spec =
+    tie.close (tie.spec common-sound-requires get-requires call-sound-requires returns)

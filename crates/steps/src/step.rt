@@ -1,0 +1,58 @@
+// A step: its questions, and the work of its call. All that it needs is read and checked before anything is written.
+use crate::reply::is_opened;
+use crate::reply::pick;
+use crate::reply::rows_in;
+use crate::search::search;
+use crate::walk::walk;
+use rows::call::Call;
+use rows::call::call_sound;
+use rows::call::read_call;
+use rows::common::common_sound;
+use rows::common::opened;
+use rows::layout::AT_CHANGES;
+use rows::station::read_state;
+use rows::word::get;
+ghost use mathlib.Core.Path.{_≡_};
+ghost use Rattle.steps.specs.Reply.{replied};
+ghost use Rattle.steps.specs.Step.{fieldsSound, firstFailed, workOf, stepOf};
+
+// Whether the fields of the common record and of the call are in range.
+fn records_sound(words: &[u32], rows: u32, call: Call) -> bool
+    ensures { λ r. ⌜ r ≡ fieldsSound (now (words .entry)) rows call ⌝ }
+{
+    common_sound(words, rows) & call_sound(call, get(words, AT_CHANGES))
+}
+
+// The number of the first question that fails, or 0.
+fn first_failed(words: &[u32], rows: u32, s: u32, call: Call) -> u32
+    ensures { λ r. ⌜ r ≡ firstFailed (now (words .entry)) rows s call ⌝ }
+{
+    let sound = pick(records_sound(words, rows, call), 0, 11);
+    let asked = pick(read_state(words, s).is_unfinished(), sound, 10);
+    pick(is_opened(opened(words)), pick(s < 8, asked, 5), 4)
+}
+
+// The work of a nearest, and of any other call.
+fn work(words: &mut [u32], rows: u32, s: u32, call: Call) -> u32
+    ensures { λ r. ⌜ replied r (now (words .exit)) ≡ workOf (now (words .entry)) rows s call ⌝ }
+{
+    if call.kind == 4 {
+        search(words, rows, s, call)
+    } else {
+        walk(words, rows, s, call)
+    }
+}
+
+// One step of a station's call; 0, or the number of the first question that fails.
+pub fn step(words: &mut [u32], s: u32) -> u32
+    ensures { λ r. ⌜ replied r (now (words .exit)) ≡ stepOf (now (words .entry)) s ⌝ }
+{
+    let rows = rows_in(words);
+    let call = read_call(words, s);
+    let failed = first_failed(words, rows, s, call);
+    if failed == 0 {
+        work(words, rows, s, call)
+    } else {
+        failed
+    }
+}
