@@ -31,7 +31,7 @@ use Rattle.history.specs.Related.{pointOf, Works, Busy, Says, Related}
 use Rattle.history.proofs.Effects.{answer-written, answer-rows, walk-written, walk-rows}
 use Rattle.history.proofs.Readings.{nearest-search}
 use Rattle.history.proofs.LeastLaws.{least-up}
-use Rattle.history.proofs.SaysLaws.{seat-put-same}
+use Rattle.history.proofs.SaysLaws.{seat-put-same, related-written}
 use Rattle.history.proofs.SeatLaws.{related-seat}
 use Rattle.history.proofs.Outcome.{LeftSays, Left}
 
@@ -114,7 +114,7 @@ module _ {words : List ℕ} {t : Table} (s : ℕ) (l : s < 8) (r : Related words
 
     -- a walk of station s goes on to a row on the way of its point
     pub left-walks : (n : ℕ) → to ≢ NONE → walkLeft (r .tree) to ≤ n → Left (putPlace words s to 0) t s n
-    unfolding related-seat
+    unfolding related-seat related-written
     left-walks n there few = record {
       related = next;
       left = rw q (left-walk t (next .tree) (next .queue) (seatAt (putPlace words s to 0) s) i c n e (rw (seated, ne-eqb to NONE there) few));

@@ -118,7 +118,7 @@ module _ {words words′ : List ℕ} {counts : Counts} {seats : ℕ → Seat} (w
 
 -- Where the rows and the counts are as they were, the table differs in its stations alone, no removal is awaited anew, and the seats say what
 -- the stations say, words and table are related again.
-pub related-written : {words words′ : List ℕ} {t t′ : Table} {seats : ℕ → Seat} (r : Related words t) → Written words words′ (countsAt words) seats → SameRows words words′ (2 * t .places)
+unfoldable pub related-written : {words words′ : List ℕ} {t t′ : Table} {seats : ℕ → Seat} (r : Related words t) → Written words words′ (countsAt words) seats → SameRows words words′ (2 * t .places)
     → Alike t t′ → leastSince words ≤ leastSince words′ → ((s : ℕ) → s < 8 → Says t′ (r .tree) (r .queue) (seats s) (t′ .stations s)) → Related words′ t′
 related-written {words} {words′} {t} {t′} {seats} r w rows a le says = record {
   opened = rw (a .places, a .limit) (w .opened ∙ r .opened);

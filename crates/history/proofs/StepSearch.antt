@@ -50,7 +50,7 @@ use Rattle.history.proofs.Effects.{answer-written, answer-rows, kept-wr
 use Rattle.history.proofs.Outcome.{LeftSays, Left, Outcome, goesOn, ends}
 use Rattle.history.proofs.ProgressWords.{viewOf}
 use Rattle.history.proofs.SeekLaws.{Seeks, seek-words, seek-keeps}
-use Rattle.history.proofs.SaysLaws.{seat-put-same}
+use Rattle.history.proofs.SaysLaws.{seat-put-same, related-written}
 use Rattle.history.proofs.SeatLaws.{related-seat}
 use Rattle.history.proofs.FoundAnswer.{found-is, found-sound}
 
@@ -129,7 +129,7 @@ module _ {words : List ℕ} {t : Table} {s i : ℕ} {p : Point} {a : Answer} (h 
         (subst (λ (x : Station). Says t (r .tree) (r .queue) (keptSeat (seatAt words s) g) x) (sym q) kept-busy)
 
     kept-left : Left (keptWords words s g) t s m
-    unfolding kept-works kept-related related-seat
+    unfolding kept-works kept-related related-seat related-written
     kept-left = record {
       related = kept-related;
       left = subst (λ (x : Station). LeftSays t (r .tree) (r .queue) (seatAt (keptWords words s g) s) x m) (sym q)
