@@ -12,6 +12,7 @@ pub mod OpenEffects
 pub mod Effects
 pub mod LeastLaws
 pub mod RelatedLaws
+pub mod BusyLaws
 pub mod SaysLaws
 pub mod RelatedRows
 pub mod RelatedSound

@@ -27,6 +27,7 @@ use Rattle.trees.proofs.RouteLaws.{walk-insert}
 use Rattle.trees.proofs.SearchLaws.{search-insert}
 use Rattle.history.specs.View.{Seat, phaseOf, progressOf}
 use Rattle.history.specs.Related.{Quiet, Set, Walks, Works, Says}
+use Rattle.history.proofs.BusyLaws.{busy-on}
 use Rattle.history.proofs.Effects.{movedCursor}
 use Rattle.history.proofs.Readings.{nearest-fresh, insert-stand}
 
@@ -102,15 +103,4 @@ module _ {h h′ : Heap} {tree : Option Tree} {queue : List Free} {released : �
       → Says t′ (w .tree) (w .queue) moved x
   says-insert idle l n f v = record { state = v .state; quiet = quiet-moved (leafOf place) (cutFor place b) seat n (v .quiet) }
   says-insert (waiting r) l n f v = record { state = v .state; sound = v .sound; answer = v .answer; quiet = quiet-moved (leafOf place) (cutFor place b) seat n (v .quiet) }
-  says-insert (unfinished i c set) l n f v = record {
-    state = v .state;
-    kind = v .kind;
-    point = v .point;
-    curve = v .curve;
-    ranged = v .ranged;
-    fits = v .fits;
-    asof = omega (arith, v .asof);
-    kept = v .kept;
-    phase = v .phase;
-    works = works-insert i c set l f (v .works);
-  }
+  says-insert (unfinished i c set) l n f v = busy-on v (moved .place) (omega (arith, v .asof)) (v .phase) (works-insert i c set l f (v .works))

@@ -28,6 +28,7 @@ use Rattle.steps.specs.Answer.{answeredWords}
 use Rattle.history.specs.Index.{answerOf}
 use Rattle.history.specs.View.{Seat, countsAt, placeAt, seatAt, withPlace, noPlace}
 use Rattle.history.specs.Related.{pointOf, Works, Busy, Says, Related}
+use Rattle.history.proofs.BusyLaws.{busy-on}
 use Rattle.history.proofs.Effects.{answer-written, answer-rows, walk-written, walk-rows}
 use Rattle.history.proofs.Readings.{nearest-search}
 use Rattle.history.proofs.LeastLaws.{least-up}
@@ -99,18 +100,7 @@ module _ {words : List ℕ} {t : Table} (s : ℕ) (l : s < 8) (r : Related words
     unfolding seatAt placeAt
     walk-busy =
         let b : Busy t (r .tree) (r .queue) (seatAt words s) i c none = rw q at (r .seats s l) in
-        rw q (record {
-          state = b .state;
-          kind = b .kind;
-          point = b .point;
-          curve = b .curve;
-          ranged = b .ranged;
-          fits = b .fits;
-          asof = b .asof;
-          kept = b .kept;
-          phase = omega arith;
-          works = works-walk t (r .tree) (r .queue) (seatAt words s) i c to e o (b .works);
-        })
+        rw q (busy-on b (walkSeat .place) (b .asof) (omega arith) (works-walk t (r .tree) (r .queue) (seatAt words s) i c to e o (b .works)))
 
     -- a walk of station s goes on to a row on the way of its point
     pub left-walks : (n : ℕ) → to ≢ NONE → walkLeft (r .tree) to ≤ n → Left (putPlace words s to 0) t s n

@@ -20,6 +20,7 @@ use Rattle.trees.specs.Tree.{Holds, entriesOf}
 use Rattle.trees.proofs.ShapeLaws.{entries-held}
 use Rattle.history.specs.View.{seatAt}
 use Rattle.history.specs.Related.{recordOf, Busy, Says, Related}
+use Rattle.history.proofs.BusyLaws.{busy-on}
 use Rattle.history.proofs.RelatedLaws.{related-busy}
 use Rattle.history.proofs.SaysLaws.{says-kept}
 
@@ -35,25 +36,14 @@ entries-same r entries f q = (
 settled-busy : {words : List ℕ} {t : Table} (s : ℕ) {i : ℕ} {p : Point} → Sound t → (r : Related words t) → Busy t (r .tree) (r .queue) (seatAt words s) i (nearest p) none
     → Busy t (r .tree) (r .queue) (seatAt words s) i (nearest p) (some (answerOf t (nearest p)))
 unfolding answerOf
-settled-busy {t = t} s {p = p} h r b = record {
-  state = b .state;
-  kind = b .kind;
-  point = b .point;
-  curve = b .curve;
-  ranged = b .ranged;
-  fits = b .fits;
-  asof = b .asof;
-  kept = b .kept;
-  phase = b .phase;
-  works = record {
-    since = b .works .since;
-    entries = b .works .entries;
-    once = b .works .once;
-    ranged = b .works .ranged;
-    search = b .works .search;
-    answer = ap (nearestAnswer p) (sym (nearest-same p (map recordOf (b .works .entries)) (t .held) (entries-same r (b .works .entries) (b .works .answer)) (h .once)));
-  };
-}
+settled-busy {words} {t} s {p = p} h r b = busy-on b (seatAt words s .place) (b .asof) (b .phase) (record {
+  since = b .works .since;
+  entries = b .works .entries;
+  once = b .works .once;
+  ranged = b .works .ranged;
+  search = b .works .search;
+  answer = ap (nearestAnswer p) (sym (nearest-same p (map recordOf (b .works .entries)) (t .held) (entries-same r (b .works .entries) (b .works .answer)) (h .once)));
+})
 
 -- what is set down changes nothing else of the table
 set-stations : (t : Table) (s i : ℕ) (c : Call) → isSearch c ≡ true → setDown t s i c (answerOf t c) ≡ withStations t (put (t .stations) s (unfinished i c (some (answerOf t c))))

@@ -21,6 +21,7 @@ use Rattle.trees.specs.Queue.{Free}
 use Rattle.trees.proofs.Room.{store-release}
 use Rattle.history.specs.View.{Counts, Seat, countsAt, placeAt, seatAt, seatPut, SameRows, Written}
 use Rattle.history.specs.Related.{Works, Says, Related}
+use Rattle.history.proofs.BusyLaws.{busy-on}
 
 -- ---- the same table but for its stations
 
@@ -51,18 +52,7 @@ module _ (t t′ : Table) (changes : t′ .changes ≡ t .changes) (removals : t
   pub says-kept : (x : Station) → Says t tree queue seat x → Says t′ tree queue seat x
   says-kept idle b = b
   says-kept (waiting a) b = b
-  says-kept (unfinished i c o) b = record {
-    state = b .state;
-    kind = b .kind;
-    point = b .point;
-    curve = b .curve;
-    ranged = b .ranged;
-    fits = b .fits;
-    asof = rw changes (b .asof);
-    kept = b .kept;
-    phase = b .phase;
-    works = works-kept i c o (b .works);
-  }
+  says-kept (unfinished i c o) b = busy-on b (seat .place) (rw changes (b .asof)) (b .phase) (works-kept i c o (b .works))
 
 -- ---- one seat anew
 

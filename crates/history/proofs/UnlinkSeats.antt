@@ -29,6 +29,7 @@ use Rattle.trees.proofs.RouteLaws.{walk-unlink}
 use Rattle.trees.proofs.SearchLaws.{search-unlink}
 use Rattle.history.specs.View.{Seat, phaseOf, progressOf}
 use Rattle.history.specs.Related.{Quiet, Searching, Walks, Works, Busy, Says}
+use Rattle.history.proofs.BusyLaws.{busy-on}
 use Rattle.history.proofs.Effects.{movedSeat}
 use Rattle.history.proofs.Readings.{nearest-search, nearest-fresh, removedTable, unlink-stand, unlink-missed}
 use Rattle.history.proofs.UnlinkAround.{aroundOf}
@@ -129,18 +130,8 @@ module _ (t : Table) (p : Point) (f : ℕ → Station) (h h′ : Heap) (tree : O
   -- an unfinished call, whose work is kept
   busy-moved : (seat : Seat) (i : ℕ) (call : Call) (set : Option Answer) (v : Busy t tree queue seat i call set)
       → Works (removedTable t p f) (w .tree) (w .queue) (moved seat) i call set → Busy (removedTable t p f) (w .tree) (w .queue) (moved seat) i call set
-  busy-moved seat i call set v works = record {
-    state = v .state;
-    kind = v .kind;
-    point = v .point;
-    curve = v .curve;
-    ranged = v .ranged;
-    fits = v .fits;
-    asof = omega (arith, v .asof);
-    kept = v .kept;
-    phase = phase-in (eqb (seat .place .cursor) (l .row)) (seat .place .phase) (v .phase);
-    works = works;
-  }
+  busy-moved seat i call set v works =
+      busy-on v (moved seat .place) (omega (arith, v .asof)) (phase-in (eqb (seat .place .cursor) (l .row)) (seat .place .phase) (v .phase)) works
 
   -- Each other station's seat, moved, says what its station says after the removal.
   pub says-moved : (seat : Seat) (u : ℕ) (x : Station) → u < 8 → fresh x ≡ false → t .stations u ≡ x → Says t tree queue seat x
