@@ -60,26 +60,10 @@ pub fn is_row(row: Row) -> bool
 {
     match row {
         Row::Bad => false,
-        Row::Spare { next: _, freed: _ } => true,
-        Row::Removed {
-            next: _,
-            freed: _,
-            added: _,
-            point: _,
-            curve: _,
-        } => true,
-        Row::Leaf {
-            parent: _,
-            added: _,
-            point: _,
-            curve: _,
-        } => true,
-        Row::Cut {
-            parent: _,
-            cut: _,
-            left: _,
-            right: _,
-        } => true,
+        Row::Spare { .. } => true,
+        Row::Removed { .. } => true,
+        Row::Leaf { .. } => true,
+        Row::Cut { .. } => true,
     }
 }
 
@@ -96,19 +80,18 @@ pub fn in_rows(row: Row, rows: u32) -> bool
 {
     match row {
         Row::Bad => false,
-        Row::Spare { next, freed: _ } => link_in(rows, next),
+        Row::Spare { next, .. } => link_in(rows, next),
         Row::Removed {
             next,
-            freed: _,
-            added: _,
             point,
             curve,
+            ..
         } => record_in(rows, next, point, curve),
         Row::Leaf {
             parent,
-            added: _,
             point,
             curve,
+            ..
         } => record_in(rows, parent, point, curve),
         Row::Cut {
             parent,

@@ -108,25 +108,9 @@ fn pass_row(released: u32, l: Line, row: Row) -> Line
     match row {
         Row::Bad => broken(l),
         Row::Spare { next, freed } => pass_spare(released, l, next, freed),
-        Row::Removed {
-            next,
-            freed,
-            added: _,
-            point: _,
-            curve: _,
-        } => pass_removed(released, l, next, freed),
-        Row::Leaf {
-            parent: _,
-            added: _,
-            point: _,
-            curve: _,
-        } => broken(l),
-        Row::Cut {
-            parent: _,
-            cut: _,
-            left: _,
-            right: _,
-        } => broken(l),
+        Row::Removed { next, freed, .. } => pass_removed(released, l, next, freed),
+        Row::Leaf { .. } => broken(l),
+        Row::Cut { .. } => broken(l),
     }
 }
 

@@ -32,25 +32,13 @@ fn on_side(words: &[u32], rows: u32, cut: Cut, left: bool, n: u32, r: u32) -> bo
     let row = read_row(words, rows, r);
     match row {
         Row::Bad => false,
-        Row::Spare { next: _, freed: _ } => false,
-        Row::Removed {
-            next: _,
-            freed: _,
-            added: _,
-            point: _,
-            curve: _,
-        } => false,
-        Row::Leaf {
-            parent: _,
-            added: _,
-            point,
-            curve: _,
-        } => side_of(cut, left, point),
+        Row::Spare { .. } => false,
+        Row::Removed { .. } => false,
+        Row::Leaf { point, .. } => side_of(cut, left, point),
         Row::Cut {
-            parent: _,
-            cut: _,
             left: first,
             right: second,
+            ..
         } => {
             if on_side(words, rows, cut, left, n - 1, first) {
                 on_side(words, rows, cut, left, n - 1, second)
@@ -119,20 +107,9 @@ fn count_tree(words: &[u32], rows: u32, n: u32, parent: u32, r: u32) -> Count
     let row = read_row(words, rows, r);
     match row {
         Row::Bad => one_row(false),
-        Row::Spare { next: _, freed: _ } => one_row(false),
-        Row::Removed {
-            next: _,
-            freed: _,
-            added: _,
-            point: _,
-            curve: _,
-        } => one_row(false),
-        Row::Leaf {
-            parent: over,
-            added: _,
-            point: _,
-            curve: _,
-        } => one_row(over == parent),
+        Row::Spare { .. } => one_row(false),
+        Row::Removed { .. } => one_row(false),
+        Row::Leaf { parent: over, .. } => one_row(over == parent),
         Row::Cut {
             parent: over,
             cut,

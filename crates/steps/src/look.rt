@@ -57,26 +57,15 @@ fn look_best(call: Call, best: Best, row: Row) -> Best
 {
     match row {
         Row::Bad => best,
-        Row::Spare { next: _, freed: _ } => best,
+        Row::Spare { .. } => best,
         Row::Removed {
-            next: _,
-            freed: _,
             added,
             point,
             curve,
+            ..
         } => consider(call, best, added, point, curve),
-        Row::Leaf {
-            parent: _,
-            added: _,
-            point: _,
-            curve: _,
-        } => best,
-        Row::Cut {
-            parent: _,
-            cut: _,
-            left: _,
-            right: _,
-        } => best,
+        Row::Leaf { .. } => best,
+        Row::Cut { .. } => best,
     }
 }
 
@@ -86,26 +75,10 @@ fn pass_spare(link: u32, row: Row) -> u32
 {
     match row {
         Row::Bad => link,
-        Row::Spare { next, freed: _ } => next,
-        Row::Removed {
-            next: _,
-            freed: _,
-            added: _,
-            point: _,
-            curve: _,
-        } => link,
-        Row::Leaf {
-            parent: _,
-            added: _,
-            point: _,
-            curve: _,
-        } => link,
-        Row::Cut {
-            parent: _,
-            cut: _,
-            left: _,
-            right: _,
-        } => link,
+        Row::Spare { next, .. } => next,
+        Row::Removed { .. } => link,
+        Row::Leaf { .. } => link,
+        Row::Cut { .. } => link,
     }
 }
 

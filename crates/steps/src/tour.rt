@@ -74,25 +74,19 @@ fn tour_down(call: Call, p: Progress, row: Row) -> Progress
 {
     match row {
         Row::Bad => unsound(p),
-        Row::Spare { next: _, freed: _ } => unsound(p),
-        Row::Removed {
-            next: _,
-            freed: _,
-            added: _,
-            point: _,
-            curve: _,
-        } => unsound(p),
+        Row::Spare { .. } => unsound(p),
+        Row::Removed { .. } => unsound(p),
         Row::Leaf {
-            parent: _,
             added,
             point,
             curve,
+            ..
         } => down_leaf(call, p, added, point, curve),
         Row::Cut {
-            parent: _,
             cut,
             left,
             right,
+            ..
         } => down_cut(call, p, cut, left, right),
     }
 }
@@ -157,25 +151,14 @@ fn tour_above(call: Call, p: Progress, above: u32, row: Row) -> Progress
 {
     match row {
         Row::Bad => unsound(p),
-        Row::Spare { next: _, freed: _ } => unsound(p),
-        Row::Removed {
-            next: _,
-            freed: _,
-            added: _,
-            point: _,
-            curve: _,
-        } => unsound(p),
-        Row::Leaf {
-            parent: _,
-            added: _,
-            point: _,
-            curve: _,
-        } => unsound(p),
+        Row::Spare { .. } => unsound(p),
+        Row::Removed { .. } => unsound(p),
+        Row::Leaf { .. } => unsound(p),
         Row::Cut {
-            parent: _,
             cut,
             left,
             right,
+            ..
         } => above_cut(call, p, above, cut, left, right),
     }
 }

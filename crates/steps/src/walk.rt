@@ -32,25 +32,14 @@ fn down_from(point: Point, at: u32, row: Row) -> u32
 {
     match row {
         Row::Bad => NONE,
-        Row::Spare { next: _, freed: _ } => NONE,
-        Row::Removed {
-            next: _,
-            freed: _,
-            added: _,
-            point: _,
-            curve: _,
-        } => NONE,
-        Row::Leaf {
-            parent: _,
-            added: _,
-            point: _,
-            curve: _,
-        } => at,
+        Row::Spare { .. } => NONE,
+        Row::Removed { .. } => NONE,
+        Row::Leaf { .. } => at,
         Row::Cut {
-            parent: _,
             cut,
             left,
             right,
+            ..
         } => pick(goes_left(cut, point), left, right),
     }
 }
