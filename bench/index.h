@@ -1,0 +1,43 @@
+// The index: its calls, and its words as docs/LAYOUT.md lists them.
+#ifndef INDEX_H
+#define INDEX_H
+
+#include <stddef.h>
+#include "records.h"
+
+#define STATIONS 8
+#define NONE 4294967295u
+
+// The calls of crate c_calls. A slice of words is lent as its first word and its length.
+uint32_t index_open(uint32_t *words, size_t length, uint32_t places, uint32_t limit);
+uint32_t index_submit(uint32_t *words, size_t length, uint32_t s, uint32_t kind, int32_t grade, int32_t weight, int32_t moisture,
+                      int32_t speed, int32_t draw, uint32_t curve);
+uint32_t index_step(uint32_t *words, size_t length, uint32_t s);
+uint32_t index_take(uint32_t *words, size_t length, uint32_t s);
+
+// An index that was opened.
+struct index {
+    uint32_t *words;
+    size_t length;
+};
+
+enum row_kind { SPARE, REMOVED, LEAF, CUT };
+
+size_t words_for(uint32_t places);
+void submit(struct index index, uint32_t s, struct call call);
+void step(struct index index, uint32_t s);
+struct answer take(struct index index, uint32_t s);
+
+// Whether the call of station s is unfinished.
+int unfinished(struct index index, uint32_t s);
+
+// Where the call of station s stands: row, phase of a search, and the first row that it has missed.
+uint32_t cursor_of(struct index index, uint32_t s);
+uint32_t phase_of(struct index index, uint32_t s);
+uint32_t missed_of(struct index index, uint32_t s);
+
+// The kind of a row, and its link: to its parent, or to the next free row.
+uint32_t kind_of(struct index index, uint32_t row);
+uint32_t link_of(struct index index, uint32_t row);
+
+#endif

@@ -1,0 +1,87 @@
+// The benchmark of the steps: an index and a flat scan of the same records, side by side in one run.
+#include "measure.h"
+#include <stdio.h>
+#include <stdlib.h>
+
+#define CALLS 10000
+#define ROUNDS 7
+#define KINDS 4
+
+static const char *const NAMES[KINDS] = {"nearest", "contains", "remove", "add"};
+
+static double least(double a, double b)
+{
+    return a < b ? a : b;
+}
+
+// Every round makes the same calls, so the least time of each is the one with the least disturbance.
+static void keep_least(struct times *best, struct times times, int round)
+{
+    if (round == 0) {
+        *best = times;
+        return;
+    }
+    best->index = least(best->index, times.index);
+    best->steps_alone = least(best->steps_alone, times.steps_alone);
+    best->flat = least(best->flat, times.flat);
+}
+
+static void one_round(struct pair *pair, uint32_t places, struct times times[KINDS])
+{
+    fill(pair, places, places);
+    measure_readings(pair, NEAREST, CALLS, &times[0]);
+    measure_readings(pair, CONTAINS, CALLS, &times[1]);
+    measure_changes(pair, CALLS, &times[2], &times[3]);
+}
+
+static void print_times(const struct pair *pair, uint32_t places, int kind, struct times t)
+{
+    double calls = (double)t.calls;
+    printf("%6u  %-9s  %-8s  %10.1f  %10.0f  %9.0f  %11.2f  %8.1f\n", places, pair->spread == UNIFORM ? "uniform" : "clustered", NAMES[kind],
+           (double)t.steps / calls, t.index / calls, t.flat / calls, t.index / t.flat, t.steps_alone / (double)t.steps);
+}
+
+static void calls_of(struct pair *pair, uint32_t places)
+{
+    struct times best[KINDS] = {{0}};
+    for (int round = 0; round < ROUNDS; round++) {
+        struct times times[KINDS] = {{0}};
+        one_round(pair, places, times);
+        for (int kind = 0; kind < KINDS; kind++)
+            keep_least(&best[kind], times[kind], round);
+    }
+    for (int kind = 0; kind < KINDS; kind++)
+        print_times(pair, places, kind, best[kind]);
+}
+
+static void steps_of(struct pair *pair, const char *name, struct six (*measure)(struct pair *, uint32_t))
+{
+    struct six best = {0, 0};
+    for (int round = 0; round < ROUNDS; round++) {
+        fill(pair, MOST_PLACES, MOST_PLACES);
+        struct six six = measure(pair, CALLS);
+        if (round == 0 || six.time < best.time)
+            best = six;
+    }
+    printf("%-14s  %8llu steps  %6.1f ns each\n", name, (unsigned long long)best.steps, best.time / (double)best.steps);
+}
+
+int main(void)
+{
+    static struct flat flat;
+    static const uint32_t sizes[] = {256, MOST_PLACES};
+    struct pair pair = {{calloc(words_for(MOST_PLACES), sizeof(uint32_t)), 0}, &flat, UNIFORM};
+    if (pair.index.words == NULL)
+        return 1;
+    printf("%6s  %-9s  %-8s  %10s  %10s  %9s  %11s  %8s\n", "places", "records", "call", "steps/call", "index ns", "flat ns", "index/flat",
+           "step ns");
+    for (int i = 0; i < 2; i++)
+        for (pair.spread = UNIFORM; pair.spread <= CLUSTERED; pair.spread++)
+            calls_of(&pair, sizes[i]);
+    printf("\nSteps that read six rows, 4,096 places, uniform\n");
+    pair.spread = UNIFORM;
+    steps_of(&pair, "walk", measure_walks);
+    steps_of(&pair, "search", measure_searches);
+    free(pair.index.words);
+    return 0;
+}

@@ -1,0 +1,41 @@
+// What is measured: whole calls beside the flat scan, and single steps of six rows.
+#ifndef MEASURE_H
+#define MEASURE_H
+
+#include "flat.h"
+#include "index.h"
+
+// An index and an array with the same records.
+struct pair {
+    struct index index;
+    struct flat *flat;
+    enum spread spread;
+};
+
+// The times of some calls of one kind, in nanoseconds, and the steps that they took.
+struct times {
+    double index;
+    double steps_alone;
+    double flat;
+    uint64_t steps;
+    uint64_t calls;
+};
+
+// The time of all steps that read six rows, and their number.
+struct six {
+    double time;
+    uint64_t steps;
+};
+
+// Opens the index and fills it and the array with records drawn from the seed.
+void fill(struct pair *pair, uint32_t places, uint64_t seed);
+
+// At least so many calls of a kind in batches of eight, one at each station. Their answers must be those of the array.
+void measure_readings(struct pair *pair, uint32_t kind, uint32_t calls, struct times *times);
+void measure_changes(struct pair *pair, uint32_t calls, struct times *removes, struct times *adds);
+
+// Steps of contains calls that go six rows down, and steps of nearest calls that look at two freed rows and at four of the tree.
+struct six measure_walks(struct pair *pair, uint32_t calls);
+struct six measure_searches(struct pair *pair, uint32_t calls);
+
+#endif

@@ -1,0 +1,72 @@
+// The calls that the benchmark makes, for programs in C: a slice is lent as its first word and its length.
+use points::point::Point;
+use steps::open::open;
+use steps::step::step;
+use steps::submit::submit;
+use steps::take::Taking;
+use steps::take::take;
+ghost use mathlib.Core.Path.{_≡_};
+ghost use Rattle.steps.specs.Reply.{replied};
+ghost use Rattle.steps.specs.Open.{openOf};
+ghost use Rattle.steps.specs.Submit.{submitOf};
+ghost use Rattle.steps.specs.Step.{stepOf};
+ghost use Rattle.steps.specs.Take.{numberOf, takeOf, takeWords};
+
+// Opening.
+#[no_mangle]
+pub extern "C" fn index_open(words: &mut [u32], places: u32, limit: u32) -> u32
+    ensures { λ r. ⌜ replied r (now (words .exit)) ≡ openOf (now (words .entry)) places limit ⌝ }
+{
+    open(words, places, limit)
+}
+
+// A submission of station s, with the coordinates of its point.
+#[no_mangle]
+pub extern "C" fn index_submit(
+    words: &mut [u32],
+    s: u32,
+    kind: u32,
+    grade: i32,
+    weight: i32,
+    moisture: i32,
+    speed: i32,
+    draw: i32,
+    curve: u32,
+) -> u32
+    ensures { λ r. ⌜ replied r (now (words .exit)) ≡ submitOf (now (words .entry)) s kind (record { grade = grade; weight = weight; moisture = moisture; speed = speed; draw = draw }) curve ⌝ }
+{
+    let point = Point {
+        grade: grade,
+        weight: weight,
+        moisture: moisture,
+        speed: speed,
+        draw: draw,
+    };
+    submit(words, s, kind, point, curve)
+}
+
+// One step of station s.
+#[no_mangle]
+pub extern "C" fn index_step(words: &mut [u32], s: u32) -> u32
+    ensures { λ r. ⌜ replied r (now (words .exit)) ≡ stepOf (now (words .entry)) s ⌝ }
+{
+    step(words, s)
+}
+
+// The number of a taking.
+fn number_of(taking: Taking) -> u32
+    ensures { λ r. ⌜ r ≡ numberOf taking ⌝ }
+{
+    match taking {
+        Taking::Refused(number) => number,
+        Taking::Given(_) => 0,
+    }
+}
+
+// A taking by station s. Its answer stays in the words of the station's record.
+#[no_mangle]
+pub extern "C" fn index_take(words: &mut [u32], s: u32) -> u32
+    ensures { λ r. ⌜ (r ≡ numberOf (takeOf (now (words .entry)) s)) × (now (words .exit) ≡ takeWords (now (words .entry)) s) ⌝ }
+{
+    number_of(take(words, s))
+}
