@@ -6,7 +6,7 @@ use steps::submit::submit;
 use steps::take::Taking;
 use steps::take::take;
 ghost use mathlib.Core.Path.{_≡_};
-ghost use Rattle.steps.specs.Reply.{replied};
+ghost use Rattle.moves.specs.Reply.{replied};
 ghost use Rattle.steps.specs.Open.{openOf};
 ghost use Rattle.steps.specs.Submit.{submitOf};
 ghost use Rattle.steps.specs.Step.{stepOf};

@@ -9,7 +9,7 @@ use mathlib.Core.Option.{Option, none, some}
 use native.Mathlib.Omega.{arith}
 use lib.Dec.{eqb}
 use lib.ListN.{length}
-use borrow.Author.Tests.{eqb-true, eq-eqb, ne-eqb, le-leb}
+use borrow.Author.Tests.{eqb-true, eq-eqb, ne-eqb}
 use Rattle.points.specs.Word.{NONE}
 use Rattle.rows.specs.declared.common.Opening.{Opening}
 use Rattle.rows.specs.declared.common.Opening.the-variants.{Refused, Opened}
@@ -25,13 +25,14 @@ use Rattle.trees.proofs.Entries.{size-count}
 use Rattle.trees.proofs.Path.{has-top}
 use Rattle.trees.proofs.Room.{queue-not-empty}
 use Rattle.table.specs.Table.{Table}
-use Rattle.steps.specs.declared.audit.Count.{Count}
-use Rattle.steps.specs.declared.audit.Line.{Line}
-use Rattle.steps.specs.Reply.{isOpened, rowsIn}
-use Rattle.steps.specs.Audit.{plus, pickCount, countTree, treeIn, walkQueue, queueIn, wholeQueue, allRows, auditOf}
+use Rattle.audits.specs.declared.tree.Count.{Count}
+use Rattle.audits.specs.declared.queue.Line.{Line}
+use Rattle.moves.specs.Reply.{isOpened, rowsIn}
+use Rattle.audits.specs.Audit.{plus, pickCount, countTree, treeIn, walkQueue, queueIn, wholeQueue, allRows, auditOf}
 use Rattle.history.specs.View.{countsAt, wordRow, Reads}
 use Rattle.history.specs.Related.{Related}
 use Rattle.history.specs.Audited.{InOrder, Audited}
+use Rattle.history.proofs.RelatedLaws.{rows-in}
 use Rattle.history.proofs.AuditRows.{heapOf, reads-inside, plus-min}
 use Rattle.history.proofs.AuditDistinct.{forked, tree-distinct}
 use Rattle.history.proofs.AuditOnce.{linked-once, rows-apart}
@@ -131,13 +132,6 @@ queue-tells words few s =
     (eqb-true (end .last) (get words atTail) (b .1)) (eqb-true (end .number) (get words atRemovals) (a .1))
 
 -- ---- an audit that says yes
-
--- the rows of an opened slice
-rows-in : (words : List ℕ) (places limit : ℕ) → openedIn words ≡ Opened places limit → rowsIn words ≡ 2 * places
-unfolding rowsIn
-rows-in words places limit o =
-    let w = opened-tells words places limit o in
-    rw (w .places-word, le-leb places 4096 (w .places-most)) refl
 
 -- a tree has an odd number of rows, so the queue is not empty
 free-left : (places : ℕ) (t : Option Tree) (n : ℕ) → 1 ≤ places → sizeOf t + n ≡ 2 * places → 1 ≤ n

@@ -19,7 +19,7 @@ use Rattle.table.proofs.Settled.{settled, settle-stays}
 use Rattle.table.proofs.Simulation.{finished}
 use Rattle.table.proofs.Searched.{submit-accepted}
 use Rattle.table.proofs.Alone.{submit-idle, alone-search}
-use Rattle.steps.specs.Reply.{Reply, done}
+use Rattle.moves.specs.Reply.{Reply, done}
 use Rattle.steps.specs.Open.{openOf}
 use Rattle.steps.specs.Submit.{submitOf}
 use Rattle.steps.specs.Take.{takeOf, takeWords}

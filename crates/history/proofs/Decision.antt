@@ -28,11 +28,11 @@ use Rattle.trees.specs.Tree.{Tree, Holds, entriesOf}
 use Rattle.trees.specs.Route.{OnRoute}
 use Rattle.trees.proofs.ShapeLaws.{entries-held}
 use Rattle.trees.proofs.RouteLaws.{on-route-has, walk-found}
-use Rattle.steps.specs.Link.{holdsPoint, leafCurve}
-use Rattle.steps.specs.Answer.{answer as given, answeredWords}
-use Rattle.steps.specs.Insert.{insertOf}
-use Rattle.steps.specs.Unlink.{unlinkOf}
-use Rattle.steps.specs.Walk.{codeOf, codeAt, plainAnswer, conclude}
+use Rattle.moves.specs.Link.{holdsPoint, leafCurve}
+use Rattle.moves.specs.Answer.{answer as given, answeredWords}
+use Rattle.moves.specs.Insert.{insertOf}
+use Rattle.moves.specs.Unlink.{unlinkOf}
+use Rattle.moves.specs.Walk.{codeOf, codeAt, plainAnswer, conclude}
 use Rattle.history.specs.View.{countsAt, seatAt, wordRow}
 use Rattle.history.specs.Related.{recordOf, kindOf, pointOf, Busy, Related}
 use Rattle.history.proofs.Readings.{plain-change}

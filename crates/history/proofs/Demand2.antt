@@ -20,7 +20,7 @@ use Rattle.table.proofs.Settled.{settled, settle-keeps, settle-stays}
 use Rattle.table.proofs.Simulation.{Matches, finished, simulation-leads}
 use Rattle.table.proofs.Searched.{submit-accepted}
 use Rattle.table.proofs.Alone.{submit-idle, Finishing, alone, finishing-idle, finishing-other}
-use Rattle.steps.specs.Reply.{done}
+use Rattle.moves.specs.Reply.{done}
 use Rattle.steps.specs.Open.{openedWords, openOf}
 use Rattle.steps.specs.Submit.{submitOf}
 use Rattle.steps.specs.Take.{takeWords}

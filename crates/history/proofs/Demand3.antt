@@ -23,7 +23,7 @@ use Rattle.table.proofs.Sound.{Sound}
 use Rattle.table.proofs.Reached.{sound-feed}
 use Rattle.table.proofs.Eager.{Settled, own}
 use Rattle.table.proofs.Simulation.{Matches, Finishes, Simulation, still, stillAt, finished, answer-step, simulation-linear}
-use Rattle.steps.specs.Reply.{Reply as WordReply}
+use Rattle.moves.specs.Reply.{Reply as WordReply}
 use Rattle.steps.specs.Open.{openedWords, openOf}
 use Rattle.steps.specs.Step.{stepOf}
 use Rattle.history.specs.Index.{wordIndex}

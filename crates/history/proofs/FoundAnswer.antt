@@ -23,8 +23,8 @@ use Rattle.trees.specs.Row.{Entry}
 use Rattle.trees.specs.Tour.{Best}
 use Rattle.trees.specs.Search.{FoundAs, Nearest}
 use Rattle.trees.proofs.ChoiceOf.{choiceOf}
-use Rattle.steps.specs.Answer.{answer}
-use Rattle.steps.specs.Search.{foundAnswer}
+use Rattle.moves.specs.Answer.{answer}
+use Rattle.moves.specs.Search.{foundAnswer}
 use Rattle.history.specs.Index.{answerOf}
 use Rattle.history.specs.View.{bestOf}
 use Rattle.history.specs.Related.{recordOf}

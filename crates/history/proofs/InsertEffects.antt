@@ -13,9 +13,9 @@ use Rattle.rows.specs.Common.{openedIn}
 use Rattle.rows.proofs.WordLaws.{get-put-same, get-put-other}
 use Rattle.rows.proofs.OpeningLaws.{opened-tells}
 use Rattle.rows.proofs.StationLaws.{put-common}
-use Rattle.steps.specs.declared.insert.Room.{Room}
-use Rattle.steps.specs.Reply.{more}
-use Rattle.steps.specs.Insert.{insertHead, insertRoot, insertCounts, cursorsMoved}
+use Rattle.moves.specs.declared.insert.Room.{Room}
+use Rattle.moves.specs.Reply.{more}
+use Rattle.moves.specs.Insert.{insertHead, insertRoot, insertCounts, cursorsMoved}
 use Rattle.history.specs.View.{Counts, Place, Seat, countsAt, placeAt, seatAt, withPlace, SameRows, Written}
 use Rattle.history.proofs.Frame.{place-of, place-same}
 use Rattle.history.proofs.CountEffects.{Counting, counting-none, counting-put}

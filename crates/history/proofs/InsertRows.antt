@@ -33,9 +33,9 @@ use Rattle.trees.proofs.Insert.{next-free}
 use Rattle.trees.proofs.Room.{room-two, room-one}
 use Rattle.trees.proofs.ReadLaws.{read-above, link-head}
 use Rattle.trees.proofs.WriteLaws.{insert-apart, insert-writes, insert-write}
-use Rattle.steps.specs.declared.insert.Room.{Room}
-use Rattle.steps.specs.Link.{nextOf as nextIn, linksTo, leafPoint, replaced}
-use Rattle.steps.specs.Insert.{roomAt, roomSound, newLeaf, cutWith, newCut as cutIn, insertRows}
+use Rattle.moves.specs.declared.insert.Room.{Room}
+use Rattle.moves.specs.Link.{nextOf as nextIn, linksTo, leafPoint, replaced}
+use Rattle.moves.specs.Insert.{roomAt, roomSound, newLeaf, cutWith, newCut as cutIn, insertRows}
 use Rattle.history.specs.View.{wordRow, Reads, heapPut}
 use Rattle.history.proofs.Effects.{reads-in}
 use Rattle.history.proofs.RowLinks.{LeafIn, leaf-tells, leaf-of, leaf-in, cut-of, child-words, child-in}

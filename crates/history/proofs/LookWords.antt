@@ -18,9 +18,9 @@ use Rattle.rows.specs.Row.{rowAt, inRows}
 use Rattle.trees.specs.Row.{Entry, Row, spareRow, removedRow, leafRow, cutRow, Heap}
 use Rattle.trees.specs.Tour.{Best, considered, passSpare, missedNext, withMissed, lookRow, look}
 use Rattle.trees.proofs.ChoiceOf.{choiceOf}
-use Rattle.steps.specs.declared.search.Progress.{Progress as WordProgress}
-use Rattle.steps.specs.Link.{isFree, nextOf}
-use Rattle.steps.specs.Search.{considered as consideredWord, passSpare as passWordSpare, lookAt, look as lookWord}
+use Rattle.moves.specs.declared.search.Progress.{Progress as WordProgress}
+use Rattle.moves.specs.Link.{isFree, nextOf}
+use Rattle.moves.specs.Search.{considered as consideredWord, passSpare as passWordSpare, lookAt, look as lookWord}
 use Rattle.history.specs.View.{wordRow, Reads, bestOf}
 use Rattle.history.proofs.Effects.{reads-in}
 use Rattle.rows.proofs.RowLaws.{in-rows-spare, in-rows-removed, in-rows-leaf, rowAt-outside}
@@ -66,11 +66,11 @@ module _ (words : List ℕ) (rows : ℕ) (h : Heap) (reads : Reads words rows h)
   -- what a look at a free row leaves: this best, and missed past the row after it
   abbrev looked : WordProgress → ℕ → WordBest → WordProgress
   looked p next best = record {
-    sound = (p .sound && true) && (eqb next NONE || isFree (rowAt words rows next));
     cursor = p .cursor;
     phase = p .phase;
     missed = passWordSpare next (rowAt words rows next);
     best = best;
+    sound = (p .sound && true) && (eqb next NONE || isFree (rowAt words rows next));
   }
 
   look-next : (p : WordProgress) (next : ℕ) (best : WordBest) (b : Option Best) → Fit p → linkIn rows next ≡ true → inRange (best .point) ≡ true → bestOf best ≡ b

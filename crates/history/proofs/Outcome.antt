@@ -11,7 +11,7 @@ use Rattle.trees.specs.Tree.{Tree}
 use Rattle.trees.specs.Queue.{Free}
 use Rattle.trees.specs.Route.{standsAt}
 use Rattle.trees.specs.Measure.{walkLeft, searchLeft}
-use Rattle.steps.specs.Reply.{Reply as WordReply}
+use Rattle.moves.specs.Reply.{Reply as WordReply}
 use Rattle.history.specs.View.{Seat, seatAt}
 use Rattle.history.specs.Related.{Searching, Related}
 

@@ -24,7 +24,7 @@ use Rattle.trees.specs.Tree.{Tree}
 use Rattle.trees.specs.Queue.{Free}
 use Rattle.trees.specs.Route.{OnRoute, standsAt}
 use Rattle.trees.specs.Measure.{walkLeft}
-use Rattle.steps.specs.Answer.{answeredWords}
+use Rattle.moves.specs.Answer.{answeredWords}
 use Rattle.history.specs.Index.{answerOf}
 use Rattle.history.specs.View.{Seat, countsAt, placeAt, seatAt, withPlace, noPlace}
 use Rattle.history.specs.Related.{pointOf, Works, Busy, Says, Related}

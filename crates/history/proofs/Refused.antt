@@ -25,17 +25,17 @@ use Rattle.rows.specs.Call.{callAt}
 use Rattle.rows.specs.Answer.{waitingAt}
 use Rattle.steps.specs.declared.take.Taking.{Taking}
 use Rattle.steps.specs.declared.take.Taking.the-variants.{Refused as Refusal, Given as Taken}
-use Rattle.steps.specs.declared.insert.Room.{Room}
-use Rattle.steps.specs.declared.unlink.Around.{Around}
-use Rattle.steps.specs.declared.search.Progress.{Progress}
-use Rattle.steps.specs.Reply.{Reply, done, refused, pickReply, ask, isOpened, rowsIn}
-use Rattle.steps.specs.Link.{isLeaf, isCut}
+use Rattle.moves.specs.declared.insert.Room.{Room}
+use Rattle.moves.specs.declared.unlink.Around.{Around}
+use Rattle.moves.specs.declared.search.Progress.{Progress}
+use Rattle.moves.specs.Reply.{Reply, done, refused, pickReply, ask, isOpened, rowsIn}
+use Rattle.moves.specs.Link.{isLeaf, isCut}
 use Rattle.steps.specs.Open.{openedWords, openOf}
 use Rattle.steps.specs.Submit.{kindIn, curveFits, submittedWords, submitOf}
-use Rattle.steps.specs.Search.{seek, progressAt, searchTo, searchOf}
-use Rattle.steps.specs.Insert.{roomAt, roomSound, insertTo, insertOf}
-use Rattle.steps.specs.Unlink.{aroundAt, aroundSound, unlinkTo, unlinkOf}
-use Rattle.steps.specs.Walk.{sixDown, walkTo, codeAt, concludeAs, conclude, standsAt, walkFrom, walkOf}
+use Rattle.moves.specs.Search.{seek, progressAt, searchTo, searchOf}
+use Rattle.moves.specs.Insert.{roomAt, roomSound, insertTo, insertOf}
+use Rattle.moves.specs.Unlink.{aroundAt, aroundSound, unlinkTo, unlinkOf}
+use Rattle.moves.specs.Walk.{sixDown, walkTo, codeAt, concludeAs, conclude, standsAt, walkFrom, walkOf}
 use Rattle.steps.specs.Step.{recordsSound, workOf, stepOf}
 use Rattle.steps.specs.Take.{takingOf, takeOf, numberOf, takenWords, takeWords}
 use Rattle.steps.specs.declared.report.Report.{Report}

@@ -1,13 +1,15 @@
 -- What follows of a slice from its relation to a table: question 4, the words of the common record, and the places taken.
-use Prim.Native.Nat.{ℕ, _+_, _-_, _*_, _≤_, _<_}
+use Prim.Native.Nat.{ℕ, suc, _+_, _-_, _*_, _≤_, _<_}
 use mathlib.Core.Path.{_≡_, sym, ap, _∙_, subst}
 use mathlib.Core.Bool.{true, false≢true}
 use mathlib.Core.List.{List}
 use mathlib.Core.Option.{Option}
 use native.Mathlib.Omega.{arith}
 use lib.ListN.{length}
-use borrow.Author.Tests.{le-leb}
+use native.Mathlib.Numerals.{add-one}
+use borrow.Author.Tests.{le-leb, lt-ltb}
 use Rattle.points.specs.Word.{NONE}
+use Rattle.rows.specs.declared.common.Opening.the-variants.{Opened}
 use Rattle.rows.specs.Layout.{atPlaces, atLimit, atChanges, atHeld, atRoot, atHead, atTail, atRemovals, atSince}
 use Rattle.rows.specs.Words.{get}
 use Rattle.rows.specs.Common.{openedIn, leastSince, takenIn}
@@ -19,10 +21,22 @@ use Rattle.table.proofs.Sound.{Sound, removals-changes}
 use Rattle.table.proofs.Taken.{SinceSays, IsLeast, taken-oldest}
 use Rattle.trees.specs.Tree.{Tree, topOf}
 use Rattle.trees.specs.Queue.{Free, headOf, tailOf}
-use Rattle.steps.specs.Reply.{isOpened, rowsIn}
+use Rattle.moves.specs.Reply.{isOpened, rowsIn, more}
 use Rattle.history.specs.View.{Seat, countsAt, placeAt, seatAt}
 use Rattle.history.specs.Related.{Idle, Busy, Waits, Says, Related}
 use Rattle.history.proofs.LeastLaws.{least-words}
+
+-- the rows of an opened slice
+pub rows-in : (words : List ℕ) (places limit : ℕ) → openedIn words ≡ Opened places limit → rowsIn words ≡ 2 * places
+unfolding rowsIn
+rows-in words places limit o =
+    let w = opened-tells words places limit o in
+    rw (w .places-word, le-leb places 4096 (w .places-most))
+
+-- one more, below the greatest word
+pub more-is : (x : ℕ) → x < NONE → more x ≡ suc x
+unfolding more
+more-is x l = rw (lt-ltb x NONE l) (add-one x)
 
 -- what a seat of an unfinished call keeps for its since: the table's for a nearest, none for another call
 busy-since : (t : Table) (tree : Option Tree) (queue : List Free) (seat : Seat) (i : ℕ) (c : Call) (o : Option Answer) → length (t .removals) ≤ NONE → Busy t tree queue seat i c o
@@ -62,8 +76,7 @@ module _ {words : List ℕ} {t : Table} (r : Related words t) where
 
   -- there are two rows for each place
   pub related-rows : rowsIn words ≡ 2 * t .places
-  unfolding rowsIn
-  related-rows = rw (word-places, le-leb (t .places) 4096 (related-is-open .places-most))
+  related-rows = rows-in words (t .places) (t .limit) (r .opened)
 
   -- the counts, and the root, head and tail links
   pub word-changes : get words atChanges ≡ t .changes

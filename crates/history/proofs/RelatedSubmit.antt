@@ -18,7 +18,7 @@ use Rattle.table.specs.Event.{Reply, ask, isIdle, curveFits, submit}
 use Rattle.table.proofs.Tests.{and-left, and-right}
 use Rattle.table.proofs.Sound.{Sound}
 use Rattle.table.proofs.Simulation.{Matches}
-use Rattle.steps.specs.Reply.{Reply as WordReply, ask as askWords}
+use Rattle.moves.specs.Reply.{Reply as WordReply, ask as askWords}
 use Rattle.steps.specs.Submit.{kindIn, curveFits as curveFitsWords, submitOf}
 use Rattle.history.specs.Index.{replyOf, wordIndex}
 use Rattle.history.specs.View.{seatAt}

@@ -18,7 +18,7 @@ use Rattle.trees.specs.Row.{Entry, Row, pickRow, removedRow, leafRow, cutRow, H
 use Rattle.trees.specs.Tree.{Tree}
 use Rattle.trees.specs.Queue.{Free, keptRow, freeRow}
 use Rattle.trees.specs.Reads.{LeafAt, CutAt}
-use Rattle.steps.specs.Link.{withNext, withParent, replaced}
+use Rattle.moves.specs.Link.{withNext, withParent, replaced}
 use Rattle.history.specs.View.{wordRow}
 
 -- a free row with another next link

@@ -12,7 +12,7 @@ use Rattle.rows.specs.Station.{isUnfinished, stateAt}
 use Rattle.rows.specs.Answer.{waitingAt}
 use Rattle.table.specs.Table.{Table}
 use Rattle.table.specs.Event.{Event}
-use Rattle.steps.specs.Reply.{Reply, done, isOpened}
+use Rattle.moves.specs.Reply.{Reply, done, isOpened}
 use Rattle.steps.specs.Open.{openOf}
 use Rattle.steps.specs.Step.{stepOf}
 use Rattle.steps.specs.Take.{takeOf}

@@ -22,8 +22,8 @@ use Rattle.trees.specs.Measure.{searchLeft}
 use Rattle.trees.proofs.ChoiceOf.{choiceOf}
 use Rattle.trees.proofs.MissingLaws.{missing-in}
 use Rattle.trees.proofs.SearchMoves.{search-look, search-tour}
-use Rattle.steps.specs.declared.search.Progress.{Progress as WordProgress}
-use Rattle.steps.specs.Search.{look as lookWord, tour as tourWord, seek as seekWord, isFinished}
+use Rattle.moves.specs.declared.search.Progress.{Progress as WordProgress}
+use Rattle.moves.specs.Search.{look as lookWord, tour as tourWord, seek as seekWord, isFinished}
 use Rattle.history.specs.View.{Reads}
 use Rattle.history.proofs.ProgressWords.{viewOf, Fit, Shows, Keeps}
 use Rattle.history.proofs.LookWords.{look-words}

@@ -24,10 +24,10 @@ use Rattle.rows.proofs.StationLaws.{there-room, there-length, putState-only, pu
 use Rattle.rows.proofs.RecordLaws.{callAt-putState, answerAt-putState, stateAt-putBest, answerAt-putBest, callAt-putAnswer, answerAt-putCall}
 use Rattle.rows.proofs.ReadBackLaws.{stateAt-putState-same, callAt-putBest, answerAt-putAnswer-same, callAt-putCall-same}
 use Rattle.rows.proofs.SoundLaws.{noBest-point, answer-tells}
-use Rattle.steps.specs.declared.search.Progress.{Progress}
-use Rattle.steps.specs.Answer.{withdrawn, answeredWords}
+use Rattle.moves.specs.declared.search.Progress.{Progress}
+use Rattle.moves.specs.Answer.{withdrawn, answeredWords}
 use Rattle.steps.specs.Submit.{callFor, sinceFor, begunWords, submittedWords}
-use Rattle.steps.specs.Search.{keptWords}
+use Rattle.moves.specs.Search.{keptWords}
 use Rattle.history.specs.View.{countsAt, placeAt, seatAt, withPlace, seatPut, noPlace, SameRows, Written}
 use Rattle.history.proofs.Frame.{seat-of, place-agree, common-stations}
 use Rattle.history.proofs.OwnEffects.{Own, own-trans, own-station, own-rows, own-written, withMissed, withStand, own-place, own-missed, place-putPlace, place-putMissed, own-placed, placed-only, place-placed}

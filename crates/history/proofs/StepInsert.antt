@@ -8,7 +8,7 @@ use mathlib.Core.Option.{Option, none, some}
 use native.Mathlib.Omega.{arith}
 use native.Mathlib.Numerals.{add-one}
 use lib.ListN.{length}
-use borrow.Author.Tests.{ne-eqb, lt-ltb}
+use borrow.Author.Tests.{ne-eqb}
 use Rattle.points.specs.declared.point.Point.{Point}
 use Rattle.points.specs.Word.{NONE}
 use Rattle.rows.specs.Layout.{atChanges, atHeld, atRoot, atTail, atRemovals}
@@ -34,26 +34,22 @@ use Rattle.trees.specs.Insert.{leafOf, cutFor, Ends, OtherPoint, insertRoot, in
 use Rattle.trees.proofs.ShapeLaws.{entries-held}
 use Rattle.trees.proofs.RouteLaws.{on-route-has}
 use Rattle.trees.proofs.Insert.{insert}
-use Rattle.steps.specs.declared.insert.Room.{Room}
-use Rattle.steps.specs.Reply.{more}
-use Rattle.steps.specs.Answer.{answer as given, answeredWords}
-use Rattle.steps.specs.Insert.{roomAt, roomSound, insertRoot as rootAfter, insertHead as headAfter, insertRows, insertCounts, cursorsMoved, insertWords, insertOf}
+use Rattle.moves.specs.declared.insert.Room.{Room}
+use Rattle.moves.specs.Reply.{more}
+use Rattle.moves.specs.Answer.{answer as given, answeredWords}
+use Rattle.moves.specs.Insert.{roomAt, roomSound, insertRoot as rootAfter, insertHead as headAfter, insertRows, insertCounts, cursorsMoved, insertWords, insertOf}
 use Rattle.history.specs.View.{Counts, Seat, countsAt, seatAt}
 use Rattle.history.specs.Related.{recordOf, Busy, Related}
 use Rattle.history.proofs.Readings.{added-change, addedTable, changed-add}
 use Rattle.history.proofs.Effects.{movedCursor, insert-written, insert-same-rows}
-use Rattle.history.proofs.RelatedLaws.{related-is-open, removals-word, related-busy, related-taken}
+use Rattle.history.proofs.RelatedLaws.{more-is, related-is-open, removals-word, related-busy, related-taken}
 use Rattle.history.proofs.Outcome.{Outcome, ends}
 use Rattle.history.proofs.OwnSeat.{least-same, least-seat, related-answered}
 use Rattle.history.proofs.OtherSeats.{says-insert}
 use Rattle.history.proofs.RowWrites.{Holding, held-first}
 use Rattle.history.proofs.InsertRows.{next-word, Finds, beside-finds, besideRoom, room-beside, sound-beside, beside-writes, alone-finds, aloneRoom, room-alone, sound-alone, alone-writes}
 
--- ---- counts and records
-
-more-next : (x n : ℕ) → x ≡ n → n < NONE → more x ≡ suc n
-unfolding more
-more-next x n e l = rw (e, lt-ltb n NONE l) (omega arith)
+-- ---- records
 
 -- the records of a tree with one entry more
 records-insert : (tree tree′ : Option Tree) (new : Entry) (held : List Record) → Same (map recordOf (entriesOf tree)) held
@@ -98,8 +94,8 @@ related-inserted {words} {t} {h′} {a} {b} {new} place room sound settled r num
       reads = v .reads;
       store = rw (add-one (t .changes), least) (w .store);
       counted = rw counts (record {
-        changes = more-next (get words atChanges) (t .changes) (r .counted .changes) below ∙ sym (add-one (t .changes));
-        held = more-next (get words atHeld) (countOf (r .tree)) (r .counted .held) few ∙ sym (w .count);
+        changes = ap more (r .counted .changes) ∙ more-is (t .changes) below ∙ sym (add-one (t .changes));
+        held = ap more (r .counted .held) ∙ more-is (countOf (r .tree)) few ∙ sym (w .count);
         root = root ∙ sym (w .root);
         head = head ∙ sym (w .head);
         tail = r .counted .tail ∙ sym (w .tail);
@@ -165,7 +161,7 @@ module _ {words : List ℕ} {t : Table} {s i : ℕ} {p : Point} {c : ℕ} (sound
 
   entry-number : more (get words atChanges) ≡ suc (t .changes)
   unfolding countsAt
-  entry-number = more-next (get words atChanges) (t .changes) (r .counted .changes) (omega (arith, changes-word r sound))
+  entry-number = ap more (r .counted .changes) ∙ more-is (t .changes) (omega (arith, changes-word r sound))
 
   -- the slice with the counts and cursors of the insert has the same rows
   begun : (room : Room) → let base : List ℕ = cursorsMoved (room .at) (room .second) 8 (insertCounts words room) in Holding base base (t .places) (t .limit) (r .heap)

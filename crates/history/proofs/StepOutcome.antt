@@ -13,8 +13,8 @@ use Rattle.table.specs.Event.{Reply}
 use Rattle.table.proofs.Sound.{Sound}
 use Rattle.table.proofs.Eager.{Settled, fresh}
 use Rattle.steps.specs.Step.{workOf, stepOf}
-use Rattle.steps.specs.Walk.{walkOf}
-use Rattle.steps.specs.Search.{searchOf}
+use Rattle.moves.specs.Walk.{walkOf}
+use Rattle.moves.specs.Search.{searchOf}
 use Rattle.history.specs.View.{seatAt}
 use Rattle.history.specs.Related.{Related, Busy}
 use Rattle.trees.specs.Route.{standsAt}

@@ -39,10 +39,10 @@ use Rattle.trees.specs.Search.{Search, Nearest}
 use Rattle.trees.specs.Measure.{searchLeft}
 use Rattle.trees.proofs.ChoiceOf.{choiceOf}
 use Rattle.trees.proofs.SearchLaws.{search-seek, search-finish}
-use Rattle.steps.specs.declared.search.Progress.{Progress as WordProgress}
-use Rattle.steps.specs.Answer.{answeredWords}
-use Rattle.steps.specs.Reply.{done, ask}
-use Rattle.steps.specs.Search.{look, tour, seek, progressAt, isFinished, foundAnswer, keptWords, pickWords, searchWords, searchTo, searchOf}
+use Rattle.moves.specs.declared.search.Progress.{Progress as WordProgress}
+use Rattle.moves.specs.Answer.{answeredWords}
+use Rattle.moves.specs.Reply.{done, ask}
+use Rattle.moves.specs.Search.{look, tour, seek, progressAt, isFinished, foundAnswer, keptWords, pickWords, searchWords, searchTo, searchOf}
 use Rattle.history.specs.Index.{answerOf}
 use Rattle.history.specs.View.{Seat, countsAt, placeAt, seatAt, seatPut, progressOf, noPlace}
 use Rattle.history.specs.Related.{recordOf, Busy, Searching, Waits, Says, Related}

@@ -11,7 +11,7 @@ use native.Mathlib.Numerals.{add-one}
 use native.Mathlib.Decide.{ℕ-discrete}
 use lib.Dec.{eqb, leb}
 use lib.ListN.{length}
-use borrow.Author.Tests.{eq-eqb, ne-eqb, le-leb, lt-ltb}
+use borrow.Author.Tests.{eq-eqb, ne-eqb, le-leb}
 use Rattle.points.specs.declared.point.Point.{Point}
 use Rattle.points.specs.Point.{inRange}
 use Rattle.points.specs.Word.{NONE}
@@ -47,12 +47,13 @@ use Rattle.trees.specs.Unlink.{siblingRow, grandRow, Unlinked}
 use Rattle.trees.proofs.Room.{store-release}
 use Rattle.trees.proofs.RouteLaws.{on-route-has}
 use Rattle.trees.proofs.Unlink.{unlink}
-use Rattle.steps.specs.declared.unlink.Around.{Around}
-use Rattle.steps.specs.Reply.{done, more}
-use Rattle.steps.specs.Answer.{answer as wordAnswer, answeredWords}
-use Rattle.steps.specs.Unlink.{aroundAt, aroundSound, unlinkTail, unlinkRoot, unlinkCounts, unlinkRows, stationsMoved, unlinkWords, unlinkOf}
+use Rattle.moves.specs.declared.unlink.Around.{Around}
+use Rattle.moves.specs.Reply.{done, more}
+use Rattle.moves.specs.Answer.{answer as wordAnswer, answeredWords}
+use Rattle.moves.specs.Unlink.{aroundAt, aroundSound, unlinkTail, unlinkRoot, unlinkCounts, unlinkRows, stationsMoved, unlinkWords, unlinkOf}
 use Rattle.history.specs.View.{Counts, Seat, countsAt, placeAt, seatAt, noPlace, seatPut, Written}
 use Rattle.history.specs.Related.{recordOf, Busy, Says, Counted, Related}
+use Rattle.history.proofs.RelatedLaws.{more-is}
 use Rattle.history.proofs.Effects.{reads-in, answer-written, answer-rows, movedSeat, unlink-written, unlink-same-rows}
 use Rattle.history.proofs.Outcome.{Outcome, ends}
 use Rattle.history.proofs.Readings.{removed-change, removedTable, changed-remove}
@@ -60,11 +61,6 @@ use Rattle.history.proofs.UnlinkAround.{aroundOf, around-is, around-sou
 use Rattle.history.proofs.UnlinkRows.{RowsUnlinked, rows-unlinked}
 use Rattle.history.proofs.UnlinkSeats.{says-moved}
 use Rattle.history.proofs.UnlinkHeld.{curve-removed, records-unlinked, number-unlinked}
-
--- one more, below the greatest word
-more-is : (x : ℕ) → x < NONE → more x ≡ suc x
-unfolding more
-more-is x l = rw (lt-ltb x NONE l) (add-one x)
 
 -- the seat of a station after an answer, and the others
 put-own : (seats : ℕ → Seat) (s : ℕ) (x : Seat) → seatPut seats s x s ≡ x

@@ -31,7 +31,7 @@ use Rattle.trees.specs.Reads.{LeafAt, CutAt}
 use Rattle.trees.specs.Measure.{walkLeft, Descends}
 use Rattle.trees.proofs.RouteLaws.{on-route-has, walk-stands, walk-down}
 use Rattle.trees.proofs.ReadLaws.{read-row}
-use Rattle.steps.specs.Walk.{downFrom, down as downWords, sixDown, conclude, standsAt as standsIn, walkFrom, walkOf}
+use Rattle.moves.specs.Walk.{downFrom, down as downWords, sixDown, conclude, standsAt as standsIn, walkFrom, walkOf}
 use Rattle.history.specs.View.{Seat, countsAt, placeAt, seatAt, wordRow}
 use Rattle.history.specs.Related.{pointOf, Works, Busy, Related}
 use Rattle.history.proofs.RelatedLaws.{related-busy}

@@ -15,9 +15,9 @@ use Rattle.rows.specs.Station.{isUnfinished, stateAt}
 use Rattle.rows.specs.Call.{callAt, callSound}
 use Rattle.rows.proofs.CommonLaws.{commonSound-agree}
 use Rattle.rows.proofs.RecordLaws.{stateAt-agree, callAt-agree}
-use Rattle.steps.specs.Reply.{isOpened, rowsIn}
-use Rattle.steps.specs.Link.{isCut}
-use Rattle.steps.specs.Walk.{codeAt, standsAt}
+use Rattle.moves.specs.Reply.{isOpened, rowsIn}
+use Rattle.moves.specs.Link.{isCut}
+use Rattle.moves.specs.Walk.{codeAt, standsAt}
 use Rattle.steps.specs.Step.{recordsSound, workOf, stepOf}
 use Rattle.history.specs.Touch.{AgreeOn, Leaves, pickRows, searchRows, walkRows, stepRows}
 use Rattle.history.proofs.TouchLaws.{get-same, opened-same}

@@ -15,10 +15,10 @@ use Rattle.rows.specs.Layout.{atChanges, atHeld, atRoot, atHead, atCursor}
 use Rattle.rows.specs.Words.{get}
 use Rattle.rows.specs.Row.{rowAt}
 use Rattle.rows.proofs.RowLaws.{rowAt-outside}
-use Rattle.steps.specs.declared.insert.Room.{Room}
-use Rattle.steps.specs.Link.{nextOf, parentOf, linksTo, isLeaf, withParent, replaced}
-use Rattle.steps.specs.Reply.{more}
-use Rattle.steps.specs.Insert.{roomAt, roomSound, insertRows, insertRoot, insertCounts, cursorsMoved, insertWords, insertTo, insertOf}
+use Rattle.moves.specs.declared.insert.Room.{Room}
+use Rattle.moves.specs.Link.{nextOf, parentOf, linksTo, isLeaf, withParent, replaced}
+use Rattle.moves.specs.Reply.{more}
+use Rattle.moves.specs.Insert.{roomAt, roomSound, insertRows, insertRoot, insertCounts, cursorsMoved, insertWords, insertTo, insertOf}
 use Rattle.history.specs.Touch.{AgreeOn, Leaves, roomRows, rowsBelow}
 use Rattle.history.proofs.TouchLaws.{get-same, leaves-nothing, leaves-put}
 use Rattle.history.proofs.TouchRows.{the-first, the-second, the-third, the-fourth, row-alike, leaves-below, none-idle, bad-idle}

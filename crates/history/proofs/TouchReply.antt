@@ -4,8 +4,8 @@ use mathlib.Core.Path.{_≡_, refl}
 use mathlib.Core.Bool.{Bool, true, false}
 use mathlib.Core.List.{List}
 use Rattle.rows.specs.declared.answer.Answer.{Answer}
-use Rattle.steps.specs.Reply.{Reply, done, refused, pickReply, ask}
-use Rattle.steps.specs.Answer.{withdrawn, answeredWords}
+use Rattle.moves.specs.Reply.{Reply, done, refused, pickReply, ask}
+use Rattle.moves.specs.Answer.{withdrawn, answeredWords}
 use Rattle.history.specs.Touch.{AgreeOn, Leaves, pickRows, rowsBelow}
 use Rattle.history.proofs.TouchLaws.{leaves-nothing, leaves-state, leaves-answer, leaves-place, leaves-since, leaves-missed}
 

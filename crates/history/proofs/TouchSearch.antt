@@ -9,10 +9,10 @@ use Rattle.points.specs.Word.{NONE}
 use Rattle.rows.specs.declared.call.Call.{Call}
 use Rattle.rows.specs.Layout.{atCursor, atPhase, atMissed}
 use Rattle.rows.specs.Row.{rowAt}
-use Rattle.steps.specs.declared.search.Progress.{Progress}
-use Rattle.steps.specs.Link.{nextOf, parentOf, isTree}
-use Rattle.steps.specs.Search.{pickProgress, onward, unsound, lookAt, look, tourDown, tourAbove, tour, seek, progressAt, isFinished, foundAnswer, keptWords, pickWords, searchWords, searchTo, searchOf}
-use Rattle.steps.specs.Answer.{answeredWords}
+use Rattle.moves.specs.declared.search.Progress.{Progress}
+use Rattle.moves.specs.Link.{nextOf, parentOf, isTree}
+use Rattle.moves.specs.Search.{pickProgress, onward, unsound, lookAt, look, tourDown, tourAbove, tour, seek, progressAt, isFinished, foundAnswer, keptWords, pickWords, searchWords, searchTo, searchOf}
+use Rattle.moves.specs.Answer.{answeredWords}
 use Rattle.history.specs.Touch.{AgreeOn, Leaves, searchRows, rowsBelow}
 use Rattle.history.proofs.TouchLaws.{get-same, leaves-nothing, leaves-best, leaves-place, leaves-missed}
 use Rattle.history.proofs.TouchRows.{the-first, the-second, the-third, the-fourth, the-fifth, the-sixth, row-alike}
@@ -24,11 +24,11 @@ progress-same : {v w : List ℕ} {s : ℕ} {rows : List ℕ} → AgreeOn v w s r
 unfolding progressAt
 progress-same {s = s} a call h =
     λ i. record {
-      sound = true;
       cursor = get-same a (atCursor s) (omega arith) i;
       phase = get-same a (atPhase s) (omega arith) i;
       missed = get-same a (atMissed s) (omega arith) i;
       best = call .best;
+      sound = true;
     }
 
 -- the missed row and the row after it

@@ -10,7 +10,7 @@ use Rattle.rows.specs.Layout.{atChanges, atRoot, atRemovals}
 use Rattle.rows.specs.Common.{openedIn}
 use Rattle.rows.specs.Station.{isIdle, stateAt}
 use Rattle.rows.proofs.RecordLaws.{stateAt-agree}
-use Rattle.steps.specs.Reply.{isOpened}
+use Rattle.moves.specs.Reply.{isOpened}
 use Rattle.steps.specs.Submit.{kindIn, curveFits, callFor, sinceFor, begunWords, submittedWords, submitOf}
 use Rattle.history.specs.Touch.{AgreeOn, Leaves}
 use Rattle.history.proofs.TouchLaws.{get-same, opened-same, leaves-nothing, leaves-state, leaves-call, leaves-place, leaves-since, leaves-missed}

@@ -7,7 +7,7 @@ use lib.Dec.{ltb}
 use Rattle.rows.proofs.RecordLaws.{waitingAt-agree}
 use Rattle.steps.specs.declared.take.Taking.{Taking}
 use Rattle.steps.specs.declared.take.Taking.the-variants.{Refused as Refusal, Given as Taken}
-use Rattle.steps.specs.Reply.{isOpened}
+use Rattle.moves.specs.Reply.{isOpened}
 use Rattle.steps.specs.Take.{takingOf, takeOf, takenWords, takeWords}
 use Rattle.history.specs.Touch.{AgreeOn, Leaves}
 use Rattle.history.proofs.TouchLaws.{opened-same, leaves-nothing, leaves-state}

@@ -14,10 +14,10 @@ use Rattle.rows.specs.Layout.{atChanges, atHeld, atRoot, atTail, atRemovals, at
 use Rattle.rows.specs.Words.{get}
 use Rattle.rows.specs.Row.{rowAt}
 use Rattle.rows.proofs.RowLaws.{rowAt-outside}
-use Rattle.steps.specs.declared.unlink.Around.{Around}
-use Rattle.steps.specs.Link.{nextOf, parentOf, siblingOf, linksTo, isLeaf, isTree, isFree, withNext, withParent, removedAs, replaced}
-use Rattle.steps.specs.Reply.{more}
-use Rattle.steps.specs.Unlink.{aroundAt, aroundSound, unlinkRows, unlinkRoot, unlinkCounts, cursorAfter, phaseAfter, missedAfter, stationMoved, stationsMoved, unlinkWords, unlinkTo, unlinkOf}
+use Rattle.moves.specs.declared.unlink.Around.{Around}
+use Rattle.moves.specs.Link.{nextOf, parentOf, siblingOf, linksTo, isLeaf, isTree, isFree, withNext, withParent, removedAs, replaced}
+use Rattle.moves.specs.Reply.{more}
+use Rattle.moves.specs.Unlink.{aroundAt, aroundSound, unlinkRows, unlinkRoot, unlinkCounts, cursorAfter, phaseAfter, missedAfter, stationMoved, stationsMoved, unlinkWords, unlinkTo, unlinkOf}
 use Rattle.history.specs.Touch.{AgreeOn, Leaves, aroundRows, rowsBelow}
 use Rattle.history.proofs.TouchLaws.{get-same, leaves-nothing, leaves-put}
 use Rattle.history.proofs.TouchRows.{the-first, the-second, the-third, the-fourth, the-fifth, row-alike, leaves-below, none-idle, bad-idle}

@@ -12,10 +12,10 @@ use Rattle.rows.specs.declared.call.Call.{Call}
 use Rattle.rows.specs.Layout.{atPlaces, atLimit, atChanges, atRoot, atCursor}
 use Rattle.rows.specs.Row.{rowAt}
 use Rattle.rows.proofs.TakenLaws.{takenIn-agree}
-use Rattle.steps.specs.Link.{isLeaf, isCut, holdsPoint}
-use Rattle.steps.specs.Insert.{roomAt}
-use Rattle.steps.specs.Unlink.{aroundAt}
-use Rattle.steps.specs.Walk.{downFrom, down, sixDown, walkTo, codeOf, codeAt, conclude, standsAt, walkFrom, walkOf}
+use Rattle.moves.specs.Link.{isLeaf, isCut, holdsPoint}
+use Rattle.moves.specs.Insert.{roomAt}
+use Rattle.moves.specs.Unlink.{aroundAt}
+use Rattle.moves.specs.Walk.{downFrom, down, sixDown, walkTo, codeOf, codeAt, conclude, standsAt, walkFrom, walkOf}
 use Rattle.history.specs.Touch.{AgreeOn, wayRows, pickRows, endRows, walkRows, rowsBelow}
 use Rattle.history.proofs.TouchLaws.{get-same, leaves-nothing, leaves-place}
 use Rattle.history.proofs.TouchRows.{the-first, the-second, the-third, the-fourth, the-fifth, the-sixth, in-pick, row-alike}

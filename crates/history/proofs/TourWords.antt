@@ -21,8 +21,8 @@ use Rattle.trees.specs.Choice.{bestSquare}
 use Rattle.trees.specs.Tour.{pointOf, considered, pickProgress, goTo, tourDown, tourParent, tourAbove, tourUp, tourRow, tour}
 use Rattle.trees.specs.Stand.{Down, Up}
 use Rattle.trees.proofs.ChoiceOf.{choiceOf}
-use Rattle.steps.specs.declared.search.Progress.{Progress as WordProgress}
-use Rattle.steps.specs.Search.{considered as consideredWord, onward, unsound, pickProgress as pickWordProgress, fromNear, tourDown as tourWordDown, tourAbove as tourWordParent, tourUp as tourWordUp, tour as tourWord}
+use Rattle.moves.specs.declared.search.Progress.{Progress as WordProgress}
+use Rattle.moves.specs.Search.{considered as consideredWord, onward, unsound, pickProgress as pickWordProgress, fromNear, tourDown as tourWordDown, tourAbove as tourWordParent, tourUp as tourWordUp, tour as tourWord}
 use Rattle.history.specs.View.{wordRow, Reads, phaseOf, bestOf}
 use Rattle.history.proofs.Effects.{reads-in}
 use Rattle.rows.proofs.RowLaws.{in-rows-cut}

@@ -26,9 +26,9 @@ use Rattle.trees.specs.Reads.{LeafAt, CutAt, ParentCut, Above, TailRow, UnlinkR
 use Rattle.trees.specs.Reads.{Leaf}
 use Rattle.trees.specs.Unlink.{siblingRow, grandRow}
 use Rattle.trees.proofs.ReadLaws.{unlink-reads, link-tail}
-use Rattle.steps.specs.declared.unlink.Around.{Around}
-use Rattle.steps.specs.Link.{nextOf, parentOf as wordParent, siblingOf as wordSibling, linksTo, isTree, isFree}
-use Rattle.steps.specs.Unlink.{aroundAt, aroundSound}
+use Rattle.moves.specs.declared.unlink.Around.{Around}
+use Rattle.moves.specs.Link.{nextOf, parentOf as wordParent, siblingOf as wordSibling, linksTo, isTree, isFree}
+use Rattle.moves.specs.Unlink.{aroundAt, aroundSound}
 use Rattle.history.specs.View.{wordRow, Reads}
 
 -- ---- links of rows in the words

@@ -13,9 +13,9 @@ use Rattle.rows.specs.Layout.{atChanges, atHeld, atRoot, atHead, atTail, atRemo
 use Rattle.rows.specs.Words.{get}
 use Rattle.rows.specs.Common.{openedIn}
 use Rattle.rows.proofs.OpeningLaws.{opened-tells}
-use Rattle.steps.specs.declared.unlink.Around.{Around}
-use Rattle.steps.specs.Reply.{more}
-use Rattle.steps.specs.Unlink.{unlinkTail, unlinkRoot, unlinkCounts, cursorAfter, phaseAfter, missedAfter, stationMoved, stationsMoved}
+use Rattle.moves.specs.declared.unlink.Around.{Around}
+use Rattle.moves.specs.Reply.{more}
+use Rattle.moves.specs.Unlink.{unlinkTail, unlinkRoot, unlinkCounts, cursorAfter, phaseAfter, missedAfter, stationMoved, stationsMoved}
 use Rattle.history.specs.View.{Counts, Place, Seat, countsAt, placeAt, seatAt, withPlace, SameRows, Written}
 use Rattle.history.proofs.Frame.{place-of, place-same}
 use Rattle.history.proofs.CountEffects.{Counting, counting-none, counting-put}

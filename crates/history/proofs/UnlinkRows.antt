@@ -26,8 +26,8 @@ use Rattle.trees.proofs.ReadLaws.{unlink-reads, link-tail}
 use Rattle.trees.proofs.Room.{queue-not-empty}
 use Rattle.trees.proofs.Unlink.{tail-row-in}
 use Rattle.trees.proofs.WriteLaws.{unlink-apart, unlink-writes, unlink-write}
-use Rattle.steps.specs.Link.{withNext, withParent, removedAs, replaced}
-use Rattle.steps.specs.Unlink.{unlinkRows}
+use Rattle.moves.specs.Link.{withNext, withParent, removedAs, replaced}
+use Rattle.moves.specs.Unlink.{unlinkRows}
 use Rattle.history.specs.View.{countsAt, seatAt, wordRow, Reads, heapPut, Written}
 use Rattle.history.proofs.Effects.{reads-in}
 use Rattle.history.proofs.RowLinks.{next-words, next-in, freed-in, child-words, child-in, parent-words, parent-in}

@@ -8,7 +8,7 @@ use Rattle.table.specs.Record.{Record}
 use Rattle.table.specs.Call.{Answer}
 use Rattle.table.specs.Event.{Reply}
 use Rattle.table.specs.History.{Index}
-use Rattle.steps.specs.Reply.{Reply as WordReply}
+use Rattle.moves.specs.Reply.{Reply as WordReply}
 use Rattle.steps.specs.declared.take.Taking.{Taking}
 use Rattle.steps.specs.declared.take.Taking.the-variants.{Refused, Given as Taken}
 use Rattle.steps.specs.Submit.{submitOf}

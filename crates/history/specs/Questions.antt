@@ -11,7 +11,7 @@ use Rattle.rows.specs.Common.{placesIn, limitIn, openedIn}
 use Rattle.rows.specs.Station.{isIdle, isUnfinished, stateAt}
 use Rattle.rows.specs.Call.{callAt}
 use Rattle.rows.specs.Answer.{waitingAt}
-use Rattle.steps.specs.Reply.{isOpened, rowsIn}
+use Rattle.moves.specs.Reply.{isOpened, rowsIn}
 use Rattle.steps.specs.Submit.{kindIn, curveFits}
 use Rattle.steps.specs.Step.{recordsSound, workOf}
 use Rattle.steps.specs.Run.{isGiven}

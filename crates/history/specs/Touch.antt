@@ -11,15 +11,15 @@ use Rattle.rows.specs.Words.{get}
 use Rattle.rows.specs.Agree.{Off, inCommon, inStation, inRow, startOf, sizeOf, AgreeIn}
 use Rattle.rows.specs.Row.{rowAt}
 use Rattle.rows.specs.Call.{callAt}
-use Rattle.steps.specs.declared.insert.Room.{Room}
-use Rattle.steps.specs.declared.unlink.Around.{Around}
-use Rattle.steps.specs.declared.search.Progress.{Progress}
-use Rattle.steps.specs.Reply.{rowsIn}
-use Rattle.steps.specs.Link.{nextOf, parentOf, isCut}
-use Rattle.steps.specs.Search.{look, tour, progressAt}
-use Rattle.steps.specs.Insert.{roomAt}
-use Rattle.steps.specs.Unlink.{aroundAt}
-use Rattle.steps.specs.Walk.{down, codeAt, standsAt}
+use Rattle.moves.specs.declared.insert.Room.{Room}
+use Rattle.moves.specs.declared.unlink.Around.{Around}
+use Rattle.moves.specs.declared.search.Progress.{Progress}
+use Rattle.moves.specs.Reply.{rowsIn}
+use Rattle.moves.specs.Link.{nextOf, parentOf, isCut}
+use Rattle.moves.specs.Search.{look, tour, progressAt}
+use Rattle.moves.specs.Insert.{roomAt}
+use Rattle.moves.specs.Unlink.{aroundAt}
+use Rattle.moves.specs.Walk.{down, codeAt, standsAt}
 
 -- "two slices of one length that agree in the common record and the station's, as far as they are there", and in some rows
 pub record AgreeOn (v w : List ℕ) (s : ℕ) (rows : List ℕ) : Type 0 where

@@ -1,5 +1,2 @@
-pub mod AuditLaws
 pub mod Questions
-pub mod SearchLaws
 pub mod SubmitLaws
-pub mod UnlinkLaws

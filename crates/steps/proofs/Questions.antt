@@ -8,7 +8,7 @@ use Rattle.points.specs.declared.point.Point.{Point}
 use Rattle.points.specs.Point.{inRange}
 use Rattle.rows.specs.Common.{openedIn}
 use Rattle.rows.specs.Station.{isIdle, stateAt}
-use Rattle.steps.specs.Reply.{Reply, replied, done, ask, pickReply, isOpened}
+use Rattle.moves.specs.Reply.{Reply, replied, done, ask, pickReply, isOpened}
 use Rattle.steps.specs.Submit.{kindIn, curveFits, callQuestion, submitQuestion, submittedWords, submitOf}
 
 -- no question failed and the call leaves the words after, or one did and it leaves those before

@@ -7,7 +7,7 @@ use Rattle.rows.specs.declared.row.Row.the-variants.{Bad, Spare, Removed, Leaf,
 use Rattle.rows.specs.Layout.{atRoot}
 use Rattle.rows.specs.Words.{get}
 use Rattle.rows.specs.Row.{rowAt}
-use Rattle.steps.specs.Reply.{rowsIn}
+use Rattle.moves.specs.Reply.{rowsIn}
 
 -- a record, a point and a curve
 pub record Held : Type 0 where

@@ -1,15 +1,7 @@
-pub mod Link
-pub mod Reply
-pub mod Answer
 pub mod Open
 pub mod Submit
-pub mod Search
-pub mod Insert
-pub mod Unlink
-pub mod Walk
 pub mod Step
 pub mod Take
 pub mod Report
 pub mod Run
 pub mod Held
-pub mod Audit

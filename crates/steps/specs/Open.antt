@@ -10,7 +10,7 @@ use Rattle.rows.specs.Layout.{atMark, atPlaces, atLimit, atRoot, atHead, atTail
 use Rattle.rows.specs.Words.{put}
 use Rattle.rows.specs.Row.{putRow}
 use Rattle.rows.specs.Common.{mark, placesIn, limitIn}
-use Rattle.steps.specs.Reply.{Reply, done, ask}
+use Rattle.moves.specs.Reply.{Reply, done, ask}
 
 -- zero in the first n words
 unfoldable pub cleared : ℕ → List ℕ → List ℕ

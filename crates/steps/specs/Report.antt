@@ -4,7 +4,7 @@ use mathlib.Core.Bool.{cond}
 use mathlib.Core.List.{List}
 use Rattle.rows.specs.Common.{openedIn, takenIn}
 use Rattle.steps.specs.declared.report.Report.{Report}
-use Rattle.steps.specs.Reply.{isOpened}
+use Rattle.moves.specs.Reply.{isOpened}
 
 -- question 4; the number of places taken, 0 with a refusal
 unfoldable pub reportOf : List ℕ → Report

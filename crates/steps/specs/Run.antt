@@ -10,7 +10,7 @@ use Rattle.rows.specs.Layout.{atPlaces}
 use Rattle.rows.specs.Words.{get}
 use Rattle.rows.specs.Common.{openedIn}
 use Rattle.rows.specs.Answer.{waitingAt}
-use Rattle.steps.specs.Reply.{Reply, done, pickReply, isOpened}
+use Rattle.moves.specs.Reply.{Reply, done, pickReply, isOpened}
 use Rattle.steps.specs.Step.{stepOf}
 
 -- an answer waits

@@ -9,9 +9,9 @@ use Rattle.rows.specs.Words.{get}
 use Rattle.rows.specs.Common.{openedIn, commonSound}
 use Rattle.rows.specs.Station.{isUnfinished, stateAt}
 use Rattle.rows.specs.Call.{callAt, callSound}
-use Rattle.steps.specs.Reply.{Reply, pickReply, ask, isOpened, rowsIn}
-use Rattle.steps.specs.Search.{searchOf}
-use Rattle.steps.specs.Walk.{walkOf}
+use Rattle.moves.specs.Reply.{Reply, pickReply, ask, isOpened, rowsIn}
+use Rattle.moves.specs.Search.{searchOf}
+use Rattle.moves.specs.Walk.{walkOf}
 
 -- the fields of the common record and of the station's call are in range
 unfoldable pub recordsSound : List ℕ → ℕ → Bool

@@ -13,7 +13,7 @@ use Rattle.rows.specs.Range.{curveIn}
 use Rattle.rows.specs.Common.{openedIn}
 use Rattle.rows.specs.Station.{isIdle, submitted, stateAt, putState, putPlace, putSince, putMissed}
 use Rattle.rows.specs.Call.{noBest, putCall}
-use Rattle.steps.specs.Reply.{Reply, done, ask, isOpened}
+use Rattle.moves.specs.Reply.{Reply, done, ask, isOpened}
 
 -- "Call kind 1 to 4?"
 abbrev pub kindIn : ℕ → Bool

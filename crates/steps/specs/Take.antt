@@ -11,7 +11,7 @@ use Rattle.rows.specs.Station.{taken, stateAt, putState}
 use Rattle.rows.specs.Answer.{waitingAt}
 use Rattle.steps.specs.declared.take.Taking.{Taking}
 use Rattle.steps.specs.declared.take.Taking.the-variants.{Refused as Refusal, Given as Taken}
-use Rattle.steps.specs.Reply.{isOpened}
+use Rattle.moves.specs.Reply.{isOpened}
 
 -- what a taking by a station with this waiting gives
 abbrev pub takingOf : Waiting → Taking

@@ -1,5 +1,5 @@
 // Opening: no record held, every row spare, every station idle and no change counted.
-use crate::reply::pick;
+use moves::reply::pick;
 use rows::common::MARK;
 use rows::common::limit_in;
 use rows::common::places_in;
@@ -20,7 +20,7 @@ use rows::word::put;
 ghost use mathlib.Core.Path.{_≡_};
 ghost use Prim.Native.Nat.{_≤_};
 ghost use Rattle.rows.specs.Layout.{records};
-ghost use Rattle.steps.specs.Reply.{replied};
+ghost use Rattle.moves.specs.Reply.{replied};
 ghost use Rattle.steps.specs.Open.{cleared, stationsCleared, headWords, rowsSpare, openedWords, openOf};
 
 // The words of the common record and of the stations.

@@ -1,5 +1,5 @@
 // A report: the number of places taken, as the common record counts them.
-use crate::reply::is_opened;
+use moves::reply::is_opened;
 use rows::common::opened;
 use rows::common::taken;
 ghost use mathlib.Core.Path.{_≡_};

@@ -1,13 +1,13 @@
 // A run: steps of one station, until it is answered.
-use crate::reply::is_opened;
 use crate::step::step;
+use moves::reply::is_opened;
 use rows::answer::Waiting;
 use rows::answer::read_waiting;
 use rows::common::opened;
 use rows::layout::AT_PLACES;
 use rows::word::get;
 ghost use mathlib.Core.Path.{_≡_};
-ghost use Rattle.steps.specs.Reply.{replied};
+ghost use Rattle.moves.specs.Reply.{replied};
 ghost use Rattle.steps.specs.Run.{isGiven, goesOn, mostSteps, runOf};
 
 // Whether an answer waits.

@@ -1,9 +1,9 @@
 // A step: its questions, and the work of its call. All that it needs is read and checked before anything is written.
-use crate::reply::is_opened;
-use crate::reply::pick;
-use crate::reply::rows_in;
-use crate::search::search;
-use crate::walk::walk;
+use moves::reply::is_opened;
+use moves::reply::pick;
+use moves::reply::rows_in;
+use moves::search::search;
+use moves::walk::walk;
 use rows::call::Call;
 use rows::call::call_sound;
 use rows::call::read_call;
@@ -13,7 +13,7 @@ use rows::layout::AT_CHANGES;
 use rows::station::read_state;
 use rows::word::get;
 ghost use mathlib.Core.Path.{_≡_};
-ghost use Rattle.steps.specs.Reply.{replied};
+ghost use Rattle.moves.specs.Reply.{replied};
 ghost use Rattle.steps.specs.Step.{fieldsSound, firstFailed, workOf, stepOf};
 
 // Whether the fields of the common record and of the call are in range.

@@ -1,6 +1,6 @@
 // Submission: questions 4 to 9, and the call that is written at its station. It reads and writes the common record and the station's alone.
-use crate::reply::is_opened;
-use crate::reply::pick;
+use moves::reply::is_opened;
+use moves::reply::pick;
 use points::point::Point;
 use points::point::in_range;
 use rows::call::Call;
@@ -19,7 +19,7 @@ use rows::station::write_state;
 use rows::word::curve_in;
 use rows::word::get;
 ghost use mathlib.Core.Path.{_≡_};
-ghost use Rattle.steps.specs.Reply.{replied};
+ghost use Rattle.moves.specs.Reply.{replied};
 ghost use Rattle.steps.specs.Submit.{kindIn, curveFits, callFor, sinceFor, begunWords, submittedWords, callQuestion, submitQuestion, submitOf};
 
 // Question 7: kinds are 1 to 4.

@@ -1,5 +1,5 @@
 // A taking: questions 4, 5 and 12, and the answer that waited at the station. It writes one word.
-use crate::reply::is_opened;
+use moves::reply::is_opened;
 use rows::answer::Answer;
 use rows::answer::Waiting;
 use rows::answer::read_waiting;

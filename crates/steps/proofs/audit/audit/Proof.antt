@@ -5,8 +5,8 @@ use Rattle.steps.proofs.audit.audit.Tie as tie
 use mathlib.Core.Path.{refl, sym, ap, _∙_}
 use mathlib.Core.Bool.{true, false}
 use denote.Ref.{now}
-use Rattle.steps.specs.Reply.{isOpened}
-use Rattle.steps.proofs.AuditLaws.{audit-by}
+use Rattle.moves.specs.Reply.{isOpened}
+use Rattle.audits.proofs.AuditLaws.{audit-by}
 
 opened-requires : tie.Need-opened-requires
 opened-requires c κs = search needs

@@ -14,7 +14,7 @@ use denote.Ref.{now}
 use Rattle.points.proofs.Tests.{and-l, and-r}
 use Rattle.rows.specs.Layout.{wordsFor}
 use Rattle.rows.specs.Common.{placesIn, limitIn}
-use Rattle.steps.specs.Reply.{refused, done}
+use Rattle.moves.specs.Reply.{refused, done}
 use Rattle.steps.specs.Open.{openedWords, openOf}
 
 -- what each question that fails comes to

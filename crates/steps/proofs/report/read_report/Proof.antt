@@ -3,7 +3,7 @@ use borrow.Author.Needs.{needs}
 use Rattle.steps.proofs.report.read_report.Statement.{statement}
 use Rattle.steps.proofs.report.read_report.Tie as tie
 use mathlib.Core.Path.{sym, ap, _∙_}
-use Rattle.steps.specs.Reply.{isOpened}
+use Rattle.moves.specs.Reply.{isOpened}
 use Rattle.steps.specs.Report.{reportOf}
 
 opened-requires : tie.Need-opened-requires

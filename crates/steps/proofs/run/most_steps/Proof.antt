@@ -5,7 +5,7 @@ use Rattle.steps.proofs.run.most_steps.Tie as tie
 use mathlib.Core.Path.{_≡_, _∙_}
 use denote.Ref.{now}
 use Rattle.rows.specs.Common.{openedIn}
-use Rattle.steps.specs.Reply.{isOpened}
+use Rattle.moves.specs.Reply.{isOpened}
 use Rattle.steps.specs.Run.{mostSteps}
 
 -- the test is question 4

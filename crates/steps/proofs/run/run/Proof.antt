@@ -10,7 +10,7 @@ use Prim.Native.Nat.{ℕ, zero, suc, _-_, _≤_, _<_}
 use native.Mathlib.Omega.{arith}
 use borrow.Author.Tests.{not-true, not-false}
 use lib.ListN.{length}
-use Rattle.steps.specs.Reply.{Reply, done}
+use Rattle.moves.specs.Reply.{Reply, done}
 use Rattle.steps.specs.Step.{stepOf}
 use Rattle.steps.specs.Run.{goesOn, runFor, runOf}
 

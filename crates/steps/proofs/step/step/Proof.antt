@@ -13,7 +13,7 @@ use Rattle.rows.specs.Station.{isUnfinished, stateAt}
 use Rattle.rows.specs.Common.{openedIn}
 use Rattle.rows.specs.Call.{callAt}
 use Rattle.steps.specs.Step.{recordsSound, fieldsSound, firstFailed, workOf, stepOf}
-use Rattle.steps.specs.Reply.{Reply, pickReply, ask, refused, isOpened, rowsIn}
+use Rattle.moves.specs.Reply.{Reply, pickReply, ask, refused, isOpened, rowsIn}
 
 -- the first of four questions that fails refuses with its number
 asked : (a b d e : Bool) (words : List ℕ) (reply : Reply) → ask a 4 words (ask b 5 words (ask d 10 words (ask e 11 words reply))) ≡ pickReply (eqb (cond a (cond b (cond d (cond e 0 11) 10) 5) 4) 0) reply (refused (cond a (cond b (cond d (cond e 0 11) 10) 5) 4) words)

@@ -3,7 +3,7 @@ use borrow.Author.Needs.{needs}
 use Rattle.steps.proofs.take.taking_at.Statement.{statement}
 use Rattle.steps.proofs.take.taking_at.Tie as tie
 use mathlib.Core.Path.{sym, ap, _∙_}
-use Rattle.steps.specs.Reply.{isOpened}
+use Rattle.moves.specs.Reply.{isOpened}
 use Rattle.steps.specs.Take.{takeOf}
 
 opened-requires : tie.Need-opened-requires

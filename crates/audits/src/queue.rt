@@ -1,0 +1,139 @@
+// The queue of an audit, walked from its head: free rows, and then the removals that await release, in order.
+use crate::tree::plus;
+use moves::reply::rows_in;
+use rows::common::least_since;
+use rows::layout::AT_HEAD;
+use rows::layout::NONE;
+use rows::row::Row;
+use rows::row::read_row;
+use rows::word::get;
+ghost use mathlib.Core.Path.{_≡_};
+ghost use Prim.Native.Nat.{_+_};
+ghost use lib.Dec.{eqb};
+ghost use Rattle.audits.specs.Audit.{passed, broken, noLonger, passSpare, passRemoved, passRow, passNext, walkQueue, queueIn};
+
+// The queue, walked from its head up to the row `at`: the row before it, the rows passed, the number of the last awaited removal passed, and
+// whether the row before it was that removal's leaf.
+pub struct Line {
+    pub sound: bool,
+    pub at: u32,
+    pub last: u32,
+    pub rows: u32,
+    pub number: u32,
+    pub fresh: bool,
+}
+
+// A free row is passed.
+fn passed(l: Line, sound: bool, next: u32, number: u32, fresh: bool) -> Line
+    ensures { λ r. ⌜ r ≡ passed l sound next number fresh ⌝ }
+{
+    Line {
+        sound: l.sound & sound,
+        at: next,
+        last: l.at,
+        rows: plus(1, l.rows),
+        number: number,
+        fresh: fresh,
+    }
+}
+
+// No free row: the queue is broken here.
+fn broken(l: Line) -> Line
+    ensures { λ r. ⌜ r ≡ broken l ⌝ }
+{
+    Line {
+        sound: false,
+        at: NONE,
+        last: l.last,
+        rows: l.rows,
+        number: l.number,
+        fresh: l.fresh,
+    }
+}
+
+// Whether a row's removal is no longer awaited, and no awaited one was passed.
+fn no_longer(released: u32, l: Line, freed: u32) -> bool
+    ensures { λ r. ⌜ r ≡ noLonger released l freed ⌝ }
+{
+    (freed <= released) & (l.number == released)
+}
+
+// Whether a removal is the next one after another.
+fn follows(freed: u32, number: u32) -> bool
+    ensures { λ r. ⌜ r ≡ eqb freed (number + 1) ⌝ }
+{
+    (freed as u64) == (number as u64) + 1
+}
+
+// A removed record is passed.
+fn pass_removed(released: u32, l: Line, next: u32, freed: u32) -> Line
+    ensures { λ r. ⌜ r ≡ passRemoved released l next freed ⌝ }
+{
+    if no_longer(released, l, freed) {
+        passed(l, true, next, l.number, false)
+    } else {
+        passed(l, follows(freed, l.number), next, freed, true)
+    }
+}
+
+// A spare row is passed.
+fn pass_spare(released: u32, l: Line, next: u32, freed: u32) -> Line
+    ensures { λ r. ⌜ r ≡ passSpare released l next freed ⌝ }
+{
+    let sound = no_longer(released, l, freed) | ((freed == l.number) & l.fresh);
+    passed(l, sound, next, l.number, false)
+}
+
+// A row of the queue is passed.
+fn pass_row(released: u32, l: Line, row: Row) -> Line
+    ensures { λ r. ⌜ r ≡ passRow released l row ⌝ }
+{
+    match row {
+        Row::Bad => broken(l),
+        Row::Spare { next, freed } => pass_spare(released, l, next, freed),
+        Row::Removed { next, freed, .. } => pass_removed(released, l, next, freed),
+        Row::Leaf { .. } => broken(l),
+        Row::Cut { .. } => broken(l),
+    }
+}
+
+// One row on; the end stays.
+fn pass_next(words: &[u32], rows: u32, released: u32, l: Line) -> Line
+    ensures { λ r. ⌜ r ≡ passNext (now (words .entry)) rows released l ⌝ }
+{
+    if l.at == NONE {
+        l
+    } else {
+        pass_row(released, l, read_row(words, rows, l.at))
+    }
+}
+
+// So many rows on.
+fn walk_queue(words: &[u32], rows: u32, released: u32, n: u32, l: Line) -> Line
+    ensures { λ r. ⌜ r ≡ walkQueue (now (words .entry)) rows released n l ⌝ }
+{
+    let mut line = l;
+    let mut left = n;
+    while left > 0 {
+        line = pass_next(words, rows, released, line);
+        left -= 1;
+    }
+    line
+}
+
+// The whole queue.
+pub fn queue(words: &[u32]) -> Line
+    ensures { λ r. ⌜ r ≡ queueIn (now (words .entry)) ⌝ }
+{
+    let rows = rows_in(words);
+    let released = least_since(words);
+    let start = Line {
+        sound: true,
+        at: get(words, AT_HEAD),
+        last: NONE,
+        rows: 0,
+        number: released,
+        fresh: false,
+    };
+    walk_queue(words, rows, released, rows, start)
+}

@@ -1,0 +1,26 @@
+-- `moves::answer::withdraw` meets its contract. Assumes nothing.
+use borrow.Author.Needs.{needs}
+use Rattle.moves.proofs.answer.withdraw.Statement.{statement}
+use Rattle.moves.proofs.answer.withdraw.Tie as tie
+use Rattle.moves.specs.Answer.{withdrawn}
+
+write-place-requires : tie.Need-write-place-requires
+write-place-requires c κs = search needs
+
+write-since-requires : tie.Need-write-since-requires
+write-since-requires c κs = search needs
+
+write-missed-requires : tie.Need-write-missed-requires
+write-missed-requires c κs = search needs
+
+same-length : tie.Need-same-length
+same-length c = search needs
+
+returns : tie.Need-returns
+unfolding withdrawn
+returns c = cc
+
+pub withdraw-spec : {M : Type 1} → statement M
+withdraw-spec =
+    tie.close
+    (tie.spec write-place-requires write-since-requires write-missed-requires same-length returns)

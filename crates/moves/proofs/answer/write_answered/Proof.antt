@@ -1,0 +1,39 @@
+-- `moves::answer::write_answered` meets its contract. Assumes nothing.
+use borrow.Author.Needs.{needs}
+use Rattle.moves.proofs.answer.write_answered.Statement.{statement}
+use Rattle.moves.proofs.answer.write_answered.Tie as tie
+use Rattle.moves.specs.Answer.{answeredWords}
+
+read-state-requires : tie.Need-read-state-requires
+read-state-requires c κs = search needs
+
+write-answer-requires : tie.Need-write-answer-requires
+write-answer-requires c κs = search needs
+
+answered-requires : tie.Need-answered-requires
+answered-requires c κs = search needs
+
+write-state-requires : tie.Need-write-state-requires
+write-state-requires c κs = search needs
+
+withdraw-requires : tie.Need-withdraw-requires
+withdraw-requires c κs = search needs
+
+same-length : tie.Need-same-length
+same-length c = search needs
+
+returns : tie.Need-returns
+unfolding answeredWords
+returns c = cc
+
+pub write-answered-spec : {M : Type 1} → statement M
+write-answered-spec =
+    tie.close
+    (tie.spec
+    read-state-requires
+    write-answer-requires
+    answered-requires
+    write-state-requires
+    withdraw-requires
+    same-length
+    returns)

@@ -1,0 +1,11 @@
+-- `moves::insert::new_leaf` meets its contract. Assumes nothing.
+use Rattle.moves.proofs.insert.new_leaf.Statement.{statement}
+use Rattle.moves.proofs.insert.new_leaf.Tie as tie
+use Rattle.moves.specs.Insert.{newLeaf}
+
+returns : tie.Need-returns
+unfolding newLeaf
+returns c = cc
+
+pub new-leaf-spec : {M : Type 1} → statement M
+new-leaf-spec = tie.close (tie.spec returns)

@@ -1,0 +1,51 @@
+-- `moves::insert::write_rows` meets its contract. Assumes nothing.
+use borrow.Author.Needs.{needs}
+use Rattle.moves.proofs.insert.write_rows.Statement.{statement}
+use Rattle.moves.proofs.insert.write_rows.Tie as tie
+use Rattle.moves.specs.Insert.{insertRows}
+
+new-leaf-requires : tie.Need-new-leaf-requires
+new-leaf-requires c κs = search needs
+
+write-row-requires : tie.Need-write-row-requires
+write-row-requires c κs = search needs
+
+new-cut-requires : tie.Need-new-cut-requires
+new-cut-requires c κs = search needs
+
+write-row-requires-2 : tie.Need-write-row-requires-2
+write-row-requires-2 c κs = search needs
+
+with-parent-requires : tie.Need-with-parent-requires
+with-parent-requires c κs = search needs
+
+write-row-requires-3 : tie.Need-write-row-requires-3
+write-row-requires-3 c κs = search needs
+
+replaced-requires : tie.Need-replaced-requires
+replaced-requires c κs = search needs
+
+write-row-requires-4 : tie.Need-write-row-requires-4
+write-row-requires-4 c κs = search needs
+
+same-length : tie.Need-same-length
+same-length c = search needs
+
+returns : tie.Need-returns
+unfolding insertRows
+returns c = cc
+
+pub write-rows-spec : {M : Type 1} → statement M
+write-rows-spec =
+    tie.close
+    (tie.spec
+    new-leaf-requires
+    write-row-requires
+    new-cut-requires
+    write-row-requires-2
+    with-parent-requires
+    write-row-requires-3
+    replaced-requires
+    write-row-requires-4
+    same-length
+    returns)

@@ -1,0 +1,21 @@
+-- `moves::unlink::cursor_after` meets its contract. Assumes nothing.
+use borrow.Author.Needs.{needs}
+use Rattle.moves.proofs.unlink.cursor_after.Statement.{statement}
+use Rattle.moves.proofs.unlink.cursor_after.Tie as tie
+use Rattle.moves.specs.Unlink.{cursorAfter}
+
+at-cursor-requires : tie.Need-at-cursor-requires
+at-cursor-requires c κs = search needs
+
+get-requires : tie.Need-get-requires
+get-requires c κs = search needs
+
+pick-requires : tie.Need-pick-requires
+pick-requires c κs = search needs
+
+returns : tie.Need-returns
+unfolding cursorAfter
+returns c = cc
+
+pub cursor-after-spec : {M : Type 1} → statement M
+cursor-after-spec = tie.close (tie.spec at-cursor-requires get-requires pick-requires returns)

@@ -1,0 +1,73 @@
+-- `moves::unlink::unlink` meets its contract. Assumes nothing.
+use borrow.Author.Needs.{needs}
+use Rattle.moves.proofs.unlink.unlink.Statement.{statement}
+use Rattle.moves.proofs.unlink.unlink.Tie as tie
+use mathlib.Core.Path.{_≡_, ap, _∙_}
+use mathlib.Core.Bool.{_&&_}
+use mathlib.Core.List.{List}
+use Prim.Native.Nat.{ℕ}
+use lib.Dec.{leb}
+use denote.Ref.{now}
+use Rattle.rows.specs.Layout.{atHeld}
+use Rattle.rows.specs.Words.{get}
+use Rattle.moves.specs.Reply.{done}
+use Rattle.moves.specs.Unlink.{aroundAt, aroundSound, unlinkOf}
+
+abbrev start : tie.After-get → tie.Start
+start c = c .before .before .before .before .before .before
+
+abbrev words : tie.After-get → List ℕ
+words c = now (start c .args .words)
+
+-- the test of the code is the test of the definition
+test-is : (c : tie.After-get) → (aroundSound (aroundAt (words c) (start c .args .rows) (start c .args .at)) && leb 1 (get (words c) atHeld)) ≡ (c .before .before .sound .result && leb 1 (c .get .result))
+test-is c = cc
+
+gather-requires : tie.Need-gather-requires
+gather-requires c κs = search needs
+
+sound-requires : tie.Need-sound-requires
+sound-requires c κs = search needs
+
+get-requires : tie.Need-get-requires
+get-requires c κs = search needs
+
+leaf-curve-requires : tie.Need-leaf-curve-requires
+leaf-curve-requires c κs = search needs
+
+change-requires : tie.Need-change-requires
+change-requires c κs = search needs
+
+write-answered-requires : tie.Need-write-answered-requires
+write-answered-requires c κs = search needs
+
+same-length : tie.Need-same-length
+same-length c = search needs
+
+returns : tie.Need-returns
+unfolding unlinkOf
+returns c =
+    let t = c .before .before .before .before .before .before .before .before .before .before in
+    simp (test-is (t .before) ∙ t .if1 .taken) (ap done cc)
+
+same-length-2 : tie.Need-same-length-2
+same-length-2 c = search needs
+
+returns-2 : tie.Need-returns-2
+unfolding unlinkOf
+returns-2 c = simp (test-is (c .before) ∙ c .if1 .left)
+
+pub unlink-spec : {M : Type 1} → statement M
+unlink-spec =
+    tie.close
+    (tie.spec
+    gather-requires
+    sound-requires
+    get-requires
+    leaf-curve-requires
+    change-requires
+    write-answered-requires
+    same-length
+    returns
+    same-length-2
+    returns-2)

@@ -1,0 +1,43 @@
+-- `moves::walk::code_at` meets its contract. Assumes nothing.
+use borrow.Author.Needs.{needs}
+use Rattle.moves.proofs.walk.code_at.Statement.{statement}
+use Rattle.moves.proofs.walk.code_at.Tie as tie
+use Rattle.moves.specs.Walk.{codeAt}
+
+holds-point-requires : tie.Need-holds-point-requires
+holds-point-requires c κs = search needs
+
+get-requires : tie.Need-get-requires
+get-requires c κs = search needs
+
+get-requires-2 : tie.Need-get-requires-2
+get-requires-2 c κs = search needs
+
+get-requires-3 : tie.Need-get-requires-3
+get-requires-3 c κs = search needs
+
+cast-full : tie.Need-cast-full
+cast-full c = search needs
+
+taken-requires : tie.Need-taken-requires
+taken-requires c κs = search needs
+
+code-of-requires : tie.Need-code-of-requires
+code-of-requires c κs = search needs
+
+returns : tie.Need-returns
+unfolding codeAt
+returns c = cc
+
+pub code-at-spec : {M : Type 1} → statement M
+code-at-spec =
+    tie.close
+    (tie.spec
+    holds-point-requires
+    get-requires
+    get-requires-2
+    get-requires-3
+    cast-full
+    taken-requires
+    code-of-requires
+    returns)

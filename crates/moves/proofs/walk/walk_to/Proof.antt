@@ -1,0 +1,22 @@
+-- `moves::walk::walk_to` meets its contract. Assumes nothing.
+use borrow.Author.Needs.{needs}
+use Rattle.moves.proofs.walk.walk_to.Statement.{statement}
+use Rattle.moves.proofs.walk.walk_to.Tie as tie
+use mathlib.Core.Path.{ap}
+use borrow.Author.Tests.{eq-eqb, ne-eqb}
+use Rattle.moves.specs.Reply.{done}
+
+write-place-requires : tie.Need-write-place-requires
+write-place-requires c κs = search needs
+
+returns : tie.Need-returns
+returns c = simp (eq-eqb _ _ (c .if1 .taken))
+
+same-length : tie.Need-same-length
+same-length c = search needs
+
+returns-2 : tie.Need-returns-2
+returns-2 c = simp (ne-eqb _ _ (c .before .before .before .before .if1 .left)) (ap done cc)
+
+pub walk-to-spec : {M : Type 1} → statement M
+walk-to-spec = tie.close (tie.spec write-place-requires returns same-length returns-2)

@@ -1,0 +1,7 @@
+pub mod Link
+pub mod Reply
+pub mod Answer
+pub mod Search
+pub mod Insert
+pub mod Unlink
+pub mod Walk

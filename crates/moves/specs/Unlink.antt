@@ -1,0 +1,113 @@
+-- The leaf at row `at` is taken from the tree; its record stays in the row for the searches that began before.
+use Prim.Native.Nat.{ℕ, zero, suc, _-_}
+use mathlib.Core.Bool.{Bool, true, false, cond, _&&_, _||_, not}
+use mathlib.Core.List.{List}
+use lib.Dec.{eqb, leb}
+use Rattle.points.specs.Word.{NONE}
+use Rattle.rows.specs.declared.row.Row.{Row}
+use Rattle.rows.specs.declared.row.Row.the-variants.{Bad, Spare, Removed, Leaf, Cut}
+use Rattle.rows.specs.declared.call.Call.{Call}
+use Rattle.rows.specs.Layout.{atChanges, atHeld, atRoot, atTail, atRemovals, atCursor, atPhase, atSince, atMissed}
+use Rattle.rows.specs.Words.{get, put}
+use Rattle.rows.specs.Row.{rowAt, putRow}
+use Rattle.moves.specs.declared.unlink.Around.{Around}
+use Rattle.moves.specs.Link.{nextOf, parentOf, siblingOf, linksTo, isLeaf, isTree, isFree, leafCurve, withNext, withParent, removedAs, replaced}
+use Rattle.moves.specs.Reply.{Reply, done, ask, more}
+use Rattle.moves.specs.Answer.{answer, answeredWords}
+
+-- ---- what is read
+
+abbrev pub aroundWith : List ℕ → ℕ → ℕ → Row → Row → Around
+aroundWith words rows at leaf cut = record {
+  tail = get words atTail;
+  last = rowAt words rows (get words atTail);
+  at = at;
+  leaf = leaf;
+  over = parentOf leaf;
+  cut = cut;
+  side = siblingOf at cut;
+  other = rowAt words rows (siblingOf at cut);
+  above = parentOf cut;
+  grand = rowAt words rows (parentOf cut);
+}
+
+-- the last row of the queue, the leaf, the cut over it, the other child, and the row above the cut
+unfoldable pub aroundAt : List ℕ → ℕ → ℕ → Around
+aroundAt words rows at = aroundWith words rows at (rowAt words rows at) (rowAt words rows (parentOf (rowAt words rows at)))
+
+-- the rows are what a queue and a tree have there
+unfoldable pub aroundSound : Around → Bool
+aroundSound a =
+    ((isFree (a .last) && eqb (nextOf (a .last)) NONE) && isLeaf (a .leaf))
+    && (eqb (a .over) NONE
+    || (((linksTo (a .at) (a .cut) && not (eqb (a .side) (a .at))) && isTree (a .other))
+    && (eqb (a .above) NONE || linksTo (a .over) (a .grand))))
+
+-- ---- what is written
+
+-- the rows, with the number of the removal: the old tail, the leaf, the cut over it, the other child, and the row above the cut
+unfoldable pub unlinkRows : List ℕ → Around → ℕ → List ℕ
+unlinkRows words a number =
+    putRow
+    (putRow
+    (putRow
+    (putRow (putRow words (a .tail) (withNext (a .at) (a .last))) (a .at) (removedAs (a .over) number (a .leaf)))
+    (a .over)
+    (Spare NONE number))
+    (a .side)
+    (withParent (a .above) (a .other)))
+    (a .above)
+    (replaced (a .over) (a .side) (a .grand))
+
+-- the tail of the queue and the root afterwards
+unfoldable pub unlinkTail : Around → ℕ
+unlinkTail a = cond (eqb (a .over) NONE) (a .at) (a .over)
+
+unfoldable pub unlinkRoot : Around → ℕ → ℕ
+unlinkRoot a root = cond (eqb (a .above) NONE) (a .side) root
+
+-- a removal is counted
+unfoldable pub unlinkCounts : List ℕ → Around → List ℕ
+unlinkCounts words a =
+    put
+    (put
+    (put (put (put words atChanges (more (get words atChanges))) atHeld (get words atHeld - 1)) atRoot (unlinkRoot a (get words atRoot)))
+    atTail
+    (unlinkTail a))
+    atRemovals
+    (more (get words atRemovals))
+
+-- "every cursor on l moves to s, phase down; every cursor on c moves to s, its phase stays; every unfinished nearest whose missed is none
+-- gets missed = l"
+unfoldable pub cursorAfter : List ℕ → ℕ → Around → ℕ
+cursorAfter words s a =
+    cond (eqb (get words (atCursor s)) (a .at) || eqb (get words (atCursor s)) (a .over)) (a .side) (get words (atCursor s))
+
+unfoldable pub phaseAfter : List ℕ → ℕ → Around → ℕ
+phaseAfter words s a = cond (eqb (get words (atCursor s)) (a .at)) 0 (get words (atPhase s))
+
+unfoldable pub missedAfter : List ℕ → ℕ → Around → ℕ
+missedAfter words s a =
+    cond (not (eqb (get words (atSince s)) NONE) && eqb (get words (atMissed s)) NONE) (a .at) (get words (atMissed s))
+
+unfoldable pub stationMoved : List ℕ → ℕ → Around → List ℕ
+stationMoved words s a =
+    put (put (put words (atCursor s) (cursorAfter words s a)) (atPhase s) (phaseAfter words s a)) (atMissed s) (missedAfter words s a)
+
+-- the first n stations
+unfoldable pub stationsMoved : Around → ℕ → List ℕ → List ℕ
+stationsMoved a zero words = words
+stationsMoved a (suc n) words = stationMoved (stationsMoved a n words) n a
+
+unfoldable pub unlinkWords : List ℕ → Around → List ℕ
+unlinkWords words a = unlinkRows (stationsMoved a 8 (unlinkCounts words a)) a (more (get words atRemovals))
+
+-- ---- the unlink
+
+abbrev pub unlinkTo : List ℕ → ℕ → Call → Around → Reply
+unlinkTo words s call a =
+    ask (aroundSound a && leb 1 (get words atHeld)) 11 words
+    (done (answeredWords (unlinkWords words a) s (answer 5 (call .point) (leafCurve (a .leaf)) 0)))
+
+unfoldable pub unlinkOf : List ℕ → ℕ → ℕ → Call → ℕ → Reply
+unlinkOf words rows s call at = unlinkTo words s call (aroundAt words rows at)

@@ -1,0 +1,86 @@
+-- The work of one step of an add, a remove or a contains: six rows down, or the decision at the leaf or in the empty tree.
+use Prim.Native.Nat.{ℕ}
+use mathlib.Core.Bool.{Bool, true, false, cond, _||_}
+use mathlib.Core.List.{List}
+use lib.Dec.{eqb, leb}
+use Rattle.points.specs.declared.point.Point.{Point}
+use Rattle.points.specs.Cut.{goesLeft}
+use Rattle.points.specs.Word.{NONE}
+use Rattle.rows.specs.declared.row.Row.{Row}
+use Rattle.rows.specs.declared.row.Row.the-variants.{Bad, Spare, Removed, Leaf, Cut}
+use Rattle.rows.specs.declared.call.Call.{Call}
+use Rattle.rows.specs.declared.answer.Answer.{Answer}
+use Rattle.rows.specs.Layout.{atPlaces, atLimit, atChanges, atRoot, atCursor}
+use Rattle.rows.specs.Words.{get}
+use Rattle.rows.specs.Row.{rowAt}
+use Rattle.rows.specs.Common.{takenIn}
+use Rattle.rows.specs.Station.{putPlace}
+use Rattle.moves.specs.Link.{isLeaf, isCut, holdsPoint, leafCurve}
+use Rattle.moves.specs.Reply.{Reply, done, pickReply, ask, refused}
+use Rattle.moves.specs.Answer.{answer, answeredWords}
+use Rattle.moves.specs.Insert.{insertOf}
+use Rattle.moves.specs.Unlink.{unlinkOf}
+
+-- ---- down
+
+-- from a cut to the child on the point's side; a leaf stays; from any other row nowhere
+abbrev pub downFrom : Point → ℕ → Row → ℕ
+downFrom point at Bad = NONE
+downFrom point at (Spare next freed) = NONE
+downFrom point at (Removed next freed added p curve) = NONE
+downFrom point at (Leaf parent added p curve) = at
+downFrom point at (Cut parent cut left right) = cond (goesLeft cut point) left right
+
+unfoldable pub down : List ℕ → ℕ → Point → ℕ → ℕ
+down words rows point at = downFrom point at (rowAt words rows at)
+
+unfoldable pub sixDown : List ℕ → ℕ → Point → ℕ → ℕ
+sixDown words rows point at =
+    down words rows point (down words rows point (down words rows point (down words rows point (down words rows point (down words rows point at)))))
+
+-- the same, with the first row given
+unfoldable pub sixFrom : List ℕ → ℕ → Point → ℕ → Row → ℕ
+sixFrom words rows point at row =
+    down words rows point (down words rows point (down words rows point (down words rows point (down words rows point (downFrom point at row)))))
+
+abbrev pub walkTo : List ℕ → ℕ → ℕ → Reply
+walkTo words s to = pickReply (eqb to NONE) (refused 11 words) (done (putPlace words s to 0))
+
+-- ---- the decision
+
+-- "Add: held already? 2. Else changes used up? 4. Else every place taken? 3. Else 1. Remove: not held? 6. Else changes used up? 4. Else 5.
+-- Contains: 7 or 6."
+unfoldable pub codeOf : ℕ → Bool → Bool → Bool → ℕ
+codeOf kind held spent full =
+    cond (eqb kind 1) (cond held 2 (cond spent 4 (cond full 3 1))) (cond (eqb kind 2) (cond held (cond spent 4 5) 6) (cond held 7 6))
+
+-- the code of a call that ends its walk at this row
+unfoldable pub codeAt : List ℕ → Call → Row → ℕ
+codeAt words call row =
+    codeOf (call .kind) (holdsPoint (call .point) row) (eqb (get words atChanges) (get words atLimit)) (leb (get words atPlaces) (takenIn words))
+
+-- the answer of a code that is no change: with the held curve in 2 and 7
+unfoldable pub plainAnswer : Call → ℕ → Row → Answer
+plainAnswer call code row = answer code (call .point) (cond (eqb code 2 || eqb code 7) (leafCurve row) 0) 0
+
+abbrev pub concludeAs : List ℕ → ℕ → ℕ → Call → ℕ → Row → ℕ → Reply
+concludeAs words rows s call at row code =
+    pickReply (eqb code 1) (insertOf words rows s call at)
+    (pickReply (eqb code 5) (unlinkOf words rows s call at) (done (answeredWords words s (plainAnswer call code row))))
+
+unfoldable pub conclude : List ℕ → ℕ → ℕ → Call → ℕ → Row → Reply
+conclude words rows s call at row = concludeAs words rows s call at row (codeAt words call row)
+
+-- ---- one step
+
+-- the cursor; none means the root link
+unfoldable pub standsAt : List ℕ → ℕ → ℕ
+standsAt words s = cond (eqb (get words (atCursor s)) NONE) (get words atRoot) (get words (atCursor s))
+
+abbrev pub walkFrom : List ℕ → ℕ → ℕ → Call → ℕ → Row → Reply
+walkFrom words rows s call at row =
+    pickReply (isCut row) (walkTo words s (sixDown words rows (call .point) at))
+    (ask (eqb at NONE || isLeaf row) 11 words (conclude words rows s call at row))
+
+unfoldable pub walkOf : List ℕ → ℕ → ℕ → Call → Reply
+walkOf words rows s call = walkFrom words rows s call (standsAt words s) (rowAt words rows (standsAt words s))

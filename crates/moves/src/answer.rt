@@ -1,0 +1,30 @@
+// An answer is written: it waits at the station, whose call stands nowhere in the tree any more and holds no place back.
+use rows::answer::Answer;
+use rows::answer::write_answer;
+use rows::layout::NONE;
+use rows::station::read_state;
+use rows::station::write_missed;
+use rows::station::write_place;
+use rows::station::write_since;
+use rows::station::write_state;
+ghost use mathlib.Core.Path.{_≡_};
+ghost use Rattle.moves.specs.Answer.{withdrawn, answeredWords};
+
+// The call of station s stands nowhere.
+fn withdraw(words: &mut [u32], s: u32)
+    ensures { λ _. ⌜ now (words .exit) ≡ withdrawn (now (words .entry)) s ⌝ }
+{
+    write_place(words, s, NONE, 0);
+    write_since(words, s, NONE);
+    write_missed(words, s, NONE);
+}
+
+// The answer waits at station s.
+pub(crate) fn write_answered(words: &mut [u32], s: u32, answer: Answer)
+    ensures { λ _. ⌜ now (words .exit) ≡ answeredWords (now (words .entry)) s answer ⌝ }
+{
+    let state = read_state(words, s);
+    write_answer(words, s, answer);
+    write_state(words, s, state.answered());
+    withdraw(words, s);
+}

@@ -1,0 +1,12 @@
+// The moves that a step is made of: a walk goes down and ends in an answer, an insertion or an unlinking; a search looks and tours. `walk` and
+// `search` are what a step calls, and `reply` what all calls share; the other modules are their parts.
+mod answer;
+pub mod insert;
+mod link;
+mod look;
+mod relink;
+pub mod reply;
+pub mod search;
+mod tour;
+pub mod unlink;
+pub mod walk;

@@ -1,0 +1,237 @@
+// A leaf is taken from the tree: the rows that this reads, the test that they are sound, and what is written.
+use crate::answer::write_answered;
+use crate::link::is_free;
+use crate::link::is_leaf;
+use crate::link::is_tree;
+use crate::link::leaf_curve;
+use crate::link::links_to;
+use crate::link::next_of;
+use crate::link::parent_of;
+use crate::link::sibling_of;
+use crate::relink::removed_as;
+use crate::relink::replaced;
+use crate::relink::with_next;
+use crate::relink::with_parent;
+use crate::reply::more;
+use crate::reply::pick;
+use rows::answer::Answer;
+use rows::call::Call;
+use rows::layout::AT_CHANGES;
+use rows::layout::AT_HELD;
+use rows::layout::AT_REMOVALS;
+use rows::layout::AT_ROOT;
+use rows::layout::AT_TAIL;
+use rows::layout::NONE;
+use rows::layout::at_cursor;
+use rows::layout::at_missed;
+use rows::layout::at_phase;
+use rows::layout::at_since;
+use rows::row::Row;
+use rows::row::read_row;
+use rows::row::write_row;
+use rows::word::get;
+use rows::word::put;
+ghost use mathlib.Core.Path.{_≡_};
+ghost use Prim.Native.Nat.{_-_};
+ghost use Rattle.moves.specs.Reply.{replied};
+ghost use Rattle.moves.specs.Unlink.{aroundAt, aroundSound, unlinkRows, unlinkTail, unlinkRoot, unlinkCounts, cursorAfter, phaseAfter, missedAfter, stationMoved, stationsMoved, unlinkWords, unlinkOf};
+
+// The number of a refusal: the rows around the leaf, or the count of records, are not sound.
+const UNSOUND: u32 = 11;
+
+// The last row of the queue, the leaf, the cut over it, the cut's other child, and the row above that cut, each with its number.
+pub struct Around {
+    pub tail: u32,
+    pub last: Row,
+    pub at: u32,
+    pub leaf: Row,
+    pub over: u32,
+    pub cut: Row,
+    pub side: u32,
+    pub other: Row,
+    pub above: u32,
+    pub grand: Row,
+}
+
+// Reads the rows around the leaf at a row. A leaf that is the root has no cut over it, and a cut that is the root no row above it: their
+// numbers are `NONE`, and no row is read there.
+fn gather(words: &[u32], rows: u32, at: u32) -> Around
+    ensures { λ r. ⌜ r ≡ aroundAt (now (words .entry)) rows at ⌝ }
+{
+    let tail = get(words, AT_TAIL);
+    let last = read_row(words, rows, tail);
+    let leaf = read_row(words, rows, at);
+    let over = parent_of(leaf);
+    let cut = read_row(words, rows, over);
+    let side = sibling_of(at, cut);
+    let other = read_row(words, rows, side);
+    let above = parent_of(cut);
+    let grand = read_row(words, rows, above);
+    Around {
+        tail: tail,
+        last: last,
+        at: at,
+        leaf: leaf,
+        over: over,
+        cut: cut,
+        side: side,
+        other: other,
+        above: above,
+        grand: grand,
+    }
+}
+
+// Whether the rows are what a queue and a tree have there.
+fn sound(a: Around) -> bool
+    ensures { λ r. ⌜ r ≡ aroundSound a ⌝ }
+{
+    let last = a.last;
+    let leaf = a.leaf;
+    let cut = a.cut;
+    let other = a.other;
+    let grand = a.grand;
+    (is_free(last) & (next_of(last) == NONE) & is_leaf(leaf))
+        & ((a.over == NONE)
+            | (links_to(a.at, cut)
+                & (a.side != a.at)
+                & is_tree(other)
+                & ((a.above == NONE) | links_to(a.over, grand))))
+}
+
+// Writes the rows with the number of the removal: the leaf joins the queue behind its last row, the cut over it behind the leaf, and the
+// other child takes the cut's place. At `NONE` nothing is written.
+fn write_rows(words: &mut [u32], a: Around, number: u32)
+    ensures { λ _. ⌜ now (words .exit) ≡ unlinkRows (now (words .entry)) a number ⌝ }
+{
+    let last = a.last;
+    let leaf = a.leaf;
+    let other = a.other;
+    let grand = a.grand;
+    write_row(words, a.tail, with_next(a.at, last));
+    write_row(words, a.at, removed_as(a.over, number, leaf));
+    write_row(
+        words,
+        a.over,
+        Row::Spare {
+            next: NONE,
+            freed: number,
+        },
+    );
+    write_row(words, a.side, with_parent(a.above, other));
+    write_row(words, a.above, replaced(a.over, a.side, grand));
+}
+
+// The last row of the queue afterwards.
+fn tail_after(a: Around) -> u32
+    ensures { λ r. ⌜ r ≡ unlinkTail a ⌝ }
+{
+    pick(a.over == NONE, a.at, a.over)
+}
+
+// The root afterwards.
+fn root_after(a: Around, root: u32) -> u32
+    ensures { λ r. ⌜ r ≡ unlinkRoot a root ⌝ }
+{
+    pick(a.above == NONE, a.side, root)
+}
+
+// One less, which stops at 0.
+fn fewer(x: u32) -> u32
+    ensures { λ r. ⌜ r ≡ x - 1 ⌝ }
+{
+    if 1 <= x { x - 1 } else { 0 }
+}
+
+// A removal is counted.
+fn count(words: &mut [u32], a: Around)
+    ensures { λ _. ⌜ now (words .exit) ≡ unlinkCounts (now (words .entry)) a ⌝ }
+{
+    let changes = more(get(words, AT_CHANGES));
+    let held = fewer(get(words, AT_HELD));
+    let root = root_after(a, get(words, AT_ROOT));
+    let removals = more(get(words, AT_REMOVALS));
+    put(words, AT_CHANGES, changes);
+    put(words, AT_HELD, held);
+    put(words, AT_ROOT, root);
+    put(words, AT_TAIL, tail_after(a));
+    put(words, AT_REMOVALS, removals);
+}
+
+// Where the call of station s stands afterwards: at the other child, where it stood at the leaf or at the cut over it.
+fn cursor_after(words: &[u32], s: u32, a: Around) -> u32
+    ensures { λ r. ⌜ r ≡ cursorAfter (now (words .entry)) s a ⌝ }
+{
+    let cursor = get(words, at_cursor(s));
+    pick((cursor == a.at) | (cursor == a.over), a.side, cursor)
+}
+
+// The phase of its search afterwards: down, where it stood at the leaf.
+fn phase_after(words: &[u32], s: u32, a: Around) -> u32
+    ensures { λ r. ⌜ r ≡ phaseAfter (now (words .entry)) s a ⌝ }
+{
+    pick(get(words, at_cursor(s)) == a.at, 0, get(words, at_phase(s)))
+}
+
+// The first row that its search has missed afterwards: the leaf, for an unfinished nearest that had missed none.
+fn missed_after(words: &[u32], s: u32, a: Around) -> u32
+    ensures { λ r. ⌜ r ≡ missedAfter (now (words .entry)) s a ⌝ }
+{
+    let since = get(words, at_since(s));
+    let missed = get(words, at_missed(s));
+    pick((since != NONE) & (missed == NONE), a.at, missed)
+}
+
+// Moves the call of station s out of the rows that leave the tree.
+fn move_station(words: &mut [u32], s: u32, a: Around)
+    ensures { λ _. ⌜ now (words .exit) ≡ stationMoved (now (words .entry)) s a ⌝ }
+{
+    let cursor = cursor_after(words, s, a);
+    let phase = phase_after(words, s, a);
+    let missed = missed_after(words, s, a);
+    put(words, at_cursor(s), cursor);
+    put(words, at_phase(s), phase);
+    put(words, at_missed(s), missed);
+}
+
+// The same for each of the eight stations.
+fn move_stations(words: &mut [u32], a: Around)
+    ensures { λ _. ⌜ now (words .exit) ≡ stationsMoved a 8 (now (words .entry)) ⌝ }
+{
+    let mut s: u32 = 0;
+    while s < 8 {
+        move_station(words, s, a);
+        s += 1;
+    }
+}
+
+// Everything that the removal writes but the answer.
+fn change(words: &mut [u32], a: Around)
+    ensures { λ _. ⌜ now (words .exit) ≡ unlinkWords (now (words .entry)) a ⌝ }
+{
+    let number = more(get(words, AT_REMOVALS));
+    count(words, a);
+    move_stations(words, a);
+    write_rows(words, a, number);
+}
+
+// Takes the leaf at a row from the tree for the call of station s, and answers the call. Gives 0, or the number of the refusal.
+pub(crate) fn unlink(words: &mut [u32], rows: u32, s: u32, call: Call, at: u32) -> u32
+    ensures { λ r. ⌜ replied r (now (words .exit)) ≡ unlinkOf (now (words .entry)) rows s call at ⌝ }
+{
+    let a = gather(words, rows, at);
+    if sound(a) & (1 <= get(words, AT_HELD)) {
+        let point = call.point;
+        let leaf = a.leaf;
+        let answer = Answer {
+            code: 5,
+            point: point,
+            curve: leaf_curve(leaf),
+            square: 0,
+        };
+        change(words, a);
+        write_answered(words, s, answer);
+        0
+    } else {
+        UNSOUND
+    }
+}

@@ -1,0 +1,148 @@
+// The work of one step of an add, a remove or a contains: six rows down, or the decision at the leaf or in the empty tree.
+use crate::answer::write_answered;
+use crate::insert::insert;
+use crate::link::holds_point;
+use crate::link::is_cut;
+use crate::link::is_leaf;
+use crate::link::leaf_curve;
+use crate::reply::pick;
+use crate::unlink::unlink;
+use points::cut::goes_left;
+use points::point::Point;
+use rows::answer::Answer;
+use rows::call::Call;
+use rows::common::taken;
+use rows::layout::AT_CHANGES;
+use rows::layout::AT_LIMIT;
+use rows::layout::AT_PLACES;
+use rows::layout::AT_ROOT;
+use rows::layout::NONE;
+use rows::layout::at_cursor;
+use rows::row::Row;
+use rows::row::read_row;
+use rows::station::write_place;
+use rows::word::get;
+ghost use mathlib.Core.Path.{_≡_};
+ghost use Rattle.moves.specs.Reply.{replied};
+ghost use Rattle.moves.specs.Walk.{downFrom, down, sixFrom, walkTo, codeOf, codeAt, plainAnswer, conclude, standsAt, walkOf};
+
+// From a cut to the child on the point's side; a leaf stays; from any other row nowhere.
+fn down_from(point: Point, at: u32, row: Row) -> u32
+    ensures { λ r. ⌜ r ≡ downFrom point at row ⌝ }
+{
+    match row {
+        Row::Bad => NONE,
+        Row::Spare { .. } => NONE,
+        Row::Removed { .. } => NONE,
+        Row::Leaf { .. } => at,
+        Row::Cut {
+            cut,
+            left,
+            right,
+            ..
+        } => pick(goes_left(cut, point), left, right),
+    }
+}
+
+// One row down; none stays none.
+fn down(words: &[u32], rows: u32, point: Point, at: u32) -> u32
+    ensures { λ r. ⌜ r ≡ down (now (words .entry)) rows point at ⌝ }
+{
+    down_from(point, at, read_row(words, rows, at))
+}
+
+// Six rows down; the first of them is read already.
+fn six_down(words: &[u32], rows: u32, point: Point, at: u32, row: Row) -> u32
+    ensures { λ r. ⌜ r ≡ sixFrom (now (words .entry)) rows point at row ⌝ }
+{
+    let one = down_from(point, at, row);
+    let two = down(words, rows, point, one);
+    let three = down(words, rows, point, two);
+    let four = down(words, rows, point, three);
+    let five = down(words, rows, point, four);
+    down(words, rows, point, five)
+}
+
+// The walk stands there now; a row on the way was not one of the tree where that is none.
+fn walk_to(words: &mut [u32], s: u32, to: u32) -> u32
+    ensures { λ r. ⌜ replied r (now (words .exit)) ≡ walkTo (now (words .entry)) s to ⌝ }
+{
+    if to == NONE {
+        11
+    } else {
+        write_place(words, s, to, 0);
+        0
+    }
+}
+
+// The code of a decision: on whether the point is held, the changes are used up, and every place is taken.
+fn code_of(kind: u32, held: bool, spent: bool, full: bool) -> u32
+    ensures { λ r. ⌜ r ≡ codeOf kind held spent full ⌝ }
+{
+    let add = pick(held, 2, pick(spent, 4, pick(full, 3, 1)));
+    let remove = pick(held, pick(spent, 4, 5), 6);
+    let contains = pick(held, 7, 6);
+    pick(kind == 1, add, pick(kind == 2, remove, contains))
+}
+
+// The code of a call that ends its walk at this row.
+fn code_at(words: &[u32], call: Call, row: Row) -> u32
+    ensures { λ r. ⌜ r ≡ codeAt (now (words .entry)) call row ⌝ }
+{
+    let held = holds_point(call.point, row);
+    let spent = get(words, AT_CHANGES) == get(words, AT_LIMIT);
+    let full = (get(words, AT_PLACES) as u64) <= taken(words);
+    code_of(call.kind, held, spent, full)
+}
+
+// The answer of a code that is no change: with the held curve in 2 and 7.
+fn plain_answer(call: Call, code: u32, row: Row) -> Answer
+    ensures { λ r. ⌜ r ≡ plainAnswer call code row ⌝ }
+{
+    let point = call.point;
+    Answer {
+        code: code,
+        point: point,
+        curve: pick((code == 2) | (code == 7), leaf_curve(row), 0),
+        square: 0,
+    }
+}
+
+// The decision, and what it comes to, where the walk of the call ended.
+fn conclude(words: &mut [u32], rows: u32, s: u32, call: Call, at: u32, row: Row) -> u32
+    ensures { λ r. ⌜ replied r (now (words .exit)) ≡ conclude (now (words .entry)) rows s call at row ⌝ }
+{
+    let code = code_at(words, call, row);
+    if code == 1 {
+        insert(words, rows, s, call, at)
+    } else if code == 5 {
+        unlink(words, rows, s, call, at)
+    } else {
+        write_answered(words, s, plain_answer(call, code, row));
+        0
+    }
+}
+
+// Where the call stands: the cursor, or the root where that is none.
+fn stands_at(words: &[u32], s: u32) -> u32
+    ensures { λ r. ⌜ r ≡ standsAt (now (words .entry)) s ⌝ }
+{
+    let cursor = get(words, at_cursor(s));
+    pick(cursor == NONE, get(words, AT_ROOT), cursor)
+}
+
+// One step: from a cut down, at a leaf or in the empty tree the decision; any other row is refused.
+pub fn walk(words: &mut [u32], rows: u32, s: u32, call: Call) -> u32
+    ensures { λ r. ⌜ replied r (now (words .exit)) ≡ walkOf (now (words .entry)) rows s call ⌝ }
+{
+    let at = stands_at(words, s);
+    let row = read_row(words, rows, at);
+    if is_cut(row) {
+        let to = six_down(words, rows, call.point, at, row);
+        walk_to(words, s, to)
+    } else if (at == NONE) | is_leaf(row) {
+        conclude(words, rows, s, call, at, row)
+    } else {
+        11
+    }
+}
