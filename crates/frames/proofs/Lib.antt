@@ -1,0 +1,9 @@
+pub mod SignedLaws
+pub mod NumberLaws
+pub mod QuestionLaws
+pub mod OutcomeLaws
+pub mod WrittenLaws
+pub mod ReadLaws
+pub mod ReaderLaws
+pub mod LineLaws
+pub mod Cases

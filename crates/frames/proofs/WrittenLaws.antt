@@ -1,0 +1,168 @@
+-- What is written reads back as the same call: `written-reads`. Assumes nothing.
+use mathlib.Core.Path.{_≡_, refl, sym, ap, _∙_}
+use mathlib.Core.Bool.{true}
+use mathlib.Core.List.{List, [], _∷_, _++_}
+use Prim.Native.Nat.{ℕ, _+_, _-_, _<_, _≤_}
+use native.Mathlib.Omega.{arith}
+use lib.ListN.{length, take, drop, replicate, getD, length-append}
+use lib.Seq.{take-append-seam, drop-append-seam}
+use lib.IntN.{ℤ}
+use lib.Signed.{mag}
+use lib.Dec.{lit≤}
+use borrow.Author.Tests.{lt-ltb, le-leb, eq-eqb}
+use Rattle.points.proofs.Tests.{and-i}
+use Rattle.points.proofs.MachineLaws.{of-ok}
+use Rattle.frames.specs.declared.frame.Submission.{Submission}
+use Rattle.frames.specs.declared.frame.Frame.{Frame}
+use Rattle.frames.specs.declared.frame.Frame.the-variants.{Open, Submit, Step, Take, Run}
+use Rattle.frames.specs.declared.read.Reading.the-variants.{Read}
+use Rattle.frames.specs.Bytes.{numberAt, bytesOf, unsignedOf, signedOf}
+use Rattle.frames.specs.Width.{InWidth, SubmissionInWidth}
+use Rattle.frames.specs.Read.{lengthIn, kindIn, lengthOf, isWhole, hasKind, ownLength, submissionIn, frameIn, readRest, readOf}
+use Rattle.frames.specs.Outcome.{Passes}
+use Rattle.frames.specs.Write.{headBytes, submissionStart, submissionEnd, frameBytes, padded, writtenBytes, writtenOf}
+use Rattle.frames.proofs.SignedLaws.{unsigned-fits, signed-unsigned}
+use Rattle.frames.proofs.NumberLaws.{two-whole, four-whole}
+use Rattle.frames.proofs.OutcomeLaws.{read-passes}
+
+-- the bytes used are those of the frame
+pub written-used : (f : Frame) → take (writtenOf f .count) (writtenOf f .bytes) ≡ frameBytes f
+unfolding writtenOf writtenBytes padded
+written-used f = take-append-seam (frameBytes f) (replicate (28 - length (frameBytes f)) 0)
+
+-- what the bytes of a frame say to the reader: a length, a kind and the frame
+pub record Says (rest : List ℕ) (f : Frame) (size kind : ℕ) : Type 0 where
+  pub there : 2 + size ≤ length rest
+  pub says-size : lengthIn rest ≡ size
+  pub says-kind : kindIn rest ≡ kind
+  pub sized : lengthOf kind ≡ size
+  pub is-kind : (1 ≤ kind) × (kind ≤ 5)
+  pub enough : 2 ≤ size
+  pub says-frame : frameIn kind rest ≡ f
+
+passes-of : {rest : List ℕ} {f : Frame} {size kind : ℕ} → Says rest f size kind → Passes rest
+unfolding isWhole hasKind ownLength
+passes-of {rest} {f} {size} {kind} s = record {
+  whole = and-i (le-leb 2 (length rest) (omega (arith, s .there, s .enough))) (le-leb (2 + lengthIn rest) (length rest) (omega (arith, s .there, s .says-size)));
+  kind =
+      and-i (le-leb 2 (lengthIn rest) (omega (arith, s .enough, s .says-size)))
+      (and-i (le-leb 1 (kindIn rest) (omega (arith, s .is-kind .0, s .says-kind))) (le-leb (kindIn rest) 5 (omega (arith, s .is-kind .1, s .says-kind))));
+  own = eq-eqb (lengthIn rest) (lengthOf (kindIn rest)) (s .says-size ∙ sym (s .sized) ∙ ap lengthOf (sym (s .says-kind)));
+}
+
+says-reads : {rest : List ℕ} {f : Frame} {size kind : ℕ} (at : ℕ) → Says rest f size kind → readRest rest at ≡ Read f (at + (2 + size))
+says-reads {rest} {f} {size} {kind} at s =
+    read-passes rest at (passes-of s)
+    ∙ (λ i. Read ((ap (λ (k : ℕ). frameIn k rest) (s .says-kind) ∙ s .says-frame) i) (at + (2 + s .says-size i)))
+
+-- the bytes of each frame, with any bytes after them
+open-says : (places limit : ℕ) (post : List ℕ) → places < 65536 → limit < 4294967296 → Says (frameBytes (Open places limit) ++ post) (Open places limit) 8 1
+unfolding frameBytes headBytes bytesOf numberAt frameIn
+open-says places limit post p l = record {
+  there = omega arith;
+  says-size = refl;
+  says-kind = refl;
+  sized = refl;
+  is-kind = (lit≤ tt, lit≤ tt);
+  enough = lit≤ tt;
+  says-frame = λ i. Open (two-whole places p i) (four-whole limit l i);
+}
+
+-- four bytes of a signed number are read as the number
+signed-whole : (z : ℤ) → mag z < 2147483648 → signedOf (numberAt 4 (bytesOf 4 (unsignedOf z)) 0) ≡ z
+unfolding numberAt bytesOf
+signed-whole z h = ap signedOf (four-whole (unsignedOf z) (unsigned-fits z h)) ∙ signed-unsigned z (of-ok h)
+
+submit-says : (s : Submission) (post : List ℕ) → SubmissionInWidth s → Says (frameBytes (Submit s) ++ post) (Submit s) 26 2
+unfolding frameBytes submissionStart submissionEnd headBytes bytesOf numberAt frameIn submissionIn
+submit-says s post w = record {
+  there = omega arith;
+  says-size = refl;
+  says-kind = refl;
+  sized = refl;
+  is-kind = (lit≤ tt, lit≤ tt);
+  enough = lit≤ tt;
+  says-frame = λ i. Submit (record {
+    station = s .station;
+    kind = s .kind;
+    grade = two-whole (s .grade) (w .grade) i;
+    weight = signed-whole (s .weight) (w .weight) i;
+    moisture = signed-whole (s .moisture) (w .moisture) i;
+    speed = signed-whole (s .speed) (w .speed) i;
+    draw = signed-whole (s .draw) (w .draw) i;
+    curve = four-whole (s .curve) (w .curve) i;
+  });
+}
+
+step-says : (station : ℕ) (post : List ℕ) → Says (frameBytes (Step station) ++ post) (Step station) 3 3
+unfolding frameBytes headBytes bytesOf numberAt frameIn
+step-says station post = record {
+  there = omega arith;
+  says-size = refl;
+  says-kind = refl;
+  sized = refl;
+  is-kind = (lit≤ tt, lit≤ tt);
+  enough = lit≤ tt;
+  says-frame = refl;
+}
+
+take-says : (station : ℕ) (post : List ℕ) → Says (frameBytes (Take station) ++ post) (Take station) 3 4
+unfolding frameBytes headBytes bytesOf numberAt frameIn
+take-says station post = record {
+  there = omega arith;
+  says-size = refl;
+  says-kind = refl;
+  sized = refl;
+  is-kind = (lit≤ tt, lit≤ tt);
+  enough = lit≤ tt;
+  says-frame = refl;
+}
+
+run-says : (station : ℕ) (post : List ℕ) → Says (frameBytes (Run station) ++ post) (Run station) 3 5
+unfolding frameBytes headBytes bytesOf numberAt frameIn
+run-says station post = record {
+  there = omega arith;
+  says-size = refl;
+  says-kind = refl;
+  sized = refl;
+  is-kind = (lit≤ tt, lit≤ tt);
+  enough = lit≤ tt;
+  says-frame = refl;
+}
+
+-- the bytes of a frame in width, with any bytes after them, are read as the frame
+frame-reads : (f : Frame) → InWidth f → (post : List ℕ) (at : ℕ) → readRest (frameBytes f ++ post) at ≡ Read f (at + length (frameBytes f))
+unfolding frameBytes submissionStart submissionEnd headBytes bytesOf
+frame-reads (Open places limit) w post at = says-reads at (open-says places limit post (w .0) (w .1))
+frame-reads (Submit s) w post at = says-reads at (submit-says s post w)
+frame-reads (Step station) w post at = says-reads at (step-says station post)
+frame-reads (Take station) w post at = says-reads at (take-says station post)
+frame-reads (Run station) w post at = says-reads at (run-says station post)
+
+-- a frame has at least its length bytes
+pub frame-length : (f : Frame) → 2 ≤ length (frameBytes f)
+unfolding frameBytes submissionStart submissionEnd headBytes bytesOf
+frame-length (Open places limit) = lit≤ tt
+frame-length (Submit s) = lit≤ tt
+frame-length (Step station) = lit≤ tt
+frame-length (Take station) = lit≤ tt
+frame-length (Run station) = lit≤ tt
+
+-- the same among other bytes
+pub frame-among : (f : Frame) → InWidth f → (pre post : List ℕ) → readOf (pre ++ (frameBytes f ++ post)) (length pre) ≡ Read f (length pre + length (frameBytes f))
+unfolding readOf
+frame-among f w pre post =
+    let more : length pre < length (pre ++ (frameBytes f ++ post)) =
+    omega (arith, length-append pre (frameBytes f ++ post), length-append (frameBytes f) post, frame-length f) in
+    simp (lt-ltb (length pre) (length (pre ++ (frameBytes f ++ post))) more, drop-append-seam pre (frameBytes f ++ post))
+    (frame-reads f w post (length pre))
+
+-- the count is that of the frame's bytes
+pub written-count : (f : Frame) → writtenOf f .count ≡ length (frameBytes f)
+unfolding writtenOf writtenBytes
+written-count f = refl
+
+-- what is written reads back as the same call, whatever stands before and after it
+pub written-reads : (f : Frame) → InWidth f → (pre post : List ℕ) →
+    readOf (pre ++ (take (writtenOf f .count) (writtenOf f .bytes) ++ post)) (length pre) ≡ Read f (length pre + writtenOf f .count)
+written-reads f w pre post = rw (written-used f, written-count f) (frame-among f w pre post)

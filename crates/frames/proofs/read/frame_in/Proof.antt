@@ -1,0 +1,64 @@
+-- `frames::read::frame_in` meets its contract. Assumes nothing.
+use borrow.Author.Needs.{needs}
+use Rattle.frames.proofs.read.frame_in.Statement.{statement}
+use Rattle.frames.proofs.read.frame_in.Tie as tie
+use borrow.Author.Tests.{ne-eqb}
+use mathlib.Core.Path.{ap}
+use Rattle.frames.specs.declared.frame.Frame.the-variants.{Submit, Step, Take, Run}
+use Rattle.frames.specs.Read.{frameIn}
+
+two-at-requires : tie.Need-two-at-requires
+two-at-requires c κs = search needs
+
+four-at-requires : tie.Need-four-at-requires
+four-at-requires c κs = search needs
+
+submission-in-requires : tie.Need-submission-in-requires
+submission-in-requires c κs = search needs
+
+byte-at-requires : tie.Need-byte-at-requires
+byte-at-requires c κs = search needs
+
+byte-at-requires-2 : tie.Need-byte-at-requires-2
+byte-at-requires-2 c κs = search needs
+
+byte-at-requires-3 : tie.Need-byte-at-requires-3
+byte-at-requires-3 c κs = search needs
+
+returns : tie.Need-returns
+unfolding frameIn
+returns c = rw (c .before .before .match .keys1) (cc)
+
+returns-2 : tie.Need-returns-2
+unfolding frameIn
+returns-2 c = rw (c .before .match .keys2) (ap Submit (c .submission-in .ensures))
+
+returns-3 : tie.Need-returns-3
+unfolding frameIn
+returns-3 c = rw (c .before .match .keys3) (ap Step (c .byte-at .ensures))
+
+returns-4 : tie.Need-returns-4
+unfolding frameIn
+returns-4 c = rw (c .before .match .keys4) (ap Take (c .byte-at2 .ensures))
+
+returns-5 : tie.Need-returns-5
+unfolding frameIn
+returns-5 c =
+    let r = c .before .match .rest in
+    simp (ne-eqb _ _ (r .0 .0 .0 .1), ne-eqb _ _ (r .0 .0 .1), ne-eqb _ _ (r .0 .1), ne-eqb _ _ (r .1)) (ap Run (c .byte-at3 .ensures))
+
+pub frame-in-spec : {M : Type 1} → statement M
+frame-in-spec =
+    tie.close
+    (tie.spec
+    two-at-requires
+    four-at-requires
+    submission-in-requires
+    byte-at-requires
+    byte-at-requires-2
+    byte-at-requires-3
+    returns
+    returns-2
+    returns-3
+    returns-4
+    returns-5)
