@@ -1,0 +1,128 @@
+-- Demand 1: "Whoever calls, with whatever numbers, frame bytes or index contents, gets a defined result and the call ends. Bad input gets the number of
+-- the first check it fails, and a refused call changes no word or byte lent to it."
+-- A defined result, and an end: the functions `open`, `submit`, `step`, `run`, `take`, `read_report` and `audit` of `steps` have no `requires`; their contracts
+-- are equations of result and slice with `openOf`, `submitOf`, `stepOf`, `runOf`, `takeOf` and `takeWords`, `reportOf`, `auditOf`, which are defined for every
+-- content and every argument; and Rattle proves that each call ends. `read_report` and `audit` are lent the words for reading alone. Of `frames` the same:
+-- `read_frame`, `write_frame`, `write_fields`, `apply_frame` and `next_line` are `readOf`, `writtenOf`, `writeOf`, `applyOf` with `applyWords`, and `lineOf` with
+-- `lineWords`; a reader's `next` is `readOf` and `positionAfter`; the bytes are lent for reading alone.
+-- A question is a test and its number; `firstNo` is the number of the first that fails, and 0 where none does.
+use Prim.Native.Nat.{ℕ, _<_}
+use mathlib.Core.Path.{_≡_, refl, _∙_}
+use mathlib.Core.Bool.{Bool, true, false, cond}
+use mathlib.Core.List.{List, [], _∷_}
+use lib.Dec.{eqb, leb, ltb}
+use lib.ListN.{length, drop, replicate}
+use Rattle.claims.specs.Definitions.{Point, inRange, wordsFor, placesIn, limitIn, openedIn, isIdle, isUnfinished, stateAt, callAt, waitingAt}
+use Rattle.claims.specs.Definitions.{isOpened, rowsIn, openOf, kindIn, curveFits, submitOf, recordsSound, workOf, stepOf, isGiven, takeOf, numberOf, takeWords}
+use Rattle.claims.specs.Definitions.{reportOf, asked, firstNo}
+use Rattle.claims.specs.Definitions.{Frame, Open, Submit, Step, Take, Run, Refused as Unread, isKind, isWhole, hasKind, ownLength, frameQuestion, readOf, readingNumber}
+use Rattle.claims.specs.Definitions.{positionAfter, Fields, padded, writtenBytes, writeOf, pointOf, submissionReply, applyOf, appliedNumber, applyWords, lineWords}
+use Rattle.history.proofs.Refused
+use Rattle.frames.proofs.OutcomeLaws
+use Rattle.frames.proofs.LineLaws
+
+-- ---- the number of the first check it fails
+
+-- "Opening: places 1 to 4,096? 1. Change limit 1 to 4,000,000,000? 2. Slice at least 32 × places + 608 words? 3."
+pub open-number : (words : List ℕ) (places limit : ℕ)
+    → openOf words places limit .number ≡ firstNo (asked (placesIn places) 1 ∷ asked (limitIn limit) 2 ∷ asked (leb (wordsFor places) (length words)) 3 ∷ [])
+open-number = Refused.open-number
+
+-- "Every other call on a slice: are the mark that opening writes, places and limit in range, and length enough for them all there? 4. Station 0 to 7? 5."
+-- "Submission: is the station idle? 6. Call kind 1 to 4? 7. Point within its ranges? 8. For an add, curve in range? 9."
+pub submit-number : (words : List ℕ) (s kind : ℕ) (p : Point) (c : ℕ)
+    → submitOf words s kind p c .number
+    ≡ firstNo (asked (isOpened (openedIn words)) 4 ∷ asked (ltb s 8) 5
+    ∷ asked (isIdle (stateAt words s)) 6 ∷ asked (kindIn kind) 7 ∷ asked (inRange p) 8 ∷ asked (curveFits kind c) 9 ∷ [])
+submit-number = Refused.submit-number
+
+-- "Step: has the station an unfinished call? 10. Are the fields of both records and of every row this step needs in range? 11": first those of the two
+-- records; the work then finds the rows that it needs, and its number is 0, or 11 where one is not what it must be.
+pub step-number : (words : List ℕ) (s : ℕ)
+    → stepOf words s .number
+    ≡ firstNo (asked (isOpened (openedIn words)) 4 ∷ asked (ltb s 8) 5
+    ∷ asked (isUnfinished (stateAt words s)) 10 ∷ asked (recordsSound words s) 11 ∷ asked (eqb (workOf words (rowsIn words) s (callAt words s) .number) 0) 11 ∷ [])
+step-number = Refused.step-number
+
+-- "Taking: is an answer waiting? 12."
+pub take-number : (words : List ℕ) (s : ℕ)
+    → numberOf (takeOf words s) ≡ firstNo (asked (isOpened (openedIn words)) 4 ∷ asked (ltb s 8) 5 ∷ asked (isGiven (waitingAt words s)) 12 ∷ [])
+take-number = Refused.take-number
+
+-- A report names no station: question 4 alone.
+pub report-number : (words : List ℕ) → reportOf words .number ≡ firstNo (asked (isOpened (openedIn words)) 4 ∷ [])
+report-number = Refused.report-number
+
+-- ---- "a refused call changes no word"
+
+-- a refused opening
+pub open-refused : (words : List ℕ) (places limit : ℕ) → ¬ (openOf words places limit .number ≡ 0) → openOf words places limit .words ≡ words
+open-refused = Refused.open-refused
+
+-- a refused submission
+pub submit-refused : (words : List ℕ) (s kind : ℕ) (p : Point) (c : ℕ) → ¬ (submitOf words s kind p c .number ≡ 0) → submitOf words s kind p c .words ≡ words
+submit-refused = Refused.submit-refused
+
+-- a refused step
+pub step-refused : (words : List ℕ) (s : ℕ) → ¬ (stepOf words s .number ≡ 0) → stepOf words s .words ≡ words
+step-refused = Refused.step-refused
+
+-- a refused taking
+pub take-refused : (words : List ℕ) (s : ℕ) → ¬ (numberOf (takeOf words s) ≡ 0) → takeWords words s ≡ words
+take-refused = Refused.take-refused
+
+-- ---- frames
+
+-- "Frame: are both length bytes and all the bytes they count there? 13. Is there a kind, 1 to 5? 14, also for lengths 0 and 1. Is the length that kind's own? 15."
+pub frame-number : (bytes : List ℕ) (at : ℕ) → at < length bytes
+    → readingNumber (readOf bytes at) ≡ firstNo (asked (isWhole (drop at bytes)) 13 ∷ asked (hasKind (drop at bytes)) 14 ∷ asked (ownLength (drop at bytes)) 15 ∷ [])
+unfolding frameQuestion firstNo
+frame-number bytes at l = OutcomeLaws.reading-number bytes at l ∙ same (isWhole (drop at bytes)) (hasKind (drop at bytes)) (ownLength (drop at bytes))
+  where
+    same : (a b c : Bool) → cond a (cond b (cond c 0 15) 14) 13 ≡ firstNo (asked a 13 ∷ asked b 14 ∷ asked c 15 ∷ [])
+    same true true true = refl
+    same true true false = refl
+    same true false c = refl
+    same false b c = refl
+
+-- "A refusal is its number alone, with nothing written anywhere": a frame that is not read changes no word, and "its position, which a refusal does not move".
+pub frame-refused : (words bytes : List ℕ) (at number : ℕ) → readOf bytes at ≡ Unread number
+    → (lineWords words (readOf bytes at) ≡ words) × (positionAfter (readOf bytes at) at ≡ at)
+unfolding lineWords
+frame-refused words bytes at number e = rw e (refl, refl)
+
+-- "The writer takes a kind (question 14)".
+pub writer-number : (kind : ℕ) (fields : Fields) → writeOf kind fields .number ≡ firstNo (asked (isKind kind) 14 ∷ [])
+unfolding writeOf firstNo
+writer-number kind fields = go (isKind kind) refl
+  where
+    go : (b : Bool) → isKind kind ≡ b → writeOf kind fields .number ≡ firstNo (asked b 14 ∷ [])
+    go true e = rw (e, writeOf)
+    go false e = rw (e, writeOf)
+
+-- A refused writing has no byte of a frame: "gives back 28 bytes, unused ones zero, with the count used".
+pub writer-refused : (kind : ℕ) (fields : Fields) → ¬ (writeOf kind fields .number ≡ 0)
+    → (writeOf kind fields .written .bytes ≡ replicate 28 0) × (writeOf kind fields .written .count ≡ 0)
+unfolding writeOf writtenBytes padded
+writer-refused kind fields = go (isKind kind) refl
+  where
+    go : (b : Bool) → isKind kind ≡ b → ¬ (writeOf kind fields .number ≡ 0) → (writeOf kind fields .written .bytes ≡ replicate 28 0) × (writeOf kind fields .written .count ≡ 0)
+    go true e n = absurd (n (rw (e, writeOf)))
+    go false e n = rw (e, writeOf) (refl, refl)
+
+-- a run is many calls, each refused or not by itself (`run-is-steps` in Further.antt)
+abbrev pub IsRun : Frame → Type 0
+IsRun (Open places limit) = ⊥
+IsRun (Submit s) = ⊥
+IsRun (Step station) = ⊥
+IsRun (Take station) = ⊥
+IsRun (Run station) = Unit {0}
+
+-- A frame whose call is refused changes no word.
+pub applied-refused : (words : List ℕ) (frame : Frame) → ¬ IsRun frame → ¬ (appliedNumber (applyOf words frame) ≡ 0) → applyWords words frame ≡ words
+unfolding applyOf applyWords submissionReply
+applied-refused words (Open places limit) r n = open-refused words places limit n
+applied-refused words (Submit s) r n = submit-refused words (s .station) (s .kind) (pointOf s) (s .curve) n
+applied-refused words (Step station) r n = step-refused words station n
+applied-refused words (Take station) r n = take-refused words station (λ e. n (LineLaws.taking-number (takeOf words station) ∙ e))
+applied-refused words (Run station) r n = absurd (r tt)

@@ -1,0 +1,146 @@
+-- Demand 2: "Each call run alone answers as a plain table of records does, after Definition 1 of the LFkD-tree paper: added unless held, removed only if held,
+-- and the nearest record of the same grade by squared distance over weight, moisture, speed and draw, the lighter on a tie. No room and changes spent are
+-- answered exactly under document 01's counts."
+-- First the plain table's answers, one by one; then `demand-2`, that a call run alone after any history gives them; then frames.
+use Prim.Native.Nat.{ℕ, suc, _+_, _-_, _*_, _<_}
+use mathlib.Core.Path.{_≡_, refl}
+use mathlib.Core.Logic.{_⊎_, inl, inr}
+use mathlib.Core.Bool.{true}
+use mathlib.Core.List.{List, _++_, List·Memᴰ}
+use lib.ListN.{length, drop, take as takeFirst}
+use mathlib.Core.Option.{Option, none, some}
+use Rattle.claims.specs.Definitions.{Point, squareOf, sameGrade, chosenOver, Record, curveAt, add, remove, contains, nearest, callOf, answer, isChange}
+use Rattle.claims.specs.Definitions.{Table, taken, answerOf, changedIf, Event, submit, done, openOf, submitOf, runOf, takeOf, takeWords}
+use Rattle.claims.specs.Definitions.{opened, givenBy, wordIndex, after, stepped, Frame, AllBytes, InWidth, Read, readOf, writtenOf}
+use Rattle.table.proofs.Answers
+use Rattle.table.specs.Record.{nearestOf}
+use Rattle.table.specs.Call.{nearestAnswer}
+use Rattle.table.proofs.Nearest.{nearest-some, nearest-none}
+use Rattle.history.proofs.Demand2.{demand-2 as demand-2-alone}
+use Rattle.frames.proofs.WrittenLaws
+use Rattle.frames.proofs.ReadLaws
+use Rattle.claims.proofs.Stepping.{steps-accepted, steps-unanswered, steps-answered, run-alone}
+use Rattle.claims.proofs.Unrolled.{last-at}
+use Rattle.claims.proofs.Demand3.{Agrees, agrees-with, Moments, moments-of, AnsweredAt}
+
+-- ---- the plain table's answers
+
+module _ (t : Table) (p : Point) where
+  -- "Add: held already? 2, with the held curve, which is not replaced."
+  pub add-held : (c held : ℕ) → curveAt p (t .held) ≡ some held → answerOf t (add p c) ≡ answer 2 p held 0
+  add-held = Answers.add-held t p
+
+  -- "Else changes used up? 4."
+  pub add-spent : (c : ℕ) → curveAt p (t .held) ≡ none → t .changes ≡ t .limit → answerOf t (add p c) ≡ answer 4 p 0 0
+  add-spent = Answers.add-spent t p
+
+  -- "Else every place taken? 3."
+  pub add-full : (c : ℕ) → curveAt p (t .held) ≡ none → ¬ (t .changes ≡ t .limit) → taken t ≡ t .places → answerOf t (add p c) ≡ answer 3 p 0 0
+  add-full = Answers.add-full t p
+
+  -- "Else 1."
+  pub add-room : (c : ℕ) → curveAt p (t .held) ≡ none → ¬ (t .changes ≡ t .limit) → ¬ (taken t ≡ t .places) → answerOf t (add p c) ≡ answer 1 p c 0
+  add-room = Answers.add-room t p
+
+  -- "Remove: not held? 6."
+  pub remove-absent : curveAt p (t .held) ≡ none → answerOf t (remove p) ≡ answer 6 p 0 0
+  remove-absent = Answers.remove-absent t p
+
+  -- "Else changes used up? 4."
+  pub remove-spent : (held : ℕ) → curveAt p (t .held) ≡ some held → t .changes ≡ t .limit → answerOf t (remove p) ≡ answer 4 p 0 0
+  remove-spent = Answers.remove-spent t p
+
+  -- "Else 5, with the curve that was held."
+  pub remove-held : (held : ℕ) → curveAt p (t .held) ≡ some held → ¬ (t .changes ≡ t .limit) → answerOf t (remove p) ≡ answer 5 p held 0
+  remove-held = Answers.remove-held t p
+
+  -- "Contains: 7 with the curve"
+  pub contains-held : (held : ℕ) → curveAt p (t .held) ≡ some held → answerOf t (contains p) ≡ answer 7 p held 0
+  contains-held = Answers.contains-held t p
+
+  -- "or 6."
+  pub contains-absent : curveAt p (t .held) ≡ none → answerOf t (contains p) ≡ answer 6 p 0 0
+  contains-absent = Answers.contains-absent t p
+
+-- "Nearest: 8 with the record and the square": a held record of the grade, and "every other held record of the grade has a greater square, or the same and loses
+-- the tie", so that the found one is chosen over it
+pub record Found (t : Table) (p : Point) : Type 0 where
+  pub found : Record
+  pub held : List·Memᴰ found (t .held)
+  pub grade : sameGrade p (found .point) ≡ true
+  pub first : (q : Record) → List·Memᴰ q (t .held) → sameGrade p (q .point) ≡ true → ¬ (q .point ≡ found .point) → chosenOver p (found .point) (q .point) ≡ true
+  pub answers : answerOf t (nearest p) ≡ answer 8 (found .point) (found .curve) (squareOf p (found .point))
+
+-- "or 9 where the grade has no record"
+pub record NoneFound (t : Table) (p : Point) : Type 0 where
+  pub grade : (q : Record) → List·Memᴰ q (t .held) → ¬ (sameGrade p (q .point) ≡ true)
+  pub answers : answerOf t (nearest p) ≡ answer 9 p 0 0
+
+-- "Nearest: 8 with the record and the square, or 9 where the grade has no record."
+pub nearest-either : (t : Table) (p : Point) → Found t p ⊎ NoneFound t p
+unfolding answerOf nearestAnswer
+nearest-either t p = go (nearestOf p (t .held)) refl
+  where
+    go : (x : Option Record) → nearestOf p (t .held) ≡ x → Found t p ⊎ NoneFound t p
+    go (some r) e = let n = nearest-some p (t .held) r e in inl (record { found = r; held = n .mem; grade = n .grade; first = n .first; answers = rw (e, nearestAnswer) })
+    go none e = inr (record { grade = nearest-none p (t .held) e; answers = rw (e, nearestAnswer) })
+
+-- ---- a call run alone
+
+-- the words after a submission
+abbrev pub begun : List ℕ → ℕ → ℕ → Point → ℕ → List ℕ
+begun words s kind p c = submitOf words s kind p c .words
+
+-- where the plain table is t, station s is answered within 16 × places + 64 steps of its own, which are what a run gives it; the taking gives the table's answer;
+-- and what it leaves agrees with the table after the call's effect
+pub record RunsAlone (words : List ℕ) (t : Table) (places s kind : ℕ) (p : Point) (c : ℕ) : Type 0 where
+  pub steps : ℕ
+  pub few : steps < 16 * places + 64
+  pub answered : AnsweredAt (begun words s kind p c) s steps
+  pub ran : runOf (begun words s kind p c) s ≡ done (stepped (suc steps) (begun words s kind p c) s)
+  pub given : givenBy (takeOf (runOf (begun words s kind p c) s .words) s) ≡ some (answerOf t (callOf kind p c))
+  pub left : Agrees (takeWords (runOf (begun words s kind p c) s .words) s) (changedIf (isChange (answerOf t (callOf kind p c))) t (callOf kind p c))
+
+-- there are moments as demand 3 wants them; submission refuses what their table at the end refuses, and a call that it accepts, run alone, answers as this table
+pub record AnswersAsTable (start : List ℕ) (places limit : ℕ) (evs : List Event) : Type 0 where
+  pub history : Moments start places limit evs
+  pub submits : (s kind : ℕ) (p : Point) (c : ℕ) → submitOf (after evs start) s kind p c .number ≡ submit (history .table evs) s kind p c .number
+  pub alone : (s kind : ℕ) (p : Point) (c : ℕ) → submitOf (after evs start) s kind p c .number ≡ 0 → RunsAlone (after evs start) (history .table evs) places s kind p c
+
+-- "Each call run alone answers as a plain table of records does": after every history from an accepted opening.
+pub demand-2 : (words : List ℕ) (places limit : ℕ) → openOf words places limit .number ≡ 0 → (evs : List Event) → AnswersAsTable (openOf words places limit .words) places limit evs
+unfolding moments-of
+demand-2 words places limit e evs =
+    let start = openOf words places limit .words in
+    let x = demand-2-alone words places limit e evs in
+    let h : Moments start places limit evs = moments-of start places limit evs (x .moments) (x .follows) in
+    let same : h .table evs ≡ x .table = last-at wordIndex (λ s. ⊥) start (opened places limit) evs (x .moments) (x .follows) (x .table) (x .ends) in
+    record {
+      history = h;
+      submits = λ s kind p c. rw same (x .submits s kind p c);
+      alone = λ s kind p c a.
+          let y = x .alone s kind p c a in
+          let b : List ℕ = begun (after evs start) s kind p c in
+          let r : runOf b s ≡ done (stepped (suc (y .before)) b s) = run-alone words places limit e evs s kind p c (y .before) (y .few) (y .answered) in
+          rw same
+          (record {
+            steps = y .before;
+            few = y .few;
+            answered = record { accepted = steps-accepted (y .before) b s (y .answered); unanswered = steps-unanswered (y .before) b s (y .answered); answers = steps-answered (y .before) b s (y .answered) };
+            ran = r;
+            given = rw r (y .given);
+            left = rw r (agrees-with (y .left));
+          });
+    }
+
+-- ---- frames
+
+-- "Frames written read back as the same call": fields of their widths, the bytes used, whatever bytes stand before and after them.
+pub written-reads : (frame : Frame) → InWidth frame → (before rest : List ℕ)
+    → readOf (before ++ (takeFirst (writtenOf frame .count) (writtenOf frame .bytes) ++ rest)) (length before) ≡ Read frame (length before + writtenOf frame .count)
+written-reads = WrittenLaws.written-reads
+
+-- "frames read write back as the same bytes": those from the position to the next, in any bytes; and the frame's fields are in width.
+pub read-writes : (bytes : List ℕ) (at next : ℕ) (frame : Frame) → AllBytes bytes → readOf bytes at ≡ Read frame next
+    → (takeFirst (next - at) (drop at bytes) ≡ takeFirst (writtenOf frame .count) (writtenOf frame .bytes)) × (next ≡ at + writtenOf frame .count) × InWidth frame
+read-writes bytes at next frame b e = (ReadLaws.read-writes bytes at b e, ReadLaws.read-count bytes at b e, ReadLaws.read-in-width bytes at b e)

@@ -1,0 +1,106 @@
+-- What document 01 says besides the demands: what an opening leaves (`opening-fresh`, `opening-again`, `opening-beyond`), the report (`report-after`), the audit (`audit-exact`,
+-- `audit-after`), question 11 (`never-11`) and runs (`run-is-steps`, `run-after`).
+use Prim.Native.Nat.{ℕ, _+_, _*_, _≤_, _<_}
+use mathlib.Core.Path.{_≡_, refl, ap, _∙_, subst}
+use mathlib.Core.Logic.{_⊎_, _↔_}
+use mathlib.Core.Bool.{true}
+use mathlib.Core.List.{List, [], map, append-nil, List·Memᴰ, List·Memᴰ·not-nil}
+use lib.ListN.{length}
+use Rattle.claims.specs.Definitions.{atChanges, get, rowAt, Spare, isIdle, isUnfinished, stateAt, Record, Table, opened, taken, Event}
+use Rattle.claims.specs.Definitions.{openOf, stepOf, mostSteps, runOf, takeOf, numberOf, reportOf, auditOf, heldIn, recordOf, after, stepped, firstNo, Audited}
+use Rattle.history.specs.View.{countsAt, seatAt, Counts}
+use Rattle.history.proofs.OpenEffects.{OpenedAs, open-written}
+use Rattle.history.proofs.OpenBeyond.{open-beyond}
+use Rattle.history.proofs.AuditLaws as Audits
+use Rattle.history.proofs.Demand3.{accepted}
+use Rattle.history.proofs.Reached.{Stands, history-related}
+use Rattle.history.proofs.StepNumbers.{step-numbers, step-never-11}
+use Rattle.history.proofs.Run.{run-answers}
+use Rattle.claims.proofs.Stepping.{run-steps}
+use Rattle.claims.proofs.Demand1.{report-number}
+use Rattle.claims.proofs.Demand3.{Moments, demand-3}
+
+-- ---- opening
+
+-- no record held, every row spare, every station idle and no change counted
+pub record Fresh (words : List ℕ) (places : ℕ) : Type 0 where
+  pub held : (r : Record) → ¬ List·Memᴰ r (map recordOf (heldIn words))
+  pub spare : (r : ℕ) → r < 2 * places → (next : ℕ) × (rowAt words (2 * places) r ≡ Spare next 0)
+  pub idle : (s : ℕ) → s < 8 → isIdle (stateAt words s) ≡ true
+  pub unchanged : get words atChanges ≡ 0
+
+-- "Opening, also of an opened slice, begins a new history with no record held, every row spare, every station idle and no change counted": for all words, as
+-- `demand-3` is.
+pub opening-fresh : (words : List ℕ) (places limit : ℕ) → openOf words places limit .number ≡ 0 → Fresh (openOf words places limit .words) places
+unfolding opened countsAt seatAt
+opening-fresh words places limit e =
+    let a = accepted words places limit e in
+    let w : OpenedAs (openOf words places limit .words) places limit = rw (a .opens) (open-written words places limit (a .places-in) (a .limit-in) (a .room)) in
+    let m : Moments (openOf words places limit .words) places limit [] = demand-3 words places limit e [] in
+    record {
+      held = λ r h. List·Memᴰ·not-nil (subst (λ (t : Table). List·Memᴰ r (t .held)) (m .first) (unfold after in (m .agrees [] [] refl .records r .0 h)));
+      spare = λ r l. (_, w .rows r l);
+      idle = λ s l. rw (w .states s l);
+      unchanged = ap (λ (c : Counts). c .changes) (w .counts);
+    }
+
+-- So an accepted opening of whatever a history left begins a new one, which agrees with a table of its own.
+pub opening-again : (words : List ℕ) (places limit : ℕ) (evs : List Event) (places′ limit′ : ℕ) → openOf (after evs (openOf words places limit .words)) places′ limit′ .number ≡ 0
+    → (evs′ : List Event) → Moments (openOf (after evs (openOf words places limit .words)) places′ limit′ .words) places′ limit′ evs′
+opening-again words places limit evs = demand-3 (after evs (openOf words places limit .words))
+
+-- "words beyond that length stay"
+pub opening-beyond : (words : List ℕ) (places limit : ℕ) → openOf words places limit .number ≡ 0
+    → (length (openOf words places limit .words) ≡ length words) × ((k : ℕ) → 32 * places + 608 ≤ k → get (openOf words places limit .words) k ≡ get words k)
+opening-beyond words places limit e = let b = open-beyond words places limit e in (b .lengths, b .words)
+
+-- ---- report and audit
+
+-- "A report gives the number of places taken, as the common record counts them; after a history that is the plain table's number." It is not refused, and the
+-- number is that of the table of `demand-3` at the end.
+pub report-after : (words : List ℕ) (places limit : ℕ) (e : openOf words places limit .number ≡ 0) (evs : List Event)
+    → (reportOf (after evs (openOf words places limit .words)) .number ≡ 0)
+    × (reportOf (after evs (openOf words places limit .words)) .taken ≡ taken (demand-3 words places limit e evs .table evs))
+unfolding firstNo
+report-after words places limit e evs =
+    let a = accepted words places limit e in
+    let v : List ℕ = after evs (openOf words places limit .words) in
+    let st : Stands v places limit = rw (a .opens) (history-related words places limit a evs) in
+    (report-number v ∙ rw (st .related .opened), demand-3 words places limit e evs .agrees evs [] (append-nil evs) .places)
+
+-- "An audit says yes exactly if the rows linked from the root, if any, have fields in range as for question 11 and form a tree in which each leaf's point is on
+-- the side that every cut above it sends it, parent links agree, and every row lies in the tree, among the spare rows, or in the records awaiting release, once
+-- and in order of removal." For all words.
+pub audit-exact : (words : List ℕ) → (auditOf words ≡ true) ↔ Audited words
+audit-exact = Audits.audit-exact
+
+-- "After every history the audit says yes."
+pub audit-after : (words : List ℕ) (places limit : ℕ) → openOf words places limit .number ≡ 0 → (evs : List Event) → auditOf (after evs (openOf words places limit .words)) ≡ true
+audit-after words places limit e evs =
+    let a = accepted words places limit e in
+    rw (a .opens) (Audits.audit-complete (Audits.audit-related (history-related words places limit a evs .related)))
+
+-- ---- steps and runs
+
+-- "11, never met on an index that only these calls wrote": after every history a step of any station number gets 0, 5 or 10, and so never 11.
+pub step-after : (words : List ℕ) (places limit : ℕ) → openOf words places limit .number ≡ 0 → (evs : List Event) (s : ℕ)
+    → (stepOf (after evs (openOf words places limit .words)) s .number ≡ 0)
+    ⊎ ((stepOf (after evs (openOf words places limit .words)) s .number ≡ 5) ⊎ (stepOf (after evs (openOf words places limit .words)) s .number ≡ 10))
+step-after = step-numbers
+
+pub never-11 : (words : List ℕ) (places limit : ℕ) → openOf words places limit .number ≡ 0 → (evs : List Event) (s : ℕ)
+    → ¬ (stepOf (after evs (openOf words places limit .words)) s .number ≡ 11)
+never-11 = step-never-11
+
+-- "Run gives the station steps …, at most 16 × places + 64. Each of them is a call of its own: a refused step ends the run, its number is the run's result, and the
+-- steps before it stand": for all words, n steps are accepted, and number and words are those of the step after them.
+pub run-is-steps : (words : List ℕ) (s : ℕ)
+    → (n : ℕ) × (n < mostSteps words) × ((k : ℕ) → k < n → stepOf (stepped k words s) s .number ≡ 0) × (runOf words s ≡ stepOf (stepped n words s) s)
+run-is-steps = run-steps
+
+-- "Run gives the station steps until it is answered": after every history a run of a station with an unfinished call is accepted, and its answer waits.
+pub run-after : (words : List ℕ) (places limit : ℕ) → openOf words places limit .number ≡ 0 → (evs : List Event) (s : ℕ)
+    → isUnfinished (stateAt (after evs (openOf words places limit .words)) s) ≡ true
+    → (runOf (after evs (openOf words places limit .words)) s .number ≡ 0)
+    × (numberOf (takeOf (runOf (after evs (openOf words places limit .words)) s .words) s) ≡ 0)
+run-after words places limit e evs s u = let x = run-answers words places limit e evs s u in (x .number, x .answered)

@@ -1,0 +1,105 @@
+-- "Proved cases (P)" of document 01 as one table, a row for each case (`ProvedCases`). P1 to P4 are about points, P7 and P8 about frames. P5, P6, P9 and P10 are
+-- about calls made one after the other: what the plain table answers, and what every slice long enough gives when it is opened and each call is submitted,
+-- run and taken.
+use Prim.Native.Nat.{ℕ, _≤_}
+use mathlib.Core.Path.{_≡_}
+use mathlib.Core.Bool.{true, false}
+use mathlib.Core.List.{List, [], _∷_, _++_}
+use mathlib.Core.Option.{some}
+use lib.IntN.{ℤ, pos, negsuc}
+use lib.ListN.{length, replicate}
+use Rattle.claims.specs.Definitions.{Point, squareOf, cutOf, goesLeft, wordsFor, Call, callOf, Answer, answer, isChange, Table, opened, answerOf, changedIf}
+use Rattle.claims.specs.Definitions.{openOf, submitOf, runOf, takeOf, takeWords, givenBy, Step, Refused, readOf, writtenOf}
+
+-- ---- points
+
+-- grade 12, 80 g/m², 5.5 %, 900 m/min, and the draw
+abbrev pub drawn : ℤ → Point
+drawn draw = record { grade = pos 12; weight = pos 8_000; moisture = pos 550; speed = pos 9_000; draw = draw }
+
+-- grade 12, 5.5 %, no draw, and the weight and speed
+abbrev pub made : ℕ → ℕ → Point
+made weight speed = record { grade = pos 12; weight = pos weight; moisture = pos 550; speed = pos speed; draw = pos 0 }
+
+-- 5.5 %, 900 m/min, no draw, and the grade and weight
+abbrev pub sheet : ℕ → ℕ → Point
+sheet grade weight = record { grade = pos grade; weight = pos weight; moisture = pos 550; speed = pos 9_000; draw = pos 0 }
+
+-- ---- calls one after the other
+
+-- a call by a station
+pub record Asked : Type 0 where
+  pub station : ℕ
+  pub kind : ℕ
+  pub point : Point
+  pub curve : ℕ
+
+-- an add by station 0, and a nearest by station 1
+abbrev pub adds : Point → ℕ → Asked
+adds p c = record { station = 0; kind = 1; point = p; curve = c }
+
+abbrev pub seeks : Point → Asked
+seeks p = record { station = 1; kind = 4; point = p; curve = 0 }
+
+abbrev pub callOfAsked : Asked → Call
+callOfAsked a = callOf (a .kind) (a .point) (a .curve)
+
+-- the plain table after a call
+abbrev pub answeredTable : Table → Asked → Table
+answeredTable t a = changedIf (isChange (answerOf t (callOfAsked a))) t (callOfAsked a)
+
+-- what the plain table answers
+unfoldable pub answersOf : Table → List Asked → List Answer
+answersOf t [] = []
+answersOf t (a ∷ more) = answerOf t (callOfAsked a) ∷ answersOf (answeredTable t a) more
+
+-- the words after a call's submission, and after its run
+abbrev pub submittedWords : List ℕ → Asked → List ℕ
+submittedWords words a = submitOf words (a .station) (a .kind) (a .point) (a .curve) .words
+
+abbrev pub ranWords : List ℕ → Asked → List ℕ
+ranWords words a = runOf (submittedWords words a) (a .station) .words
+
+-- from these words each call is accepted on submission and by its run, and its taking gives this answer
+abbrev pub Gives : List ℕ → List Asked → List Answer → Type 0
+Gives words [] [] = Unit {0}
+Gives words [] (x ∷ xs) = ⊥
+Gives words (a ∷ more) [] = ⊥
+Gives words (a ∷ more) (x ∷ xs) =
+    (submitOf words (a .station) (a .kind) (a .point) (a .curve) .number ≡ 0)
+    × (runOf (submittedWords words a) (a .station) .number ≡ 0)
+    × (givenBy (takeOf (ranWords words a) (a .station)) ≡ some x)
+    × Gives (takeWords (ranWords words a) (a .station)) more xs
+
+-- the plain table gives these answers, and so does every slice long enough, opened with these places and this limit
+pub record Answered (places limit : ℕ) (calls : List Asked) (answers : List Answer) : Type 0 where
+  pub table : answersOf (opened places limit) calls ≡ answers
+  pub words : (words : List ℕ) → wordsFor places ≤ length words → (openOf words places limit .number ≡ 0) × Gives (openOf words places limit .words) calls answers
+
+-- ---- the table
+
+pub record ProvedCases : Type 0 where
+  -- draws −3 and 4, else equal: square 49
+  pub p1 : squareOf (drawn (negsuc 2)) (drawn (pos 4)) ≡ 49
+  -- cut of 3 and 4: 3 left, 4 right
+  pub p2 : (goesLeft (cutOf (drawn (pos 3)) (drawn (pos 4))) (drawn (pos 3)) ≡ true) × (goesLeft (cutOf (drawn (pos 3)) (drawn (pos 4))) (drawn (pos 4)) ≡ false)
+  -- cut of −4 and −3: −4 left, −3 right
+  pub p3 : (goesLeft (cutOf (drawn (negsuc 3)) (drawn (negsuc 2))) (drawn (negsuc 3)) ≡ true)
+      × (goesLeft (cutOf (drawn (negsuc 3)) (drawn (negsuc 2))) (drawn (negsuc 2)) ≡ false)
+  -- points equal but for weight +5 and speed +5: axis 2
+  pub p4 : cutOf (made 8_000 9_000) (made 8_005 9_005) .axis ≡ 2
+  -- target weight 9,000, held 8,990 and 9,010: 8,990
+  pub p5 : Answered 2 10 (adds (sheet 12 9_010) 41 ∷ adds (sheet 12 8_990) 42 ∷ seeks (sheet 12 9_000) ∷ [])
+      (answer 1 (sheet 12 9_010) 41 0 ∷ answer 1 (sheet 12 8_990) 42 0 ∷ answer 8 (sheet 12 8_990) 42 100 ∷ [])
+  -- target grade 13, only grade 12 held: 9
+  pub p6 : Answered 2 10 (adds (sheet 12 9_000) 41 ∷ seeks (sheet 13 9_000) ∷ []) (answer 1 (sheet 12 9_000) 41 0 ∷ answer 9 (sheet 13 9_000) 0 0 ∷ [])
+  -- step for station 2: bytes 03 00 03 00 02
+  pub p7 : (writtenOf (Step 2) .bytes ≡ (3 ∷ 0 ∷ 3 ∷ 0 ∷ 2 ∷ []) ++ replicate 23 0) × (writtenOf (Step 2) .count ≡ 5)
+  -- length 1, its byte there: 14
+  pub p8 : (byte : ℕ) → readOf (1 ∷ 0 ∷ byte ∷ []) 0 ≡ Refused 14
+  -- one place, held point added again: 2
+  pub p9 : Answered 1 10 (adds (sheet 12 9_000) 41 ∷ adds (sheet 12 9_000) 42 ∷ []) (answer 1 (sheet 12 9_000) 41 0 ∷ answer 2 (sheet 12 9_000) 41 0 ∷ [])
+  -- limit 1, one add done, new add: 4
+  pub p10 : Answered 2 1 (adds (sheet 12 9_000) 41 ∷ adds (sheet 12 9_001) 42 ∷ []) (answer 1 (sheet 12 9_000) 41 0 ∷ answer 4 (sheet 12 9_001) 0 0 ∷ [])
+  -- also when full
+  pub p10-full : Answered 1 1 (adds (sheet 12 9_000) 41 ∷ adds (sheet 12 9_001) 42 ∷ []) (answer 1 (sheet 12 9_000) 41 0 ∷ answer 4 (sheet 12 9_001) 0 0 ∷ [])

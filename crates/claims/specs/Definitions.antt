@@ -1,0 +1,82 @@
+-- Every definition that the claims speak of, by the crate and file that has it; what only a proof needs is named there.
+-- The code is these definitions: each public function of `steps` and `frames` is proved equal to one, for all words, bytes and arguments.
+
+-- ---- points
+
+-- a point's five coordinates, and whether they are in range
+pub use Rattle.points.specs.declared.point.Point.{Point}
+pub use Rattle.points.specs.Point.{inRange}
+-- the square of two points; the cut between two points, and the side on which it has a point
+pub use Rattle.points.specs.Square.{squareOf}
+pub use Rattle.points.specs.Cut.{cutOf, goesLeft}
+-- one grade; the nearer of two points, the lower on a tie
+pub use Rattle.points.specs.Choice.{sameGrade, chosenOver}
+-- ---- rows
+
+-- words, rows, and question 4
+pub use Rattle.rows.specs.Layout.{atPlaces, atChanges, wordsFor}
+pub use Rattle.rows.specs.Words.{get}
+pub use Rattle.rows.specs.Row.{rowAt}
+pub use Rattle.rows.specs.declared.row.Row.the-variants.{Spare}
+pub use Rattle.rows.specs.Common.{placesIn, limitIn, openedIn}
+-- a station's record
+pub use Rattle.rows.specs.Station.{isIdle, isUnfinished, stateAt}
+pub use Rattle.rows.specs.Call.{callAt}
+pub use Rattle.rows.specs.Answer.{waitingAt}
+-- where a station's words are, and how many
+pub use Rattle.rows.specs.Agree.{inStation, startOf, sizeOf}
+-- ---- table
+
+-- records and calls
+pub use Rattle.table.specs.Record.{Record, Same, Once, curveAt}
+pub use Rattle.table.specs.Call.{Call, add, remove, contains, nearest, callOf, Answer, answer, isChange}
+-- the plain table: at first, the number of places taken, a call's answer and its effect
+pub use Rattle.table.specs.Table.{Table, unfinished}
+unfoldable pub use Rattle.table.specs.Table.{opened, taken, answerOf, changedIf}
+-- events, and the table fed with them
+pub use Rattle.table.specs.Event.{Event, submission, singleStep, taking, Reply, submit, take, feed}
+pub use Rattle.table.specs.History.{CanChange}
+unfoldable pub use Rattle.table.specs.History.{reply, answered}
+-- ---- steps
+
+-- number and words of a call
+pub use Rattle.moves.specs.Reply.{Reply as WordReply, done, isOpened, rowsIn}
+-- the calls
+pub use Rattle.steps.specs.Open.{openOf}
+pub use Rattle.steps.specs.Submit.{kindIn, curveFits, submitOf}
+pub use Rattle.steps.specs.Step.{recordsSound, workOf, stepOf}
+pub use Rattle.steps.specs.Run.{isGiven, goesOn}
+unfoldable pub use Rattle.steps.specs.Run.{runFor, mostSteps, runOf}
+pub use Rattle.steps.specs.Take.{takeOf, numberOf, takeWords}
+pub use Rattle.steps.specs.Report.{reportOf}
+pub use Rattle.audits.specs.Audit.{auditOf}
+-- the records on the leaves linked from the root
+pub use Rattle.steps.specs.Held.{heldIn}
+-- ---- history
+
+-- the index that the calls are, and the words after a list of events
+pub use Rattle.history.specs.Index.{recordOf, givenBy, wordIndex}
+unfoldable pub use Rattle.history.specs.After.{after}
+pub use Rattle.history.specs.Alone.{stepped}
+-- questions in their order, and the number of the first that is answered no
+pub use Rattle.history.specs.Questions.{asked}
+unfoldable pub use Rattle.history.specs.Questions.{firstNo}
+-- what document 01's sentence on the audit says
+pub use Rattle.history.specs.Audited.{Audited}
+-- ---- frames
+
+-- a frame, its fields in width, and what a reading finds
+pub use Rattle.frames.specs.declared.frame.Frame.{Frame}
+pub use Rattle.frames.specs.declared.frame.Frame.the-variants.{Open, Submit, Step, Take, Run}
+pub use Rattle.frames.specs.Width.{AllBytes, InWidth}
+pub use Rattle.frames.specs.declared.read.Reading.the-variants.{Read, Refused}
+-- questions 13, 14 and 15; reading at a position, its number, and the position after it
+pub use Rattle.frames.specs.Read.{isKind, isWhole, hasKind, ownLength, readOf, readingNumber, positionAfter}
+unfoldable pub use Rattle.frames.specs.Read.{frameQuestion}
+-- the 28 bytes of a frame with the count used; writing a kind with its fields
+pub use Rattle.frames.specs.declared.write.Fields.{Fields}
+unfoldable pub use Rattle.frames.specs.Write.{padded, writtenBytes, writtenOf, writeOf}
+-- a frame on the words: what it gives, the number of that, and the words after it; the words after a reading
+pub use Rattle.frames.specs.Apply.{appliedNumber}
+unfoldable pub use Rattle.frames.specs.Apply.{pointOf, submissionReply, applyOf, applyWords}
+unfoldable pub use Rattle.frames.specs.Line.{lineWords}
