@@ -1,0 +1,175 @@
+// The book of a run: the plain table that the index is judged by, the tallies and the generator, in one lent slice of cells. It holds nothing
+// of the index.
+use crate::cells::get;
+use crate::cells::less;
+use crate::cells::low;
+use crate::cells::put;
+use points::point::Point;
+use points::word::point_at;
+use points::word::word;
+use rows::answer::Answer;
+
+// The generator's state.
+pub const AT_RANDOM: usize = 0;
+
+// Places and change limit of the opening, changes, records held, removals awaited.
+pub const AT_PLACES: usize = 1;
+
+pub const AT_LIMIT: usize = 2;
+
+pub const AT_CHANGES: usize = 3;
+
+pub const AT_HELD: usize = 4;
+
+pub const AT_AWAITED: usize = 5;
+
+// Of the case under way: what was tried, the checks, and the wrong ones.
+pub const AT_TRIED: usize = 6;
+
+pub const AT_CHECKS: usize = 7;
+
+pub const AT_WRONG: usize = 8;
+
+// The cases, and the wrong ones.
+pub const AT_CASES: usize = 9;
+
+pub const AT_WRONG_CASES: usize = 10;
+
+// How many calls each of two actors has made, and of which.
+pub const AT_ACTORS: usize = 11;
+
+// A place that no book has.
+pub const NOWHERE: usize = 1000000;
+
+// A point whose coordinates are counted from the least of their axis, so that none is negative.
+pub struct Spot {
+    pub grade: u64,
+    pub weight: u64,
+    pub moisture: u64,
+    pub speed: u64,
+    pub draw: u64,
+}
+
+// The answer that the table expects.
+pub struct Due {
+    pub code: u64,
+    pub spot: Spot,
+    pub curve: u64,
+    pub square: u64,
+}
+
+// How often an answer of a code was taken in the case under way.
+pub fn at_code(code: u32) -> usize {
+    if code < 10 {
+        16 + (code as usize)
+    } else {
+        NOWHERE
+    }
+}
+
+// The cells of a station: state, kind, point, curve, and the answer's code, point, curve and square.
+pub fn at_station(s: u32, field: usize) -> usize {
+    if 8 <= s {
+        return NOWHERE;
+    }
+    if 16 <= field {
+        return NOWHERE;
+    }
+    40 + 16 * (s as usize) + field
+}
+
+// The six cells of a record: its point and its curve.
+pub fn at_record(i: u64, field: usize) -> usize {
+    if 4096 <= i {
+        return NOWHERE;
+    }
+    if 6 <= field {
+        return NOWHERE;
+    }
+    200 + 6 * (i as usize) + field
+}
+
+// The cell of an awaited removal: the stations whose nearest calls it waits for, a bit for each.
+pub fn at_removal(i: u64) -> usize {
+    if i < 4096 {
+        24800 + (i as usize)
+    } else {
+        NOWHERE
+    }
+}
+
+// The point at five cells.
+pub fn read_spot(book: &[u64], at: usize) -> Spot {
+    if at < NOWHERE {
+        Spot {
+            grade: get(book, at),
+            weight: get(book, at + 1),
+            moisture: get(book, at + 2),
+            speed: get(book, at + 3),
+            draw: get(book, at + 4),
+        }
+    } else {
+        sheet(0, 0)
+    }
+}
+
+// Writes a point to five cells.
+pub fn put_spot(book: &mut [u64], at: usize, p: Spot) {
+    if at < NOWHERE {
+        put(book, at, p.grade);
+        put(book, at + 1, p.weight);
+        put(book, at + 2, p.moisture);
+        put(book, at + 3, p.speed);
+        put(book, at + 4, p.draw);
+    }
+}
+
+// A sheet of a grade and a weight, at moisture, speed and draw 0.
+pub fn sheet(grade: u32, weight: u32) -> Spot {
+    Spot {
+        grade: less(grade as u64),
+        weight: less(weight as u64),
+        moisture: 0,
+        speed: 0,
+        draw: 2000,
+    }
+}
+
+// Whether two points are one.
+pub fn same_spot(a: Spot, b: Spot) -> bool {
+    (a.grade == b.grade)
+        & (a.weight == b.weight)
+        & (a.moisture == b.moisture)
+        & (a.speed == b.speed)
+        & (a.draw == b.draw)
+}
+
+// The point for a call. A number past an axis's range gives a coordinate out of range.
+pub fn point_of(p: Spot) -> Point {
+    point_at(
+        low(p.grade),
+        low(p.weight),
+        low(p.moisture),
+        low(p.speed),
+        low(p.draw),
+    )
+}
+
+// The point of an answer.
+pub fn spot_of(p: Point) -> Spot {
+    Spot {
+        grade: word(p, 1) as u64,
+        weight: word(p, 2) as u64,
+        moisture: word(p, 3) as u64,
+        speed: word(p, 4) as u64,
+        draw: word(p, 5) as u64,
+    }
+}
+
+// Whether an answer is the one expected.
+pub fn as_due(answer: Answer, due: Due) -> bool {
+    ((answer.code as u64) == due.code)
+        & same_spot(spot_of(answer.point), due.spot)
+        & ((answer.curve as u64) == due.curve)
+        & (answer.square == due.square)
+}

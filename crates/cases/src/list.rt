@@ -1,0 +1,129 @@
+// The list of the records held: each is looked for by a linear scan.
+use crate::book::AT_HELD;
+use crate::book::Due;
+use crate::book::Spot;
+use crate::book::at_record;
+use crate::book::put_spot;
+use crate::book::read_spot;
+use crate::book::same_spot;
+use crate::cells::get;
+use crate::cells::less;
+use crate::cells::more;
+use crate::cells::put;
+
+// The point of a record.
+pub fn spot_at(book: &[u64], i: u64) -> Spot {
+    read_spot(book, at_record(i, 0))
+}
+
+// The curve of a record.
+pub fn curve_at(book: &[u64], i: u64) -> u64 {
+    get(book, at_record(i, 5))
+}
+
+// The place of a point in the list; the number of records where it is not held.
+pub fn find(book: &[u64], p: Spot) -> u64 {
+    let held = get(book, AT_HELD);
+    for i in 0..held {
+        if same_spot(spot_at(book, i), p) {
+            return i;
+        }
+    }
+    held
+}
+
+// Writes a record at a place of the list.
+fn put_record(book: &mut [u64], i: u64, p: Spot, curve: u64) {
+    put_spot(book, at_record(i, 0), p);
+    put(book, at_record(i, 5), curve);
+}
+
+// A record is added at the end.
+pub fn hold(book: &mut [u64], p: Spot, curve: u64) {
+    let held = get(book, AT_HELD);
+    put_record(book, held, p, curve);
+    put(book, AT_HELD, more(held));
+}
+
+// A record is taken out, and the last one takes its place.
+pub fn drop_record(book: &mut [u64], p: Spot) {
+    let i = find(book, p);
+    let last = less(get(book, AT_HELD));
+    let moved = spot_at(book, last);
+    let curve = curve_at(book, last);
+    put_record(book, i, moved, curve);
+    put(book, AT_HELD, last);
+}
+
+// How far apart two numbers lie.
+fn apart(x: u64, y: u64) -> u64 {
+    if x < y { y - x } else { x - y }
+}
+
+// The square of a number, 0 for one past every range.
+fn squared(d: u64) -> u64 {
+    if d < 4294967296 { d * d } else { 0 }
+}
+
+// The square of two points: the sum of the squared differences on axes 2 to 5.
+fn square(a: Spot, b: Spot) -> u64 {
+    let weight = squared(apart(a.weight, b.weight));
+    let moisture = squared(apart(a.moisture, b.moisture));
+    let speed = squared(apart(a.speed, b.speed));
+    let draw = squared(apart(a.draw, b.draw));
+    let first = std::num::wrapping_add_u64(weight, moisture);
+    let second = std::num::wrapping_add_u64(speed, draw);
+    std::num::wrapping_add_u64(first, second)
+}
+
+// Whether a point is lower than another, axis by axis.
+fn lower(a: Spot, b: Spot) -> bool {
+    if a.grade != b.grade {
+        return a.grade < b.grade;
+    }
+    if a.weight != b.weight {
+        return a.weight < b.weight;
+    }
+    if a.moisture != b.moisture {
+        return a.moisture < b.moisture;
+    }
+    if a.speed != b.speed {
+        return a.speed < b.speed;
+    }
+    a.draw < b.draw
+}
+
+// Whether a record at a square is to be taken for the best so far: it is nearer, or as near and lower.
+fn better(best: Due, p: Spot, far: u64) -> bool {
+    (best.code == 9) | (far < best.square) | ((far == best.square) & lower(p, best.spot))
+}
+
+// The best so far, or a record of the target's grade that is better.
+fn considered(book: &[u64], i: u64, target: Spot, best: Due) -> Due {
+    let p = spot_at(book, i);
+    let far = square(target, p);
+    if (p.grade == target.grade) & better(best, p, far) {
+        Due {
+            code: 8,
+            spot: p,
+            curve: curve_at(book, i),
+            square: far,
+        }
+    } else {
+        best
+    }
+}
+
+// The answer of a nearest for the records held now.
+pub fn nearest(book: &[u64], target: Spot) -> Due {
+    let mut best = Due {
+        code: 9,
+        spot: target,
+        curve: 0,
+        square: 0,
+    };
+    for i in 0..get(book, AT_HELD) {
+        best = considered(book, i, target, best);
+    }
+    best
+}

@@ -1,0 +1,57 @@
+// Runs the cases that the claims of the index speak of, against a plain list of records beside it, and prints a line for each.
+mod book;
+mod cases;
+mod cells;
+mod drive;
+mod framed;
+mod history;
+mod list;
+mod orders;
+mod play;
+mod random;
+mod raw;
+mod reference;
+mod removals;
+mod script;
+mod stairs;
+mod tally;
+mod text;
+
+// Calls at the ends of their ranges.
+fn cases_of_calls(words: &mut [u32], spare: &mut [u32], book: &mut [u64]) {
+    cells::fill(words, 1515870810);
+    cases::openings(words, spare, book);
+    cases::submissions(words, spare, book);
+}
+
+// Every refusal.
+fn cases_of_refusals(words: &mut [u32], spare: &mut [u32], book: &mut [u64]) {
+    cases::refusals(words, spare, book);
+    cases::call_refusals(words, spare, book);
+    cases::step_refusals(words, spare, book);
+    cases::frame_refusals(words, spare, book);
+}
+
+// Several stations.
+fn cases_of_stations(words: &mut [u32], spare: &mut [u32], book: &mut [u64]) {
+    cases::case_n(words, spare, book);
+    cases::stations(words, spare, book);
+    cases::two_stations(words, spare, book);
+}
+
+// Random histories.
+fn cases_of_histories(words: &mut [u32], spare: &mut [u32], book: &mut [u64]) {
+    cases::short_histories(words, spare, book);
+    cases::long_histories(words, spare, book);
+}
+
+fn main() {
+    let mut words = [0u32; 131680];
+    let mut spare = [0u32; 131680];
+    let mut book = [0u64; 29000];
+    cases_of_calls(&mut words, &mut spare, &mut book);
+    cases_of_refusals(&mut words, &mut spare, &mut book);
+    cases_of_stations(&mut words, &mut spare, &mut book);
+    cases_of_histories(&mut words, &mut spare, &mut book);
+    tally::end(&book);
+}

@@ -1,0 +1,110 @@
+// Two actors, each with the calls of one station in a section of a text: their events in every order.
+use crate::book::AT_ACTORS;
+use crate::cells::count;
+use crate::cells::get;
+use crate::cells::low;
+use crate::cells::put;
+use crate::drive;
+use crate::reference;
+use crate::script;
+use crate::tally::judge;
+use crate::tally::tried;
+use crate::text::Row;
+use crate::text::row_of;
+
+// The events that are dealt out in every order, and the orders.
+const EVENTS: u32 = 14;
+
+const ORDERS: u32 = 16384;
+
+// The sections of a text with the opening, and with the calls of the one actor and of the other.
+const SETUP: u32 = 2;
+
+const ONE: u32 = 3;
+
+const OTHER: u32 = 4;
+
+// The next event of a call: its submission, a step, or its taking, which counts.
+fn event(words: &mut [u32], book: &mut [u64], n: [u32; 9], actor: usize) {
+    match reference::state(book, n[0]) {
+        0 => script::submit(words, book, n),
+        1 => {
+            drive::step(words, book, n[0]);
+        }
+        _ => {
+            script::take(words, book, n);
+            count(book, actor);
+        }
+    }
+}
+
+// The next call of an actor, whose calls made are counted in a cell.
+fn next_call(book: &[u64], text: &[u8], section: u32, actor: usize) -> Row {
+    row_of(text, section, low(get(book, actor)))
+}
+
+// The next event of an actor; none where all its calls are made.
+fn act(words: &mut [u32], book: &mut [u64], text: &[u8], section: u32, actor: usize) {
+    let row = next_call(book, text, section, actor);
+    let n = row.n;
+    if row.letter != 0 {
+        event(words, book, n, actor);
+        drive::judge_event(words, book);
+    }
+}
+
+// An event of the one actor or of the other.
+fn either(words: &mut [u32], book: &mut [u64], text: &[u8], first: bool) {
+    if first {
+        act(words, book, text, ONE, AT_ACTORS);
+    } else {
+        act(words, book, text, OTHER, AT_ACTORS + 1);
+    }
+}
+
+// Events in one order, a bit for each, and then what is left of the other actor and of the one.
+fn dealt(words: &mut [u32], book: &mut [u64], text: &[u8], order: u32) {
+    for k in 0..74u32 {
+        let first = if k < EVENTS {
+            (order >> k) & 1 == 1
+        } else {
+            44 <= k
+        };
+        either(words, book, text, first);
+    }
+}
+
+// Every call of an actor has been made.
+fn judge_made(book: &mut [u64], text: &[u8], section: u32, actor: usize) {
+    let row = next_call(book, text, section, actor);
+    judge(book, row.letter == 0);
+}
+
+// One order, from the opening.
+fn one_order(words: &mut [u32], book: &mut [u64], text: &[u8], order: u32) {
+    put(book, AT_ACTORS, 0);
+    put(book, AT_ACTORS + 1, 0);
+    setup(words, book, text);
+    dealt(words, book, text, order);
+    judge_made(book, text, ONE, AT_ACTORS);
+    judge_made(book, text, OTHER, AT_ACTORS + 1);
+}
+
+// The events before the first turn.
+fn setup(words: &mut [u32], book: &mut [u64], text: &[u8]) {
+    for k in 0..100u32 {
+        let row = row_of(text, SETUP, k);
+        if row.letter == 0 {
+            return;
+        }
+        script::event(words, book, row);
+    }
+}
+
+// Every order.
+pub fn every_order(words: &mut [u32], book: &mut [u64], text: &[u8]) {
+    for order in 0..ORDERS {
+        one_order(words, book, text, order);
+        tried(book);
+    }
+}

@@ -1,0 +1,69 @@
+// A case is run: its rows in turn, or two actors in every order, and its line is printed.
+use crate::history::events;
+use crate::history::histories;
+use crate::history::plan_of;
+use crate::orders::every_order;
+use crate::random::seed;
+use crate::raw;
+use crate::script;
+use crate::stairs::build;
+use crate::tally::begin_case;
+use crate::tally::end_case;
+use crate::tally::tried;
+use crate::text::Row;
+use crate::text::row_of;
+
+// A random history on the index as it is.
+fn busy(words: &mut [u32], spare: &mut [u32], book: &mut [u64], n: [u32; 9]) {
+    seed(book, 2026);
+    events(words, spare, book, plan_of(n));
+}
+
+// What a row asks for: h random histories of a plan, b one on the index as it is, x a stair, y every axis at its ends; a capital letter for a
+// call on the index alone, and any other for an event on the index and on the plain table.
+fn perform(words: &mut [u32], spare: &mut [u32], book: &mut [u64], row: Row) {
+    let n = row.n;
+    let letter = row.letter;
+    match letter {
+        b'h' => histories(words, spare, book, plan_of(n)),
+        b'b' => busy(words, spare, book, n),
+        b'x' => build(words, book, n[0] == 1),
+        b'y' => raw::ends(words, spare, book),
+        b'A'..=b'Z' => raw::judged(words, spare, book, row),
+        _ => counted(words, book, row),
+    }
+}
+
+// An event of a script, counted.
+fn counted(words: &mut [u32], book: &mut [u64], row: Row) {
+    tried(book);
+    script::event(words, book, row);
+}
+
+// Every row of a case.
+fn rows(words: &mut [u32], spare: &mut [u32], book: &mut [u64], text: &[u8]) {
+    for k in 0..200u32 {
+        let row = row_of(text, 2, k);
+        if row.letter == 0 {
+            return;
+        }
+        perform(words, spare, book, row);
+    }
+}
+
+// The rows of a case in turn, or, where it has two actors, in every order.
+fn run_rows(words: &mut [u32], spare: &mut [u32], book: &mut [u64], text: &[u8]) {
+    let actor = row_of(text, 3, 0);
+    if actor.letter == 0 {
+        rows(words, spare, book, text);
+    } else {
+        every_order(words, book, text);
+    }
+}
+
+// A case, from its text.
+pub fn run_case(words: &mut [u32], spare: &mut [u32], book: &mut [u64], text: &[u8]) {
+    begin_case(book);
+    run_rows(words, spare, book, text);
+    end_case(book, text);
+}

@@ -1,0 +1,101 @@
+// Checks are counted, and each case ends with a line.
+use crate::book::AT_CASES;
+use crate::book::AT_CHECKS;
+use crate::book::AT_TRIED;
+use crate::book::AT_WRONG;
+use crate::book::AT_WRONG_CASES;
+use crate::book::at_code;
+use crate::cells::count;
+use crate::cells::get;
+use crate::cells::put;
+use crate::text::start_of;
+use libc::STDOUT_FILENO;
+
+// One check, right or wrong.
+pub fn judge(book: &mut [u64], right: bool) {
+    count(book, AT_CHECKS);
+    if !right {
+        count(book, AT_WRONG);
+    }
+}
+
+// One more thing tried.
+pub fn tried(book: &mut [u64]) {
+    count(book, AT_TRIED);
+}
+
+// Whether answers of a code were taken in the case under way.
+pub fn met(book: &[u64], code: u32) -> bool {
+    0 < get(book, at_code(code))
+}
+
+// A new case begins.
+pub fn begin_case(book: &mut [u64]) {
+    put(book, AT_TRIED, 0);
+    put(book, AT_CHECKS, 0);
+    put(book, AT_WRONG, 0);
+    for code in 0..10u32 {
+        put(book, at_code(code), 0);
+    }
+}
+
+// A number, with what stands before it.
+fn say_count(n: u64, before: &[u8]) {
+    io::write_all(STDOUT_FILENO, before);
+    io::print_decimal(STDOUT_FILENO, n);
+}
+
+// Says how a case went.
+fn say_verdict(checks: u64, wrong: u64) {
+    say_count(checks, b", ");
+    if wrong == 0 {
+        io::write_all(STDOUT_FILENO, b" checks: ok\n");
+    } else {
+        say_count(wrong, b" checks: ");
+        io::write_all(STDOUT_FILENO, b" WRONG\n");
+    }
+}
+
+// A part of a text.
+fn say_part(text: &[u8], start: usize, end: usize) {
+    if start <= end {
+        if end <= text.len() {
+            io::write_all(STDOUT_FILENO, &text[start..end]);
+        }
+    }
+}
+
+// A section of a case's text, without the bar after it.
+fn say_section(text: &[u8], section: u32) {
+    let next = start_of(text, if section == 0 { 1 } else { 2 }, 0);
+    if 0 < next {
+        say_part(text, start_of(text, section, 0), next - 1);
+    }
+}
+
+// The line of a case: its name, how many of what were tried, the checks, and the verdict. A case with no check is wrong.
+pub fn end_case(book: &mut [u64], text: &[u8]) {
+    judge(book, 0 < get(book, AT_CHECKS));
+    say_section(text, 0);
+    say_count(get(book, AT_TRIED), b": ");
+    io::write_all(STDOUT_FILENO, b" ");
+    say_section(text, 1);
+    end_line(book);
+}
+
+// The checks, the verdict, and the count of cases.
+fn end_line(book: &mut [u64]) {
+    let wrong = get(book, AT_WRONG);
+    say_verdict(get(book, AT_CHECKS), wrong);
+    count(book, AT_CASES);
+    if 0 < wrong {
+        count(book, AT_WRONG_CASES);
+    }
+}
+
+// The last line.
+pub fn end(book: &[u64]) {
+    say_count(get(book, AT_CASES), b"");
+    say_count(get(book, AT_WRONG_CASES), b" cases, ");
+    io::write_all(STDOUT_FILENO, b" wrong\n");
+}

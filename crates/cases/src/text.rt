@@ -1,0 +1,169 @@
+// The text of a case. Bars part its sections: its name, what it counts, its rows, and where two actors meet the rows of each. A row is a
+// letter and up to nine numbers, and ends with a semicolon.
+
+// A row: its letter, 0 where there is no such row, and its numbers, 0 where they are left out.
+pub struct Row {
+    pub letter: u8,
+    pub n: [u32; 9],
+}
+
+// A place in a text: sections and rows passed.
+struct Place {
+    section: u32,
+    row: u32,
+}
+
+// A row as far as it is read: the numbers begun, whether the last byte was a digit, and whether the row has ended.
+struct Reading {
+    row: Row,
+    begun: usize,
+    digit: bool,
+    ended: bool,
+}
+
+// The byte at a place, 0 past the end.
+fn byte(text: &[u8], at: usize) -> u8 {
+    if at < text.len() { text[at] } else { 0 }
+}
+
+// A byte as a number of 64 bits.
+fn wide(x: u8) -> u64 {
+    x as u64
+}
+
+// One more, which stops at a great number.
+fn more(x: u32) -> u32 {
+    if x < 1000000 { x + 1 } else { x }
+}
+
+// The place after a byte.
+fn past(place: Place, byte: u8) -> Place {
+    match byte {
+        b'|' => Place {
+            section: more(place.section),
+            row: 0,
+        },
+        b';' => Place {
+            section: place.section,
+            row: more(place.row),
+        },
+        _ => place,
+    }
+}
+
+// Where a row begins; the end of the text where there is none.
+pub fn start_of(text: &[u8], section: u32, row: u32) -> usize {
+    let mut place = Place { section: 0, row: 0 };
+    for i in 0..text.len() {
+        if (place.section == section) & (place.row == row) {
+            return i;
+        }
+        place = past(place, byte(text, i));
+    }
+    text.len()
+}
+
+// The number of a row after one more digit.
+fn grown(x: u32, digit: u8) -> u32 {
+    let d = wide(digit) % 16;
+    ((10 * (x as u64) + d) % 4294967296) as u32
+}
+
+// The numbers of a row after one more digit of the number at a place.
+fn with_digit(n: [u32; 9], at: usize, digit: u8) -> [u32; 9] {
+    let mut m = n;
+    if at < 9 {
+        m[at] = grown(n[at], digit);
+    }
+    m
+}
+
+// The numbers begun after a digit: one more, unless the byte before it was a digit too.
+fn begun_after(begun: usize, digit: bool) -> usize {
+    if digit {
+        return begun;
+    }
+    if 9 <= begun {
+        return begun;
+    }
+    begun + 1
+}
+
+// The place of the last number begun.
+fn last(begun: usize) -> usize {
+    if 0 < begun { begun - 1 } else { 0 }
+}
+
+// A digit goes to the number begun, or begins the next one.
+fn digit_read(r: Reading, digit: u8) -> Reading {
+    let old = r.row;
+    let begun = begun_after(r.begun, r.digit);
+    let numbers = old.n;
+    let n = with_digit(numbers, last(begun), digit);
+    Reading {
+        row: Row {
+            letter: old.letter,
+            n: n,
+        },
+        begun: begun,
+        digit: true,
+        ended: false,
+    }
+}
+
+// Any other byte: an end, a blank, or the row's letter.
+fn other_read(r: Reading, byte: u8) -> Reading {
+    let old = r.row;
+    let n = old.n;
+    let ended = (byte == b';') | (byte == b'|');
+    let letter = if ended | (byte < b'A') {
+        old.letter
+    } else {
+        byte
+    };
+    Reading {
+        row: Row {
+            letter: letter,
+            n: n,
+        },
+        begun: r.begun,
+        digit: false,
+        ended: ended,
+    }
+}
+
+// One more byte of a row; nothing changes after its end.
+fn read(r: Reading, byte: u8) -> Reading {
+    if r.ended {
+        return r;
+    }
+    match byte {
+        b'0'..=b'9' => digit_read(r, byte),
+        _ => other_read(r, byte),
+    }
+}
+
+// The row that begins at a place.
+fn row_from(text: &[u8], start: usize) -> Row {
+    let mut r = Reading {
+        row: Row {
+            letter: 0,
+            n: [0; 9],
+        },
+        begun: 0,
+        digit: false,
+        ended: false,
+    };
+    for i in start..text.len() {
+        if r.ended {
+            return r.row;
+        }
+        r = read(r, byte(text, i));
+    }
+    r.row
+}
+
+// A row of a section.
+pub fn row_of(text: &[u8], section: u32, row: u32) -> Row {
+    row_from(text, start_of(text, section, row))
+}

@@ -1,0 +1,39 @@
+// Damage: a word of a live index is replaced.
+use crate::cells::low;
+use crate::cells::put_word;
+use crate::cells::word;
+use crate::random::below;
+use crate::random::next;
+
+// The place of a word: the common record, a station's record, or a row.
+fn some_place(book: &mut [u64]) -> usize {
+    match below(book, 4) {
+        0 => below(book, 96) as usize,
+        1 => below(book, 608) as usize,
+        _ => below(book, 800) as usize,
+    }
+}
+
+// What takes the place of a word: the word with one bit flipped, 0, all bits, a small number, or any number.
+fn harmed(book: &mut [u64], old: u32) -> u32 {
+    let k = low(below(book, 32));
+    match below(book, 6) {
+        0 | 1 => old ^ flip(k),
+        2 => 0,
+        3 => 4294967295,
+        4 => k,
+        _ => next(book),
+    }
+}
+
+// A word with one bit set.
+fn flip(k: u32) -> u32 {
+    if k < 32 { 1u32 << k } else { 0 }
+}
+
+// One word of the index is replaced.
+pub fn harm(words: &mut [u32], book: &mut [u64]) {
+    let at = some_place(book);
+    let new = harmed(book, word(words, at));
+    put_word(words, at, new);
+}

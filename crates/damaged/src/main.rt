@@ -1,0 +1,242 @@
+// Damages words of a live index at random and makes every call on it: each call returns with one of document 01's numbers or an answer, a
+// refused one changes nothing, and none touches a word outside of its slice.
+mod calls;
+mod cells;
+mod harm;
+mod random;
+
+use calls::call;
+use calls::is_allowed;
+use cells::copy;
+use cells::count;
+use cells::fill;
+use cells::get;
+use cells::same;
+use libc::STDOUT_FILENO;
+use random::below;
+use random::seed;
+
+// The index of six places, in the middle of a larger slice.
+const START: usize = 100;
+
+const END: usize = 900;
+
+const WHOLE: usize = 1000;
+
+const PLACES: u32 = 6;
+
+const LIMIT: u32 = 60;
+
+// The rounds, and the calls of a round before the first damage and after it.
+const ROUNDS: u32 = 3000;
+
+const BEFORE: u32 = 60;
+
+const AFTER: u32 = 60;
+
+// Of the book: the checks, the wrong ones, the damaged words, the calls of a kind, and how often each number was given.
+const AT_CHECKS: usize = 1;
+
+const AT_WRONG: usize = 2;
+
+const AT_DAMAGED: usize = 3;
+
+const AT_CALLS: usize = 8;
+
+const AT_NUMBERS: usize = 16;
+
+const CELLS: usize = 128;
+
+// One check.
+fn judge(book: &mut [u64], right: bool) {
+    count(book, AT_CHECKS);
+    if !right {
+        count(book, AT_WRONG);
+    }
+}
+
+// A place in the book, from a start.
+fn at(start: usize, n: u64) -> usize {
+    if n < 16 {
+        if start < CELLS {
+            return start + (n as usize);
+        }
+    }
+    CELLS
+}
+
+// A call of a kind on the middle part.
+fn call_within(whole: &mut [u32], book: &mut [u64], kind: u64) -> u32 {
+    if whole.len() < END {
+        return 99;
+    }
+    call(&mut whole[START..END], book, kind)
+}
+
+// Whether the call can have changed nothing: it was refused, and was no run; or it was a report or an audit.
+fn changes_nothing(kind: u64, number: u32) -> bool {
+    ((number != 0) & (kind != calls::RUN)) | (kind == calls::REPORT) | (kind == calls::AUDIT)
+}
+
+// Whether the words around the middle part are as they were.
+fn outside_kept(whole: &[u32], spare: &[u32]) -> bool {
+    same(whole, spare, 0, START) & same(whole, spare, END, WHOLE)
+}
+
+// What is asked after a call: its number, the words around the slice, and every word where it changes nothing.
+fn judge_call(whole: &[u32], spare: &[u32], book: &mut [u64], kind: u64, number: u32) {
+    let kept = !changes_nothing(kind, number) | same(whole, spare, START, END);
+    judge(book, is_allowed(kind, number));
+    judge(book, outside_kept(whole, spare));
+    judge(book, kept);
+}
+
+// A call is counted by its kind, and by its number but for an audit.
+fn count_call(book: &mut [u64], kind: u64, number: u32) {
+    let place = if kind == calls::AUDIT {
+        13
+    } else {
+        number as u64
+    };
+    count(book, at(AT_CALLS, kind));
+    count(book, at(AT_NUMBERS, place));
+}
+
+// A kind of call; mostly submissions and steps.
+fn some_kind(book: &mut [u64]) -> u64 {
+    match below(book, 16) {
+        0..=3 => calls::SUBMIT,
+        4..=9 => calls::STEP,
+        10 => calls::RUN,
+        11 | 12 => calls::TAKE,
+        13 => calls::REPORT,
+        14 => calls::AUDIT,
+        _ => calls::OPEN,
+    }
+}
+
+// A random call with what is asked after it.
+fn judged_call(whole: &mut [u32], spare: &mut [u32], book: &mut [u64]) {
+    let kind = some_kind(book);
+    copy(whole, spare);
+    let number = call_within(whole, book, kind);
+    judge_call(whole, spare, book, kind, number);
+    count_call(book, kind, number);
+}
+
+// One word of the middle part is damaged.
+fn damage(whole: &mut [u32], book: &mut [u64]) {
+    if END <= whole.len() {
+        harm::harm(&mut whole[START..END], book);
+    }
+}
+
+// One word is damaged, or now and then none.
+fn some_damage(whole: &mut [u32], book: &mut [u64], often: u64) {
+    if below(book, 8) < often {
+        count(book, AT_DAMAGED);
+        damage(whole, book);
+    }
+}
+
+// The middle part is opened, whatever it holds. Gives the number of the opening, or that of the audit, which says yes.
+fn open_within(whole: &mut [u32]) -> u32 {
+    if whole.len() < END {
+        return 99;
+    }
+    let number = steps::open::open(&mut whole[START..END], PLACES, LIMIT);
+    if number != 0 {
+        return number;
+    }
+    calls::audit(&whole[START..END])
+}
+
+// An opening is accepted, and leaves the words around the middle part.
+fn judged_opening(whole: &mut [u32], spare: &mut [u32], book: &mut [u64]) {
+    copy(whole, spare);
+    let number = open_within(whole);
+    judge(book, number == 0);
+    judge(book, outside_kept(whole, spare));
+}
+
+// Calls on an undamaged index.
+fn live(whole: &mut [u32], spare: &mut [u32], book: &mut [u64]) {
+    for n in 0..BEFORE {
+        judged_call(whole, spare, book);
+    }
+}
+
+// Calls on a damaged one, with more damage between them.
+fn damaged(whole: &mut [u32], spare: &mut [u32], book: &mut [u64]) {
+    some_damage(whole, book, 8);
+    for n in 0..AFTER {
+        some_damage(whole, book, 1);
+        judged_call(whole, spare, book);
+    }
+}
+
+// Each round opens the slice that the round before damaged.
+fn rounds(whole: &mut [u32], spare: &mut [u32], book: &mut [u64]) {
+    for n in 0..ROUNDS {
+        judged_opening(whole, spare, book);
+        live(whole, spare, book);
+        damaged(whole, spare, book);
+    }
+}
+
+// A count and what it counts, on a line.
+fn say(name: &[u8], n: u64) {
+    io::write_all(STDOUT_FILENO, name);
+    io::print_decimal(STDOUT_FILENO, n);
+    io::write_all(STDOUT_FILENO, b"\n");
+}
+
+// A line for each number that a call can give.
+fn say_numbers(book: &[u64]) {
+    for number in 0..13u64 {
+        io::write_all(STDOUT_FILENO, b"calls that gave ");
+        io::print_decimal(STDOUT_FILENO, number);
+        say(b": ", get(book, at(AT_NUMBERS, number)));
+    }
+}
+
+// The calls of each kind.
+fn say_calls(book: &[u64]) {
+    say(b"words damaged: ", get(book, AT_DAMAGED));
+    say(b"submissions: ", get(book, at(AT_CALLS, calls::SUBMIT)));
+    say(b"steps: ", get(book, at(AT_CALLS, calls::STEP)));
+    say(b"runs: ", get(book, at(AT_CALLS, calls::RUN)));
+}
+
+// The rest of them.
+fn say_more_calls(book: &[u64]) {
+    say(b"takings: ", get(book, at(AT_CALLS, calls::TAKE)));
+    say(b"reports: ", get(book, at(AT_CALLS, calls::REPORT)));
+    say(b"audits: ", get(book, at(AT_CALLS, calls::AUDIT)));
+    say(
+        b"openings that are refused: ",
+        get(book, at(AT_CALLS, calls::OPEN)),
+    );
+}
+
+// The checks, and the wrong ones.
+fn say_checks(book: &[u64]) {
+    say(
+        b"checks of a number, of the words outside, of the words kept: ",
+        get(book, AT_CHECKS),
+    );
+    say(b"wrong: ", get(book, AT_WRONG));
+}
+
+fn main() {
+    let mut whole = [0u32; 1000];
+    let mut spare = [0u32; 1000];
+    let mut book = [0u64; 128];
+    fill(&mut whole, 1515870810);
+    seed(&mut book, 2026);
+    rounds(&mut whole, &mut spare, &mut book);
+    say_calls(&book);
+    say_more_calls(&book);
+    say_numbers(&book);
+    say_checks(&book);
+}
