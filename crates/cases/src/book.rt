@@ -1,16 +1,13 @@
 // The book of a run: the plain table that the index is judged by, the tallies and the generator, in one lent slice of cells. It holds nothing
-// of the index.
-use crate::cells::get;
-use crate::cells::less;
-use crate::cells::low;
-use crate::cells::put;
+// of the index. Cell 0 is the state of the generator (`trial::random`).
 use points::point::Point;
 use points::word::point_at;
 use points::word::word;
 use rows::answer::Answer;
-
-// The generator's state.
-pub const AT_RANDOM: usize = 0;
+use trial::cells::get;
+use trial::cells::less;
+use trial::cells::low;
+use trial::cells::put;
 
 // Places and change limit of the opening, changes, records held, removals awaited.
 pub const AT_PLACES: usize = 1;

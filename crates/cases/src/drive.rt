@@ -4,9 +4,6 @@ use crate::book::Spot;
 use crate::book::as_due;
 use crate::book::at_code;
 use crate::book::point_of;
-use crate::cells::copy;
-use crate::cells::count;
-use crate::cells::get;
 use crate::reference;
 use crate::tally::judge;
 use rows::answer::Waiting;
@@ -14,6 +11,9 @@ use rows::answer::read_waiting;
 use steps::audit::audit;
 use steps::report::read_report;
 use steps::take::Taking;
+use trial::cells::copy;
+use trial::cells::count;
+use trial::cells::get;
 
 // The most steps of a call that is left alone, as document 01 allows them.
 fn most_steps(book: &[u64]) -> u64 {

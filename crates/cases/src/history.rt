@@ -1,17 +1,17 @@
 // Long random histories over all eight stations, from the fixed generator, each event judged by the plain table.
 use crate::book::AT_HELD;
 use crate::book::Spot;
-use crate::cells::copy;
-use crate::cells::get;
-use crate::cells::low;
-use crate::cells::same_from;
 use crate::drive;
 use crate::list::spot_at;
-use crate::random::below;
-use crate::random::seed;
 use crate::tally::judge;
 use crate::tally::met;
 use crate::tally::tried;
+use trial::cells::copy;
+use trial::cells::get;
+use trial::cells::low;
+use trial::cells::same_from;
+use trial::random::below;
+use trial::random::seed;
 
 // A kind of history: its opening, how many weights its points have, a code that must come up, how many histories and their events, whether
 // the audit is asked after each event, and after how many events each unfinished call is tried alone.

@@ -6,10 +6,10 @@ use crate::book::at_record;
 use crate::book::put_spot;
 use crate::book::read_spot;
 use crate::book::same_spot;
-use crate::cells::get;
-use crate::cells::less;
-use crate::cells::more;
-use crate::cells::put;
+use trial::cells::get;
+use trial::cells::less;
+use trial::cells::more;
+use trial::cells::put;
 
 // The point of a record.
 pub fn spot_at(book: &[u64], i: u64) -> Spot {

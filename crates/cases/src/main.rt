@@ -1,14 +1,12 @@
 // Runs the cases that the claims of the index speak of, against a plain list of records beside it, and prints a line for each.
 mod book;
 mod cases;
-mod cells;
 mod drive;
 mod framed;
 mod history;
 mod list;
 mod orders;
 mod play;
-mod random;
 mod raw;
 mod reference;
 mod removals;
@@ -17,9 +15,11 @@ mod stairs;
 mod tally;
 mod text;
 
+use trial::cells::fill;
+
 // Calls at the ends of their ranges.
 fn cases_of_calls(words: &mut [u32], spare: &mut [u32], book: &mut [u64]) {
-    cells::fill(words, 1515870810);
+    fill(words, 1515870810);
     cases::openings(words, spare, book);
     cases::submissions(words, spare, book);
 }

@@ -1,9 +1,5 @@
 // Two actors, each with the calls of one station in a section of a text: their events in every order.
 use crate::book::AT_ACTORS;
-use crate::cells::count;
-use crate::cells::get;
-use crate::cells::low;
-use crate::cells::put;
 use crate::drive;
 use crate::reference;
 use crate::script;
@@ -11,6 +7,10 @@ use crate::tally::judge;
 use crate::tally::tried;
 use crate::text::Row;
 use crate::text::row_of;
+use trial::cells::count;
+use trial::cells::get;
+use trial::cells::low;
+use trial::cells::put;
 
 // The events that are dealt out in every order, and the orders.
 const EVENTS: u32 = 14;

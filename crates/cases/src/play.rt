@@ -3,7 +3,6 @@ use crate::history::events;
 use crate::history::histories;
 use crate::history::plan_of;
 use crate::orders::every_order;
-use crate::random::seed;
 use crate::raw;
 use crate::script;
 use crate::stairs::build;
@@ -12,6 +11,7 @@ use crate::tally::end_case;
 use crate::tally::tried;
 use crate::text::Row;
 use crate::text::row_of;
+use trial::random::seed;
 
 // A random history on the index as it is.
 fn busy(words: &mut [u32], spare: &mut [u32], book: &mut [u64], n: [u32; 9]) {

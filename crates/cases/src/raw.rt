@@ -2,9 +2,6 @@
 // a capital letter for the call, how many words it is lent, four arguments and the number.
 use crate::book::point_of;
 use crate::book::sheet;
-use crate::cells::copy;
-use crate::cells::put_word;
-use crate::cells::same_from;
 use crate::framed::framed;
 use crate::tally::judge;
 use crate::tally::tried;
@@ -18,6 +15,9 @@ use steps::step::step;
 use steps::submit::submit;
 use steps::take::Taking;
 use steps::take::take;
+use trial::cells::copy;
+use trial::cells::put_word;
+use trial::cells::same_from;
 ghost use Prim.Native.Nat.{_<_};
 
 // A number that no call gives.

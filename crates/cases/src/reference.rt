@@ -10,9 +10,6 @@ use crate::book::Spot;
 use crate::book::at_station;
 use crate::book::put_spot;
 use crate::book::read_spot;
-use crate::cells::count;
-use crate::cells::get;
-use crate::cells::put;
 use crate::list::curve_at;
 use crate::list::drop_record;
 use crate::list::find;
@@ -20,6 +17,9 @@ use crate::list::hold;
 use crate::list::nearest;
 use crate::removals::release;
 use crate::removals::set_down;
+use trial::cells::count;
+use trial::cells::get;
+use trial::cells::put;
 
 // The states of a station.
 pub const IDLE: u64 = 0;

@@ -1,12 +1,12 @@
 // Each removal is kept with the nearest calls that were unfinished at its moment, a bit for each station, until the last of them is answered.
 use crate::book::AT_AWAITED;
 use crate::book::at_removal;
-use crate::cells::get;
-use crate::cells::more;
-use crate::cells::put;
 use crate::reference::UNFINISHED;
 use crate::reference::kind;
 use crate::reference::state;
+use trial::cells::get;
+use trial::cells::more;
+use trial::cells::put;
 
 // The bits of all eight stations.
 const ALL: u64 = 255;

@@ -5,11 +5,11 @@ use crate::book::AT_TRIED;
 use crate::book::AT_WRONG;
 use crate::book::AT_WRONG_CASES;
 use crate::book::at_code;
-use crate::cells::count;
-use crate::cells::get;
-use crate::cells::put;
 use crate::text::start_of;
 use libc::STDOUT_FILENO;
+use trial::cells::count;
+use trial::cells::get;
+use trial::cells::put;
 
 // One check, right or wrong.
 pub fn judge(book: &mut [u64], right: bool) {

@@ -1,11 +1,11 @@
 // Every call on an index, with random arguments. Each gives its number: 0, or that of the question that failed.
-use crate::cells::low;
-use crate::random::below;
-use crate::random::next;
 use points::point::Point;
 use points::word::point_at;
 use rows::answer::answer_sound;
 use steps::take::Taking;
+use trial::cells::low;
+use trial::random::below;
+use trial::random::next;
 
 // The kinds of calls.
 pub const SUBMIT: u64 = 0;

@@ -1,9 +1,9 @@
 // Damage: a word of a live index is replaced.
-use crate::cells::low;
-use crate::cells::put_word;
-use crate::cells::word;
-use crate::random::below;
-use crate::random::next;
+use trial::cells::low;
+use trial::cells::put_word;
+use trial::cells::word;
+use trial::random::below;
+use trial::random::next;
 
 // The place of a word: the common record, a station's record, or a row.
 fn some_place(book: &mut [u64]) -> usize {

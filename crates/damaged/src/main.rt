@@ -1,20 +1,18 @@
 // Damages words of a live index at random and makes every call on it: each call returns with one of document 01's numbers or an answer, a
 // refused one changes nothing, and none touches a word outside of its slice.
 mod calls;
-mod cells;
 mod harm;
-mod random;
 
 use calls::call;
 use calls::is_allowed;
-use cells::copy;
-use cells::count;
-use cells::fill;
-use cells::get;
-use cells::same;
 use libc::STDOUT_FILENO;
-use random::below;
-use random::seed;
+use trial::cells::copy;
+use trial::cells::count;
+use trial::cells::fill;
+use trial::cells::get;
+use trial::cells::same;
+use trial::random::below;
+use trial::random::seed;
 
 // The index of six places, in the middle of a larger slice.
 const START: usize = 100;

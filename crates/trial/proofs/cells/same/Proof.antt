@@ -1,6 +1,6 @@
 use borrow.Author.Needs.{needs}
-use Rattle.damaged.proofs.cells.same.Statement.{statement}
-use Rattle.damaged.proofs.cells.same.Tie as tie
+use Rattle.trial.proofs.cells.same.Statement.{statement}
+use Rattle.trial.proofs.cells.same.Tie as tie
 use Prim.Native.Nat.{_-_}
 
 abbrev Inv-loop : tie.InvT-loop

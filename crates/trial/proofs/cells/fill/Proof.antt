@@ -1,21 +1,18 @@
 use borrow.Author.Needs.{needs}
-use Rattle.damaged.proofs.cells.copy.Statement.{statement}
-use Rattle.damaged.proofs.cells.copy.Tie as tie
+use Rattle.trial.proofs.cells.fill.Statement.{statement}
+use Rattle.trial.proofs.cells.fill.Tie as tie
 use mathlib.Core.Path.{_≡_}
 use lib.ListN.{length}
 use Prim.Native.Nat.{_-_}
 
 abbrev Inv-loop : tie.InvT-loop
-Inv-loop from to₀ i₀ i-end to i = (length to ≡ length to₀)
+Inv-loop words₀ value i₀ i-end words i = (length words ≡ length words₀)
 
 abbrev μ-loop : tie.MeasureT-loop
-μ-loop from to₀ i₀ i-end to i = i-end - i
+μ-loop words₀ value i₀ i-end words i = i-end - i
 
 loop-holds : tie.Need-loop-holds Inv-loop μ-loop
 loop-holds c = search needs
-
-word-requires : tie.Need-word-requires Inv-loop μ-loop
-word-requires c κs = search needs
 
 put-word-requires : tie.Need-put-word-requires Inv-loop μ-loop
 put-word-requires c κs = search needs
@@ -35,14 +32,13 @@ same-length c = search needs
 returns : tie.Need-returns Inv-loop μ-loop
 returns c = search needs
 
-pub copy-spec : {M : Type 1} → statement M
-copy-spec =
+pub fill-spec : {M : Type 1} → statement M
+fill-spec =
     tie.close
     (tie.spec
     Inv-loop
     μ-loop
     loop-holds
-    word-requires
     put-word-requires
     add-i
     loop-less

@@ -1,8 +1,10 @@
-// Numbers from a fixed generator, the same in every run. Its state is a cell of the book.
-use crate::book::AT_RANDOM;
+// Numbers from a fixed generator, the same in every run. Its state is the first cell of a book.
 use crate::cells::get;
 use crate::cells::low;
 use crate::cells::put;
+
+// The place of the generator's state.
+const AT_RANDOM: usize = 0;
 
 // The number after x: three shifts of 32 bits, by 13, 17 and 5.
 fn after(x: u32) -> u32 {

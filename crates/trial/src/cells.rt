@@ -52,14 +52,19 @@ pub fn copy(from: &[u32], to: &mut [u32]) {
     }
 }
 
-// Whether a slice agrees with another from a place to its end.
-pub fn same_from(a: &[u32], b: &[u32], from: usize) -> bool {
-    for i in from..a.len() {
+// Whether two slices agree from a place up to another.
+pub fn same(a: &[u32], b: &[u32], from: usize, end: usize) -> bool {
+    for i in from..end {
         if word(a, i) != word(b, i) {
             return false;
         }
     }
     true
+}
+
+// Whether a slice agrees with another from a place to its end.
+pub fn same_from(a: &[u32], b: &[u32], from: usize) -> bool {
+    same(a, b, from, a.len())
 }
 
 // The same word everywhere.
