@@ -1,5 +1,7 @@
 // The benchmark of the steps: an index and a flat scan of the same records, side by side in one run.
+#define _GNU_SOURCE
 #include "measure.h"
+#include <sched.h>
 #include <stdio.h>
 #include <stdlib.h>
 
@@ -56,14 +58,24 @@ static void calls_of(struct pair *pair, uint32_t places)
 
 static void steps_of(struct pair *pair, const char *name, struct six (*measure)(struct pair *, uint32_t))
 {
-    struct six best = {0, 0};
+    uint32_t best = LONGEST;
+    uint64_t steps = 0;
     for (int round = 0; round < ROUNDS; round++) {
         fill(pair, MOST_PLACES, MOST_PLACES);
         struct six six = measure(pair, CALLS);
-        if (round == 0 || six.time < best.time)
-            best = six;
+        best = median(&six) < best ? median(&six) : best;
+        steps = six.steps;
     }
-    printf("%-14s  %8llu steps  %6.1f ns each\n", name, (unsigned long long)best.steps, best.time / (double)best.steps);
+    printf("%-14s  %8llu steps  %6u ns, the median\n", name, (unsigned long long)steps, best);
+}
+
+// One processor throughout: the clocks of two may differ.
+static void stay_here(void)
+{
+    cpu_set_t here;
+    CPU_ZERO(&here);
+    CPU_SET(sched_getcpu(), &here);
+    sched_setaffinity(0, sizeof here, &here);
 }
 
 int main(void)
@@ -73,6 +85,7 @@ int main(void)
     struct pair pair = {{calloc(words_for(MOST_PLACES), sizeof(uint32_t)), 0}, &flat, UNIFORM};
     if (pair.index.words == NULL)
         return 1;
+    stay_here();
     printf("%6s  %-9s  %-8s  %10s  %10s  %9s  %11s  %8s\n", "places", "records", "call", "steps/call", "index ns", "flat ns", "index/flat",
            "step ns");
     for (int i = 0; i < 2; i++)

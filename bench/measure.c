@@ -127,40 +127,47 @@ void measure_changes(struct pair *pair, uint32_t calls, struct times *removes, s
     }
 }
 
-// What reading the clock twice costs at least.
-static double clock_cost(void)
-{
-    double least = 1e9;
-    for (int i = 0; i < 10000; i++) {
-        double begin = now();
-        double cost = now() - begin;
-        least = cost < least ? cost : least;
-    }
-    return least;
-}
-
+// The time of a step, less what reading the clock cost right before it.
 static double timed_step(struct index index, uint32_t s)
 {
+    double before = now();
     double begin = now();
     step(index, s);
-    return now() - begin;
+    double end = now();
+    return (end - begin) - (begin - before);
+}
+
+// One more step that read six rows.
+static void took(struct six *six, double time)
+{
+    uint32_t at = time <= 0 ? 0 : time >= LONGEST - 1 ? LONGEST - 1 : (uint32_t)time;
+    six->took[at]++;
+    six->steps++;
+}
+
+uint32_t median(const struct six *six)
+{
+    uint64_t below = 0;
+    for (uint32_t time = 0; time < LONGEST; time++) {
+        below += six->took[time];
+        if (2 * below >= six->steps)
+            return time;
+    }
+    return LONGEST;
 }
 
 // A step from a cut to a cut has read six rows.
 struct six measure_walks(struct pair *pair, uint32_t calls)
 {
-    struct six six = {0, 0};
+    struct six six = {0};
     struct index index = pair->index;
-    double cost = clock_cost();
     for (uint32_t n = 0; n < calls; n++) {
         submit(index, 0, (struct call){CONTAINS, held_record(pair)});
         while (unfinished(index, 0)) {
             uint32_t from = kind_of(index, cursor_of(index, 0));
-            double time = timed_step(index, 0) - cost;
-            if (from == CUT && unfinished(index, 0) && kind_of(index, cursor_of(index, 0)) == CUT) {
-                six.time += time;
-                six.steps++;
-            }
+            double time = timed_step(index, 0);
+            if (from == CUT && unfinished(index, 0) && kind_of(index, cursor_of(index, 0)) == CUT)
+                took(&six, time);
         }
         take(index, 0);
     }
@@ -168,26 +175,24 @@ struct six measure_walks(struct pair *pair, uint32_t calls)
 }
 
 // A search step that looks at a missed row and the row after it, and goes up twice, has read six rows.
-static void search_step(struct index index, uint32_t s, double cost, struct six *six)
+static void search_step(struct index index, uint32_t s, struct six *six)
 {
     uint32_t row = cursor_of(index, s), missed = missed_of(index, s);
     uint32_t above = row == NONE ? NONE : link_of(index, row);
     uint32_t top = above == NONE ? NONE : link_of(index, above);
     int up = phase_of(index, s) == 1 && top != NONE && missed != NONE && link_of(index, missed) != NONE;
-    double time = timed_step(index, s) - cost;
-    if (up && unfinished(index, s) && phase_of(index, s) == 1 && cursor_of(index, s) == top) {
-        six->time += time;
-        six->steps++;
-    }
+    double time = timed_step(index, s);
+    if (up && unfinished(index, s) && phase_of(index, s) == 1 && cursor_of(index, s) == top)
+        took(six, time);
 }
 
 // The seven searches go one step each; gives whether any is unfinished.
-static int round_of_steps(struct index index, double cost, struct six *six)
+static int round_of_steps(struct index index, struct six *six)
 {
     int left = 0;
     for (uint32_t s = 0; s < REMOVER; s++)
         if (unfinished(index, s)) {
-            search_step(index, s, cost, six);
+            search_step(index, s, six);
             left = 1;
         }
     return left;
@@ -197,16 +202,15 @@ static int round_of_steps(struct index index, double cost, struct six *six)
 // again when all are done.
 struct six measure_searches(struct pair *pair, uint32_t calls)
 {
-    struct six six = {0, 0};
+    struct six six = {0};
     struct index index = pair->index;
-    double cost = clock_cost();
     for (uint32_t n = 0; n < calls; n += REMOVER) {
         struct call removes[STATIONS];
         uint32_t round = 0, gone = 0;
         draw_removes(pair, removes);
         for (uint32_t s = 0; s < REMOVER; s++)
             submit(index, s, (struct call){NEAREST, random_record(pair->spread)});
-        while (round_of_steps(index, cost, &six))
+        while (round_of_steps(index, &six))
             if (++round > ROUNDS_DOWN && gone < STATIONS)
                 finish(index, REMOVER, removes[gone++]);
         for (uint32_t s = 0; s < REMOVER; s++)

@@ -21,10 +21,11 @@ struct times {
     uint64_t calls;
 };
 
-// The time of all steps that read six rows, and their number.
+// How many steps that read six rows took each number of nanoseconds; the last count has all that took longer.
+#define LONGEST 4096
 struct six {
-    double time;
     uint64_t steps;
+    uint32_t took[LONGEST];
 };
 
 // Opens the index and fills it and the array with records drawn from the seed.
@@ -37,5 +38,8 @@ void measure_changes(struct pair *pair, uint32_t calls, struct times *removes, s
 // Steps of contains calls that go six rows down, and steps of nearest calls that look at two freed rows and at four of the tree.
 struct six measure_walks(struct pair *pair, uint32_t calls);
 struct six measure_searches(struct pair *pair, uint32_t calls);
+
+// The time that half of the steps did not pass: a clock that jumps or a step that was interrupted does not move it.
+uint32_t median(const struct six *six);
 
 #endif
