@@ -1,1 +1,4 @@
-pub mod AuditLaws
+pub mod Going
+pub mod ClimbLaws
+pub mod TreeLaws
+pub mod QueueLaws

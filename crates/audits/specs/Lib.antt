@@ -1,1 +1,5 @@
-pub mod Audit
+pub mod Sum
+pub mod Climb
+pub mod Tree
+pub mod Queue
+pub mod Whole

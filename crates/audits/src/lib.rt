@@ -1,4 +1,6 @@
-// What an audit is made of: the tree counted from the root, the queue from its head, and whether together they are all the rows.
+// What an audit is made of: every row of the tree answers for itself, the queue is walked from its head, and together they must be all the rows.
+mod climb;
 pub mod queue;
+mod sum;
 pub mod tree;
 pub mod whole;

@@ -1,5 +1,5 @@
 // The queue of an audit, walked from its head: free rows, and then the removals that await release, in order.
-use crate::tree::plus;
+use crate::sum::plus;
 use moves::reply::rows_in;
 use rows::common::least_since;
 use rows::layout::AT_HEAD;
@@ -10,7 +10,7 @@ use rows::word::get;
 ghost use mathlib.Core.Path.{_≡_};
 ghost use Prim.Native.Nat.{_+_};
 ghost use lib.Dec.{eqb};
-ghost use Rattle.audits.specs.Audit.{passed, broken, noLonger, passSpare, passRemoved, passRow, passNext, walkQueue, queueIn};
+ghost use Rattle.audits.specs.Queue.{passed, broken, noLonger, passSpare, passRemoved, passRow, walkQueue, lineAtHead, queueIn};
 
 // The queue, walked from its head up to the row `at`: the row before it, the rows passed, the number of the last awaited removal passed, and
 // whether the row before it was that removal's leaf.
@@ -97,28 +97,31 @@ fn pass_row(released: u32, l: Line, row: Row) -> Line
     }
 }
 
-// One row on; the end stays.
-fn pass_next(words: &[u32], rows: u32, released: u32, l: Line) -> Line
-    ensures { λ r. ⌜ r ≡ passNext (now (words .entry)) rows released l ⌝ }
-{
-    if l.at == NONE {
-        l
-    } else {
-        pass_row(released, l, read_row(words, rows, l.at))
-    }
-}
-
-// So many rows on.
+// So many rows on, or to the end.
 fn walk_queue(words: &[u32], rows: u32, released: u32, n: u32, l: Line) -> Line
     ensures { λ r. ⌜ r ≡ walkQueue (now (words .entry)) rows released n l ⌝ }
 {
     let mut line = l;
     let mut left = n;
-    while left > 0 {
-        line = pass_next(words, rows, released, line);
+    while (left > 0) & (line.at != NONE) {
+        line = pass_row(released, line, read_row(words, rows, line.at));
         left -= 1;
     }
     line
+}
+
+// At the head of the queue, before its first row.
+fn line_at_head(words: &[u32]) -> Line
+    ensures { λ r. ⌜ r ≡ lineAtHead (now (words .entry)) ⌝ }
+{
+    Line {
+        sound: true,
+        at: get(words, AT_HEAD),
+        last: NONE,
+        rows: 0,
+        number: least_since(words),
+        fresh: false,
+    }
 }
 
 // The whole queue.
@@ -126,14 +129,6 @@ pub fn queue(words: &[u32]) -> Line
     ensures { λ r. ⌜ r ≡ queueIn (now (words .entry)) ⌝ }
 {
     let rows = rows_in(words);
-    let released = least_since(words);
-    let start = Line {
-        sound: true,
-        at: get(words, AT_HEAD),
-        last: NONE,
-        rows: 0,
-        number: released,
-        fresh: false,
-    };
-    walk_queue(words, rows, released, rows, start)
+    let start = line_at_head(words);
+    walk_queue(words, rows, start.number, rows, start)
 }

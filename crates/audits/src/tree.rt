@@ -1,155 +1,131 @@
-// The tree of an audit, counted from the root.
+// The tree of an audit: every row answers for itself, and the leaves are counted. Nothing is kept from row to row but the count.
+use crate::climb::climbs;
+use crate::sum::plus;
 use moves::reply::rows_in;
-use points::cut::Cut;
-use points::cut::goes_left;
-use points::point::Point;
 use rows::layout::AT_ROOT;
 use rows::layout::NONE;
 use rows::row::Row;
 use rows::row::read_row;
 use rows::word::get;
 ghost use mathlib.Core.Path.{_≡_};
-ghost use mathlib.Core.Bool.{_&&_};
-ghost use Rattle.audits.specs.Audit.{plus, sideOf, onSide, cutSides, pickCount, oneRow, noTree, bothSides, countTree, treeIn};
+ghost use Rattle.rows.specs.Row.{rowAt};
+ghost use Rattle.audits.specs.Tree.{linksUp, forks, rowCount, added, counted, scan, rootSound, treeOf, treeIn};
 
-// The rows of a subtree, and whether they form one.
+// The leaves among the rows looked at, and whether all of these are sound.
 pub struct Count {
+    pub leaves: u32,
     pub sound: bool,
-    pub rows: u32,
 }
 
-// The sum, which stops at the greatest word.
-pub(crate) fn plus(x: u32, y: u32) -> u32
-    ensures { λ r. ⌜ r ≡ plus x y ⌝ }
+// Whether a row is a leaf or a cut with this parent link.
+fn links_up(row: Row, parent: u32) -> bool
+    ensures { λ r. ⌜ r ≡ linksUp parent row ⌝ }
 {
-    if x <= NONE - y { x + y } else { NONE }
-}
-
-// Whether a cut sends a point to this side, the left one or the right one.
-fn side_of(cut: Cut, left: bool, point: Point) -> bool
-    ensures { λ r. ⌜ r ≡ sideOf cut left point ⌝ }
-{
-    let goes = goes_left(cut, point);
-    if left { goes } else { !goes }
-}
-
-// Whether the leaves at or below a row, at most n rows down, are on one side of a cut.
-fn on_side(words: &[u32], rows: u32, cut: Cut, left: bool, n: u32, r: u32) -> bool
-    ensures { λ x. ⌜ x ≡ onSide (now (words .entry)) rows cut left n r ⌝ }
-{
-    if n == 0 {
-        return false;
-    }
-    let row = read_row(words, rows, r);
     match row {
         Row::Bad => false,
         Row::Spare { .. } => false,
         Row::Removed { .. } => false,
-        Row::Leaf { point, .. } => side_of(cut, left, point),
-        Row::Cut {
-            left: first,
-            right: second,
-            ..
-        } => {
-            if on_side(words, rows, cut, left, n - 1, first) {
-                on_side(words, rows, cut, left, n - 1, second)
-            } else {
-                false
-            }
-        }
+        Row::Leaf { parent: over, .. } => over == parent,
+        Row::Cut { parent: over, .. } => over == parent,
     }
 }
 
-// One row, or no tree.
-fn one_row(sound: bool) -> Count
-    ensures { λ r. ⌜ r ≡ pickCount sound oneRow noTree ⌝ }
+// Whether the two rows below a cut differ and link back to it.
+fn forks(words: &[u32], rows: u32, r: u32, left: u32, right: u32) -> bool
+    ensures { λ x. ⌜ x ≡ forks (now (words .entry)) rows r left right ⌝ }
 {
-    if sound {
-        Count {
-            sound: true,
-            rows: 1,
-        }
-    } else {
-        Count {
-            sound: false,
-            rows: 0,
-        }
-    }
+    (left != right)
+        & (links_up(read_row(words, rows, left), r) & links_up(read_row(words, rows, right), r))
 }
 
-// Whether the leaves on the two sides of a cut are where it sends them. It is asked only where both sides are trees: there no row is met twice.
-fn sided(words: &[u32], rows: u32, n: u32, cut: Cut, left: u32, right: u32, sound: bool) -> bool
-    ensures { λ r. ⌜ r ≡ sound && cutSides (now (words .entry)) rows n cut left right ⌝ }
+// The count of one row.
+fn row_count(words: &[u32], rows: u32, root: u32, r: u32) -> Count
+    ensures { λ x. ⌜ x ≡ rowCount (now (words .entry)) rows root r (rowAt (now (words .entry)) rows r) ⌝ }
 {
-    if sound {
-        on_side(words, rows, cut, true, n, left) & on_side(words, rows, cut, false, n, right)
-    } else {
-        false
-    }
-}
-
-// A cut and the trees on its two sides.
-fn both_sides(
-    words: &[u32],
-    rows: u32,
-    n: u32,
-    cut: Cut,
-    left: u32,
-    right: u32,
-    first: Count,
-    second: Count,
-) -> Count
-    ensures { λ r. ⌜ r ≡ bothSides first second (cutSides (now (words .entry)) rows n cut left right) ⌝ }
-{
-    Count {
-        sound: sided(words, rows, n, cut, left, right, first.sound & second.sound),
-        rows: plus(1, plus(first.rows, second.rows)),
-    }
-}
-
-// The tree of a row with this parent, at most n rows down. The parent link and the two sides are looked at before going down, so that each row
-// is counted at most once.
-fn count_tree(words: &[u32], rows: u32, n: u32, parent: u32, r: u32) -> Count
-    ensures { λ x. ⌜ x ≡ countTree (now (words .entry)) rows n parent r ⌝ }
-{
-    if n == 0 {
-        return one_row(false);
-    }
     let row = read_row(words, rows, r);
     match row {
-        Row::Bad => one_row(false),
-        Row::Spare { .. } => one_row(false),
-        Row::Removed { .. } => one_row(false),
-        Row::Leaf { parent: over, .. } => one_row(over == parent),
-        Row::Cut {
-            parent: over,
-            cut,
-            left,
-            right,
-        } => {
-            if (over == parent) & (left != right) {
-                let first = count_tree(words, rows, n - 1, r, left);
-                let second = count_tree(words, rows, n - 1, r, right);
-                both_sides(words, rows, n - 1, cut, left, right, first, second)
-            } else {
-                one_row(false)
-            }
-        }
+        Row::Bad => Count {
+            leaves: 0,
+            sound: false,
+        },
+        Row::Spare { .. } => Count {
+            leaves: 0,
+            sound: true,
+        },
+        Row::Removed { .. } => Count {
+            leaves: 0,
+            sound: true,
+        },
+        Row::Leaf { parent, point, .. } => Count {
+            leaves: 1,
+            sound: climbs(words, rows, root, point, r, parent),
+        },
+        Row::Cut { left, right, .. } => Count {
+            leaves: 0,
+            sound: forks(words, rows, r, left, right),
+        },
     }
 }
 
-// The tree of the root; none where the root link is none.
+// One row more.
+fn add(c: Count, row: Count) -> Count
+    ensures { λ r. ⌜ r ≡ added c row ⌝ }
+{
+    Count {
+        leaves: plus(row.leaves, c.leaves),
+        sound: row.sound,
+    }
+}
+
+// After an unsound row none is looked at.
+fn count_row(words: &[u32], rows: u32, root: u32, r: u32, c: Count) -> Count
+    ensures { λ x. ⌜ x ≡ counted c (rowCount (now (words .entry)) rows root r (rowAt (now (words .entry)) rows r)) ⌝ }
+{
+    if c.sound {
+        add(c, row_count(words, rows, root, r))
+    } else {
+        c
+    }
+}
+
+// All the rows.
+fn scan(words: &[u32], rows: u32, root: u32) -> Count
+    ensures { λ r. ⌜ r ≡ scan (now (words .entry)) rows root rows ⌝ }
+{
+    let mut c = Count {
+        leaves: 0,
+        sound: true,
+    };
+    let mut r = 0;
+    while r < rows {
+        c = count_row(words, rows, root, r, c);
+        r += 1;
+    }
+    c
+}
+
+// Whether the root link is none, or that of a leaf or a cut without a parent.
+fn root_sound(words: &[u32], rows: u32, root: u32) -> bool
+    ensures { λ r. ⌜ r ≡ rootSound root (rowAt (now (words .entry)) rows root) ⌝ }
+{
+    (root == NONE) | links_up(read_row(words, rows, root), NONE)
+}
+
+// All the rows counted, and the root.
+fn tree_of(c: Count, sound: bool) -> Count
+    ensures { λ r. ⌜ r ≡ treeOf c sound ⌝ }
+{
+    Count {
+        leaves: c.leaves,
+        sound: c.sound & sound,
+    }
+}
+
+// The tree that the root links to.
 pub fn tree(words: &[u32]) -> Count
     ensures { λ r. ⌜ r ≡ treeIn (now (words .entry)) ⌝ }
 {
     let root = get(words, AT_ROOT);
     let rows = rows_in(words);
-    if root == NONE {
-        Count {
-            sound: true,
-            rows: 0,
-        }
-    } else {
-        count_tree(words, rows, rows, NONE, root)
-    }
+    tree_of(scan(words, rows, root), root_sound(words, rows, root))
 }

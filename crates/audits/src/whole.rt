@@ -1,14 +1,15 @@
 // Whether tree and queue are whole: together they are all the rows.
 use crate::queue::Line;
+use crate::sum::plus;
+use crate::sum::tree_rows;
 use crate::tree::Count;
-use crate::tree::plus;
 use moves::reply::rows_in;
 use rows::layout::AT_REMOVALS;
 use rows::layout::AT_TAIL;
 use rows::layout::NONE;
 use rows::word::get;
 ghost use mathlib.Core.Path.{_≡_};
-ghost use Rattle.audits.specs.Audit.{wholeQueue, allRows};
+ghost use Rattle.audits.specs.Whole.{wholeQueue, allRows};
 
 // Whether the queue ends at the tail, with the last removal.
 fn whole_queue(words: &[u32], l: Line) -> bool
@@ -24,5 +25,5 @@ fn whole_queue(words: &[u32], l: Line) -> bool
 pub fn all_rows(words: &[u32], t: Count, l: Line) -> bool
     ensures { λ r. ⌜ r ≡ allRows (now (words .entry)) t l ⌝ }
 {
-    t.sound & whole_queue(words, l) & (plus(t.rows, l.rows) == rows_in(words))
+    t.sound & whole_queue(words, l) & (plus(tree_rows(t.leaves), l.rows) == rows_in(words))
 }

@@ -83,7 +83,8 @@ pub fn judge_report(words: &[u32], book: &mut [u64]) {
 
 // The audit says yes.
 pub fn judge_audit(words: &[u32], book: &mut [u64]) {
-    judge(book, audit(words));
+    let verdict = audit(words);
+    judge(book, (verdict.number == 0) & verdict.sound);
 }
 
 // What is asked after an event: the report, and in a small index the audit.

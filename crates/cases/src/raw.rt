@@ -37,9 +37,17 @@ fn report(words: &[u32]) -> u32 {
     read.number
 }
 
-// 0 for yes, 1 for no.
-fn no_of(yes: bool) -> u32 {
-    if yes { 0 } else { 1 }
+// The number of an audit, and 1 where it says no. One that is refused does not say yes.
+fn audited(words: &[u32]) -> u32 {
+    let verdict = audit(words);
+    if verdict.sound {
+        return if verdict.number == 0 { 0 } else { NEVER };
+    }
+    if verdict.number == 0 {
+        1
+    } else {
+        verdict.number
+    }
 }
 
 // The call of a row, and its number. Places and limit of an opening; station, kind, weight of a sheet of grade 12 and curve of a submission;
@@ -54,7 +62,7 @@ fn perform(words: &mut [u32], row: Row) -> u32 {
         b'R' => run(words, n[1]),
         b'K' => number_of(take(words, n[1])),
         b'P' => report(words),
-        b'A' => no_of(audit(words)),
+        b'A' => audited(words),
         b'F' => framed(words, n[1], n[2], n[3]),
         b'W' => write(words, n[1], n[2]),
         _ => NEVER,

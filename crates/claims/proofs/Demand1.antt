@@ -1,7 +1,7 @@
 -- Demand 1: "Whoever calls, with whatever numbers, frame bytes or index contents, gets a defined result and the call ends. Bad input gets the number of
 -- the first check it fails, and a refused call changes no word or byte lent to it."
 -- A defined result, and an end: the functions `open`, `submit`, `step`, `run`, `take`, `read_report` and `audit` of `steps` have no `requires`; their contracts
--- are equations of result and slice with `openOf`, `submitOf`, `stepOf`, `runOf`, `takeOf` and `takeWords`, `reportOf`, `auditOf`, which are defined for every
+-- are equations of result and slice with `openOf`, `submitOf`, `stepOf`, `runOf`, `takeOf` and `takeWords`, `reportOf`, `verdictOf`, which are defined for every
 -- content and every argument; and Rattle proves that each call ends. `read_report` and `audit` are lent the words for reading alone. Of `frames` the same:
 -- `read_frame`, `write_frame`, `write_fields`, `apply_frame` and `next_line` are `readOf`, `writtenOf`, `writeOf`, `applyOf` with `applyWords`, and `lineOf` with
 -- `lineWords`; a reader's `next` is `readOf` and `positionAfter`; the bytes are lent for reading alone.
@@ -14,7 +14,7 @@ use lib.Dec.{eqb, leb, ltb}
 use lib.ListN.{length, drop, replicate}
 use Rattle.claims.specs.Definitions.{Point, inRange, wordsFor, placesIn, limitIn, openedIn, isIdle, isUnfinished, stateAt, callAt, waitingAt}
 use Rattle.claims.specs.Definitions.{isOpened, rowsIn, openOf, kindIn, curveFits, submitOf, recordsSound, workOf, stepOf, isGiven, takeOf, numberOf, takeWords}
-use Rattle.claims.specs.Definitions.{reportOf, asked, firstNo}
+use Rattle.claims.specs.Definitions.{reportOf, verdictOf, asked, firstNo}
 use Rattle.claims.specs.Definitions.{Frame, Open, Submit, Step, Take, Run, Refused as Unread, isKind, isWhole, hasKind, ownLength, frameQuestion, readOf, readingNumber}
 use Rattle.claims.specs.Definitions.{positionAfter, Fields, padded, writtenBytes, writeOf, pointOf, submissionReply, applyOf, appliedNumber, applyWords, lineWords}
 use Rattle.history.proofs.Refused
@@ -53,6 +53,10 @@ take-number = Refused.take-number
 pub report-number : (words : List ℕ) → reportOf words .number ≡ firstNo (asked (isOpened (openedIn words)) 4 ∷ [])
 report-number = Refused.report-number
 
+-- An audit names none either.
+pub audit-number : (words : List ℕ) → verdictOf words .number ≡ firstNo (asked (isOpened (openedIn words)) 4 ∷ [])
+audit-number = Refused.audit-number
+
 -- ---- "a refused call changes no word"
 
 -- a refused opening
@@ -70,6 +74,10 @@ step-refused = Refused.step-refused
 -- a refused taking
 pub take-refused : (words : List ℕ) (s : ℕ) → ¬ (numberOf (takeOf words s) ≡ 0) → takeWords words s ≡ words
 take-refused = Refused.take-refused
+
+-- A report and an audit write nothing at all; a refused audit does not say yes.
+pub audit-refused : (words : List ℕ) → ¬ (verdictOf words .number ≡ 0) → verdictOf words .sound ≡ false
+audit-refused = Refused.audit-refused
 
 -- ---- frames
 

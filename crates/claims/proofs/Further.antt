@@ -1,5 +1,5 @@
--- What document 01 says besides the demands: what an opening leaves (`opening-fresh`, `opening-again`, `opening-beyond`), the report (`report-after`), the audit (`audit-exact`,
--- `audit-after`), question 11 (`never-11`) and runs (`run-is-steps`, `run-after`).
+-- What document 01 says besides the demands: what an opening leaves (`opening-fresh`, `opening-again`, `opening-beyond`), the report (`report-after`), the audit (`audit-says`,
+-- `audit-exact`, `audit-after`), question 11 (`never-11`) and runs (`run-is-steps`, `run-after`).
 use Prim.Native.Nat.{ℕ, _+_, _*_, _≤_, _<_}
 use mathlib.Core.Path.{_≡_, refl, ap, _∙_, subst}
 use mathlib.Core.Logic.{_⊎_, _↔_}
@@ -7,7 +7,7 @@ use mathlib.Core.Bool.{true}
 use mathlib.Core.List.{List, [], map, append-nil, List·Memᴰ, List·Memᴰ·not-nil}
 use lib.ListN.{length}
 use Rattle.claims.specs.Definitions.{atChanges, get, rowAt, Spare, isIdle, isUnfinished, stateAt, Record, Table, opened, taken, Event}
-use Rattle.claims.specs.Definitions.{openOf, stepOf, mostSteps, runOf, takeOf, numberOf, reportOf, auditOf, heldIn, recordOf, after, stepped, firstNo, Audited}
+use Rattle.claims.specs.Definitions.{openOf, stepOf, mostSteps, runOf, takeOf, numberOf, reportOf, auditOf, verdictOf, heldIn, recordOf, after, stepped, firstNo, Audited}
 use Rattle.history.specs.View.{countsAt, seatAt, Counts}
 use Rattle.history.proofs.OpenEffects.{OpenedAs, open-written}
 use Rattle.history.proofs.OpenBeyond.{open-beyond}
@@ -17,7 +17,8 @@ use Rattle.history.proofs.Reached.{Stands, history-related}
 use Rattle.history.proofs.StepNumbers.{step-numbers, step-never-11}
 use Rattle.history.proofs.Run.{run-answers}
 use Rattle.claims.proofs.Stepping.{run-steps}
-use Rattle.claims.proofs.Demand1.{report-number}
+use Rattle.history.proofs.Refused
+use Rattle.claims.proofs.Demand1.{report-number, audit-number}
 use Rattle.claims.proofs.Demand3.{Moments, demand-3}
 
 -- ---- opening
@@ -68,17 +69,25 @@ report-after words places limit e evs =
     let st : Stands v places limit = rw (a .opens) (history-related words places limit a evs) in
     (report-number v ∙ rw (st .related .opened), demand-3 words places limit e evs .agrees evs [] (append-nil evs) .places)
 
+-- What an audit says: its verdict is `auditOf`.
+pub audit-says : (words : List ℕ) → verdictOf words .sound ≡ auditOf words
+audit-says = Refused.audit-says
+
 -- "An audit says yes exactly if the rows linked from the root, if any, have fields in range as for question 11 and form a tree in which each leaf's point is on
 -- the side that every cut above it sends it, parent links agree, and every row lies in the tree, among the spare rows, or in the records awaiting release, once
 -- and in order of removal." For all words.
 pub audit-exact : (words : List ℕ) → (auditOf words ≡ true) ↔ Audited words
 audit-exact = Audits.audit-exact
 
--- "After every history the audit says yes."
-pub audit-after : (words : List ℕ) (places limit : ℕ) → openOf words places limit .number ≡ 0 → (evs : List Event) → auditOf (after evs (openOf words places limit .words)) ≡ true
+-- "After every history the audit says yes." It is not refused.
+pub audit-after : (words : List ℕ) (places limit : ℕ) → openOf words places limit .number ≡ 0 → (evs : List Event)
+    → (verdictOf (after evs (openOf words places limit .words)) .number ≡ 0) × (auditOf (after evs (openOf words places limit .words)) ≡ true)
+unfolding firstNo
 audit-after words places limit e evs =
     let a = accepted words places limit e in
-    rw (a .opens) (Audits.audit-complete (Audits.audit-related (history-related words places limit a evs .related)))
+    let v : List ℕ = after evs (openOf words places limit .words) in
+    let st : Stands v places limit = rw (a .opens) (history-related words places limit a evs) in
+    (audit-number v ∙ rw (st .related .opened), Audits.audit-complete (Audits.audit-related (st .related)))
 
 -- ---- steps and runs
 

@@ -49,7 +49,7 @@ pub use Rattle.steps.specs.Run.{isGiven, goesOn}
 unfoldable pub use Rattle.steps.specs.Run.{runFor, mostSteps, runOf}
 pub use Rattle.steps.specs.Take.{takeOf, numberOf, takeWords}
 pub use Rattle.steps.specs.Report.{reportOf}
-pub use Rattle.audits.specs.Audit.{auditOf}
+pub use Rattle.steps.specs.Audit.{auditOf, verdictOf}
 -- the records on the leaves linked from the root
 pub use Rattle.steps.specs.Held.{heldIn}
 -- ---- history

@@ -22,6 +22,9 @@ pub const AUDIT: u64 = 5;
 
 pub const OPEN: u64 = 6;
 
+// What stands for an audit that says no; it is the number of no question here.
+pub const NO: u32 = 13;
+
 // A number that no call gives.
 const NEVER: u32 = 99;
 
@@ -66,9 +69,17 @@ fn report(words: &[u32]) -> u32 {
     read.number
 }
 
-// An audit: 0 for yes and 1 for no.
+// An audit. One that is refused does not say yes.
 pub fn audit(words: &[u32]) -> u32 {
-    if steps::audit::audit(words) { 0 } else { 1 }
+    let verdict = steps::audit::audit(words);
+    if verdict.sound {
+        return if verdict.number == 0 { 0 } else { NEVER };
+    }
+    if verdict.number == 0 {
+        NO
+    } else {
+        verdict.number
+    }
 }
 
 // An opening that is refused.
@@ -102,7 +113,7 @@ pub fn is_allowed(kind: u64, number: u32) -> bool {
         1 | 2 => (number == 0) | (number == 4) | (number == 5) | (number == 10) | (number == 11),
         3 => (number == 0) | (number == 4) | (number == 5) | (number == 12),
         4 => (number == 0) | (number == 4),
-        5 => number <= 1,
+        5 => (number == 0) | (number == 4) | (number == NO),
         _ => (1 <= number) & (number <= 3),
     }
 }

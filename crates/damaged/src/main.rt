@@ -89,15 +89,10 @@ fn judge_call(whole: &[u32], spare: &[u32], book: &mut [u64], kind: u64, number:
     judge(book, kept);
 }
 
-// A call is counted by its kind, and by its number but for an audit.
+// A call is counted by its kind, and by its number.
 fn count_call(book: &mut [u64], kind: u64, number: u32) {
-    let place = if kind == calls::AUDIT {
-        13
-    } else {
-        number as u64
-    };
     count(book, at(AT_CALLS, kind));
-    count(book, at(AT_NUMBERS, place));
+    count(book, at(AT_NUMBERS, number as u64));
 }
 
 // A kind of call; mostly submissions and steps.
@@ -217,8 +212,12 @@ fn say_more_calls(book: &[u64]) {
     );
 }
 
-// The checks, and the wrong ones.
+// The audits that said no, the checks, and the wrong ones.
 fn say_checks(book: &[u64]) {
+    say(
+        b"audits that said no: ",
+        get(book, at(AT_NUMBERS, calls::NO as u64)),
+    );
     say(
         b"checks of a number, of the words outside, of the words kept: ",
         get(book, AT_CHECKS),

@@ -1,43 +1,50 @@
 -- The audit is exact: for every content of the words it says yes (`auditOf`) exactly if document 01's sentence holds (`Audited`), and the
 -- sentence holds of words that are related to a table, so after every history.
-use Prim.Native.Nat.{ℕ, _+_, _*_, _≤_, _<_, min}
+use Prim.Native.Nat.{ℕ, _+_, _-_, _*_, _≤_, _<_, min}
 use mathlib.Core.Path.{_≡_, refl, sym, _∙_, ap, subst}
-use mathlib.Core.Logic.{_≢_, _↔_, inl, inr}
-use mathlib.Core.Bool.{Bool, true, false, cond, _&&_, false≢true, and-eq-true-iff}
+use mathlib.Core.Logic.{_≢_, _↔_, _⊎_, inl, inr}
+use mathlib.Core.Bool.{Bool, true, false, cond, _&&_, _||_, false≢true, and-eq-true-iff}
 use mathlib.Core.List.{List}
 use mathlib.Core.Option.{Option, none, some}
 use native.Mathlib.Omega.{arith}
 use lib.Dec.{eqb}
 use lib.ListN.{length}
-use borrow.Author.Tests.{eqb-true, eq-eqb, ne-eqb}
+use borrow.Author.Tests.{eqb-true, eq-eqb}
 use Rattle.points.specs.Word.{NONE}
 use Rattle.rows.specs.declared.common.Opening.{Opening}
 use Rattle.rows.specs.declared.common.Opening.the-variants.{Refused, Opened}
+use Rattle.rows.specs.declared.row.Row.{Row as WordRow}
+use Rattle.rows.specs.declared.row.Row.the-variants.{Bad, Spare, Removed, Leaf, Cut}
 use Rattle.rows.specs.Layout.{atRoot, atHead, atTail, atRemovals}
 use Rattle.rows.specs.Words.{get}
 use Rattle.rows.specs.Row.{rowAt}
 use Rattle.rows.specs.Common.{openedIn, leastSince}
 use Rattle.rows.proofs.OpeningLaws.{opened-tells}
-use Rattle.trees.specs.Row.{Heap}
-use Rattle.trees.specs.Tree.{Tree, top, topOf, Has, Shape, Routed, Distinct, sizeOf}
+use Rattle.trees.specs.Row.{Row, spareRow, removedRow, leafRow, cutRow, Heap}
+use Rattle.trees.specs.Tree.{Tree, top, topOf, Has, Shape, Routed, Distinct, sizeOf, countOf}
 use Rattle.trees.specs.Queue.{Free, headOf, tailOf, Linked, InQueue, Once}
 use Rattle.trees.proofs.Entries.{size-count}
-use Rattle.trees.proofs.Path.{has-top}
-use Rattle.trees.proofs.Room.{queue-not-empty}
 use Rattle.table.specs.Table.{Table}
 use Rattle.audits.specs.declared.tree.Count.{Count}
 use Rattle.audits.specs.declared.queue.Line.{Line}
 use Rattle.moves.specs.Reply.{isOpened, rowsIn}
-use Rattle.audits.specs.Audit.{plus, pickCount, countTree, treeIn, walkQueue, queueIn, wholeQueue, allRows, auditOf}
+use Rattle.audits.specs.Sum.{plus, treeRows}
+use Rattle.audits.specs.Tree.{linksUp, rowSound, scan, rootSound, treeIn}
+use Rattle.audits.specs.Queue.{walkQueue, lineAtHead, queueIn}
+use Rattle.audits.specs.Whole.{wholeQueue, allRows}
+use Rattle.steps.specs.Audit.{auditOf}
 use Rattle.history.specs.View.{countsAt, wordRow, Reads}
 use Rattle.history.specs.Related.{Related}
 use Rattle.history.specs.Audited.{InOrder, Audited}
 use Rattle.history.proofs.RelatedLaws.{rows-in}
 use Rattle.history.proofs.AuditRows.{heapOf, reads-inside, plus-min}
 use Rattle.history.proofs.AuditDistinct.{forked, tree-distinct}
-use Rattle.history.proofs.AuditOnce.{linked-once, rows-apart}
+use Rattle.history.proofs.AuditOnce.{linked-once, isFree, queue-free, rows-apart}
 use Rattle.history.proofs.AuditCount.{rows-each, rows-all}
-use Rattle.history.proofs.AuditTree.{count-tells, count-holds}
+use Rattle.history.proofs.AuditScan.{Sound, scan-tells, scan-holds, IsLeaf, leavesBelow, scan-counts}
+use Rattle.history.proofs.AuditGrow.{grown}
+use Rattle.history.proofs.AuditClimb.{climbs-route, climb-has, top-links, row-holds}
+use Rattle.history.proofs.AuditLeaves.{leaves-counted, rows-counted}
 use Rattle.history.proofs.AuditOrder.{Ordered, ordered-tells, ordered-holds}
 use Rattle.history.proofs.AuditLine.{passAll, all-at, all-last, all-rows, all-tells, all-holds}
 use Rattle.history.proofs.AuditQueue.{Lined, walk-tells, walk-holds}
@@ -54,36 +61,53 @@ record Planted (words : List ℕ) (rows number : ℕ) : Type 0 where
   distinct : Distinct tree
   counted : number ≡ min (sizeOf tree) NONE
 
-tree-tells : (words : List ℕ) → rowsIn words ≤ 8192 → treeIn words .sound ≡ true → Planted words (rowsIn words) (treeIn words .rows)
-unfolding treeIn
-tree-tells words few s = go (eqb (get words atRoot) NONE) refl s
+-- the tree of the root link, by whether it is none
+planted-of : (words : List ℕ) (rows : ℕ) → rows ≤ 8192 → Sound words rows (get words atRoot) rows → (t : Option Tree) → get words atRoot ≡ topOf t
+    → Shape (heapOf words rows) t → ((i : ℕ) → Has t i → rowAt words rows i ≡ wordRow (heapOf words rows i)) → Routed t → Distinct t
+    → (n : ℕ) → n ≡ length (leavesBelow words rows rows) → Planted words rows (treeRows n)
+planted-of words rows few s t e u w r d n c = record {
+  tree = t;
+  root = e;
+  shape = u;
+  reads = w;
+  routed = r;
+  distinct = d;
+  counted = rows-counted t n (c ∙ leaves-counted words rows (heapOf words rows) t u w d
+      (λ i m. reads-inside words rows i (heapOf words rows i) (w i m)) (λ i l y. has i l (rowAt words rows i) refl y (s i l)));
+}
   where
-    found : Count
-    found = countTree words (rowsIn words) (rowsIn words) NONE (get words atRoot)
+    has : (i : ℕ) → i < rows → (row : WordRow) → rowAt words rows i ≡ row → IsLeaf row → rowSound words rows (get words atRoot) i row ≡ true → Has t i
+    has i l Bad f y z = absurd (false≢true z)
+    has i l (Spare next freed) f y z = absurd (omega (arith, y))
+    has i l (Removed next freed added point curve) f y z = absurd (omega (arith, y))
+    has i l (Leaf over added point curve) f y z =
+        climb-has words rows (heapOf words rows) t u w (get words atRoot) point e rows i over (λ x. absurd (omega arith)) z
+    has i l (Cut over k left right) f y z = absurd (omega (arith, y))
 
-    go : (b : Bool) → eqb (get words atRoot) NONE ≡ b → pickCount b (record { sound = true; rows = 0 }) found .sound ≡ true
-        → Planted words (rowsIn words) (pickCount b (record { sound = true; rows = 0 }) found .rows)
-    go true e s = record {
-      tree = none;
-      root = eqb-true (get words atRoot) NONE e;
-      shape = tt;
-      reads = λ i m. absurd m;
-      routed = tt;
-      distinct = tt;
-      counted = refl;
-    }
-    go false e s =
-        let w = count-tells words (rowsIn words) (rowsIn words) NONE (get words atRoot) s in
-        record {
-          tree = some (w .tree);
-          root = sym (w .from);
-          shape = w .shape;
-          reads = w .reads;
-          routed = w .routed;
-          distinct = tree-distinct (heapOf words (rowsIn words)) NONE (w .tree) (w .shape) (w .forked)
-              (λ m. absurd (omega (arith, reads-inside words (rowsIn words) NONE (heapOf words (rowsIn words) NONE) (w .reads NONE m))));
-          counted = w .counted;
-        }
+tree-tells : (words : List ℕ) → rowsIn words ≤ 8192 → treeIn words .sound ≡ true → Planted words (rowsIn words) (treeRows (treeIn words .leaves))
+unfolding treeIn
+tree-tells words few y =
+    let both = and-eq-true-iff (leaves .sound) (rootSound (get words atRoot) (rowAt words (rowsIn words) (get words atRoot))) .0 y in
+    go (eqb (get words atRoot) NONE) refl (scan-tells words (rowsIn words) (get words atRoot) (rowsIn words) (both .0)) (both .1)
+  where
+    leaves : Count
+    leaves = scan words (rowsIn words) (get words atRoot) (rowsIn words)
+
+    many : Sound words (rowsIn words) (get words atRoot) (rowsIn words) → leaves .leaves ≡ length (leavesBelow words (rowsIn words) (rowsIn words))
+    many s = scan-counts words (rowsIn words) (get words atRoot) (rowsIn words) few s
+
+    go : (b : Bool) → eqb (get words atRoot) NONE ≡ b → Sound words (rowsIn words) (get words atRoot) (rowsIn words)
+        → (b || linksUp NONE (rowAt words (rowsIn words) (get words atRoot))) ≡ true
+        → Planted words (rowsIn words) (treeRows (leaves .leaves))
+    go true e s z =
+        planted-of words (rowsIn words) few s none (eqb-true (get words atRoot) NONE e) tt (λ i m. absurd m) tt tt (leaves .leaves) (many s)
+    go false e s z =
+        let w = grown words (rowsIn words) (get words atRoot) few s (get words atRoot) z in
+        let r = climbs-route words (rowsIn words) (get words atRoot) s few (heapOf words (rowsIn words)) NONE (w .tree) (w .shape) (w .reads) (w .forked) in
+        planted-of words (rowsIn words) few s (some (w .tree)) (sym (w .from)) (w .shape) (w .reads) (r .0)
+        (tree-distinct (heapOf words (rowsIn words)) NONE (w .tree) (w .shape) (w .forked)
+        (λ m. absurd (omega (arith, reads-inside words (rowsIn words) NONE (heapOf words (rowsIn words) NONE) (w .reads NONE m)))))
+        (leaves .leaves) (many s)
 
 -- the free rows' queue
 record Queued (words : List ℕ) (rows number : ℕ) : Type 0 where
@@ -96,39 +120,35 @@ record Queued (words : List ℕ) (rows number : ℕ) : Type 0 where
   order : InOrder queue (get words atRemovals) (leastSince words)
   counted : number ≡ min (length queue) NONE
 
--- the line at the head of the queue
-abbrev atFirst : List ℕ → Line
-atFirst words = record { sound = true; at = get words atHead; last = NONE; rows = 0; number = leastSince words; fresh = false }
-
-queue-of : (words : List ℕ) (rows : ℕ) (end : Line) → rows ≤ 8192 → Lined words rows (leastSince words) (atFirst words) end → end .sound ≡ true
+queue-of : (words : List ℕ) (rows : ℕ) (end : Line) → rows ≤ 8192 → Lined words rows (leastSince words) (lineAtHead words) end → end .sound ≡ true
     → end .last ≡ get words atTail → end .number ≡ get words atRemovals → Queued words rows (end .rows)
 queue-of words rows end few w s t n =
     let q : List Free = w .queue in
     let there : (i : ℕ) → InQueue q i → i ≢ NONE =
     λ i m e. absurd (omega (arith, reads-inside words rows i (heapOf words rows i) (w .reads i m))) in
-    let sound : passAll (leastSince words) (atFirst words) q .sound ≡ true = ap (λ (x : Line). x .sound) (sym (w .walked)) ∙ s in
-    let last : passAll (leastSince words) (atFirst words) q .number ≡ get words atRemovals = ap (λ (x : Line). x .number) (sym (w .walked)) ∙ n in
+    let sound : passAll (leastSince words) (lineAtHead words) q .sound ≡ true = ap (λ (x : Line). x .sound) (sym (w .walked)) ∙ s in
+    let last : passAll (leastSince words) (lineAtHead words) q .number ≡ get words atRemovals = ap (λ (x : Line). x .number) (sym (w .walked)) ∙ n in
     record {
       queue = q;
       head = sym (w .head);
-      tail = λ k. sym t ∙ ap (λ (x : Line). x .last) (w .walked) ∙ all-last (leastSince words) (atFirst words) q (w .head) k;
+      tail = λ k. sym t ∙ ap (λ (x : Line). x .last) (w .walked) ∙ all-last (leastSince words) (lineAtHead words) q (w .head) k;
       linked = w .linked;
       reads = w .reads;
       once = linked-once (heapOf words rows) q there (w .linked);
       order = ordered-tells (leastSince words) q (get words atRemovals)
-          (subst (λ m. Ordered (leastSince words) (leastSince words) false q m) last (all-tells (leastSince words) (atFirst words) q sound .1));
-      counted = omega (arith, ap (λ (x : Line). x .rows) (w .walked), all-rows (leastSince words) (atFirst words) q 0 refl);
+          (subst (λ m. Ordered (leastSince words) (leastSince words) false q m) last (all-tells (leastSince words) (lineAtHead words) q sound .1));
+      counted = omega (arith, ap (λ (x : Line). x .rows) (w .walked), all-rows (leastSince words) (lineAtHead words) q 0 refl);
     }
 
 queue-tells : (words : List ℕ) → rowsIn words ≤ 8192 → wholeQueue words (queueIn words) ≡ true → Queued words (rowsIn words) (queueIn words .rows)
 unfolding queueIn
 queue-tells words few s =
-    let end : Line = walkQueue words (rowsIn words) (leastSince words) (rowsIn words) (atFirst words) in
+    let end : Line = walkQueue words (rowsIn words) (leastSince words) (rowsIn words) (lineAtHead words) in
     let a = and-eq-true-iff ((end .sound && eqb (end .at) NONE) && eqb (end .last) (get words atTail)) (eqb (end .number) (get words atRemovals)) .0 s in
     let b = and-eq-true-iff (end .sound && eqb (end .at) NONE) (eqb (end .last) (get words atTail)) .0 (a .0) in
     let c = and-eq-true-iff (end .sound) (eqb (end .at) NONE) .0 (b .0) in
     queue-of words (rowsIn words) end few
-    (walk-tells words (rowsIn words) (leastSince words) (rowsIn words) (atFirst words) (c .0) (eqb-true (end .at) NONE (c .1))) (c .0)
+    (walk-tells words (rowsIn words) (leastSince words) (rowsIn words) (lineAtHead words) (c .0) (eqb-true (end .at) NONE (c .1))) (c .0)
     (eqb-true (end .last) (get words atTail) (b .1)) (eqb-true (end .number) (get words atRemovals) (a .1))
 
 -- ---- an audit that says yes
@@ -164,7 +184,6 @@ audited-of words places limit n m o t q e =
       routed = t .routed;
       head = q .head;
       tail = q .tail not-empty;
-      not-empty = not-empty;
       linked = q .linked;
       inside = inside;
       free = free;
@@ -180,12 +199,12 @@ audited : (words : List ℕ) (places limit : ℕ) → openedIn words ≡ Opened 
 audited words places limit o y =
     let rows = rows-in words places limit o in
     let few : rowsIn words ≤ 8192 = omega (arith, rows, opened-tells words places limit o .places-most) in
-    let a = and-eq-true-iff (treeIn words .sound && wholeQueue words (queueIn words)) (eqb (plus (treeIn words .rows) (queueIn words .rows)) (rowsIn words)) .0 y in
+    let a = and-eq-true-iff (treeIn words .sound && wholeQueue words (queueIn words)) (eqb (plus (treeRows (treeIn words .leaves)) (queueIn words .rows)) (rowsIn words)) .0 y in
     let b = and-eq-true-iff (treeIn words .sound) (wholeQueue words (queueIn words)) .0 (a .0) in
-    audited-of words places limit (treeIn words .rows) (queueIn words .rows) o
-    (subst (λ r. Planted words r (treeIn words .rows)) rows (tree-tells words few (b .0)))
+    audited-of words places limit (treeRows (treeIn words .leaves)) (queueIn words .rows) o
+    (subst (λ r. Planted words r (treeRows (treeIn words .leaves))) rows (tree-tells words few (b .0)))
     (subst (λ r. Queued words r (queueIn words .rows)) rows (queue-tells words few (b .1)))
-    (eqb-true (plus (treeIn words .rows) (queueIn words .rows)) (rowsIn words) (a .1) ∙ rows)
+    (eqb-true (plus (treeRows (treeIn words .leaves)) (queueIn words .rows)) (rowsIn words) (a .1) ∙ rows)
 
 -- where the audit says yes the sentence holds
 pub audit-sound : (words : List ℕ) → auditOf words ≡ true → Audited words
@@ -198,14 +217,47 @@ audit-sound words y = go (openedIn words) refl y
 
 -- ---- words of which the sentence holds
 
--- the count of the tree
+-- a free row is sound, and no leaf
+free-sound : (words : List ℕ) (rows root r : ℕ) (row : Row) → isFree row ≡ true → (rowSound words rows root r (wordRow row) ≡ true) × ¬ IsLeaf (wordRow row)
+free-sound words rows root r (spareRow next n) y = (refl, λ e. omega (arith, e))
+free-sound words rows root r (removedRow next n e) y = (refl, λ e. omega (arith, e))
+free-sound words rows root r (leafRow parent e) y = absurd (false≢true y)
+free-sound words rows root r (cutRow parent k left right) y = absurd (false≢true y)
+
+-- the rows of the tree are sound
+has-sound : (words : List ℕ) (rows : ℕ) → rows ≤ 8192 → (h : Heap) (t : Option Tree) → Shape h t → ((i : ℕ) → Has t i → rowAt words rows i ≡ wordRow (h i)) → Routed t
+    → Distinct t → sizeOf t ≤ rows → (i : ℕ) → Has t i → rowSound words rows (topOf t) i (rowAt words rows i) ≡ true
+has-sound words rows few h none u w r d l i m = absurd m
+has-sound words rows few h (some t) u w r d l i m = row-holds words rows h t few u w r (forked t d) l i m
+
+root-sound : (words : List ℕ) (rows : ℕ) (h : Heap) (t : Option Tree) → Shape h t → ((i : ℕ) → Has t i → rowAt words rows i ≡ wordRow (h i))
+    → rootSound (topOf t) (rowAt words rows (topOf t)) ≡ true
+root-sound words rows h none u w = refl
+root-sound words rows h (some t) u w = go (eqb (top t) NONE)
+  where
+    go : (b : Bool) → (b || linksUp NONE (rowAt words rows (top t))) ≡ true
+    go true = refl
+    go false = top-links words rows h NONE t u w
+
+-- the tree, where every row is in it or free
 tree-holds : (words : List ℕ) (h : Heap) (t : Option Tree) → rowsIn words ≤ 8192 → get words atRoot ≡ topOf t → Shape h t → Routed t → Distinct t
-    → ((i : ℕ) → Has t i → rowAt words (rowsIn words) i ≡ wordRow (h i)) → sizeOf t ≤ rowsIn words → treeIn words ≡ record { sound = true; rows = min (sizeOf t) NONE }
+    → Reads words (rowsIn words) h → ((i : ℕ) → Has t i → i < rowsIn words) → ((i : ℕ) → i < rowsIn words → Has t i ⊎ (isFree (h i) ≡ true)) → sizeOf t ≤ rowsIn words
+    → treeIn words ≡ record { leaves = countOf t; sound = true }
 unfolding treeIn
-tree-holds words h none few e s u d w l = rw (e, pickCount) refl
-tree-holds words h (some t) few e s u d w l =
-    let there : top t ≢ NONE = λ x. omega (arith, reads-inside words (rowsIn words) (top t) (h (top t)) (w (top t) (has-top t))) in
-    rw (e, ne-eqb (top t) NONE there, pickCount) (count-holds words (rowsIn words) (rowsIn words) h NONE t s w u (forked t d) l)
+tree-holds words h t few e u r d w b each l =
+    let rows : ℕ = rowsIn words in
+    let reads : (i : ℕ) → Has t i → rowAt words rows i ≡ wordRow (h i) = λ i m. w i (b i m) in
+    let sound : Sound words rows (topOf t) rows = λ i k. elim (each i k) [
+      | inl m ↦ has-sound words rows few h t u reads r d l i m
+      | inr f ↦ subst (λ x. rowSound words rows (topOf t) i x ≡ true) (sym (w i k)) (free-sound words rows (topOf t) i (h i) f .0)
+    ] in
+    let many : scan words rows (topOf t) rows .leaves ≡ countOf t =
+    scan-counts words rows (topOf t) rows few sound
+    ∙ leaves-counted words rows h t u reads d b (λ i k y. elim (each i k) [
+      | inl m ↦ m
+      | inr f ↦ absurd (free-sound words rows (topOf t) i (h i) f .1 (subst IsLeaf (w i k) y))
+    ]) in
+    rw (e, scan-holds words rows (topOf t) rows sound, root-sound words rows h t u reads, many) refl
 
 -- the line behind the queue
 whole-of : (words : List ℕ) (l : Line) → l .sound ≡ true → l .at ≡ NONE → l .last ≡ get words atTail → l .number ≡ get words atRemovals → wholeQueue words l ≡ true
@@ -217,13 +269,13 @@ queue-holds : (words : List ℕ) (h : Heap) (q : List Free) → rowsIn words ≤
 unfolding queueIn
 queue-holds words h q few e t k s w l o =
     let there : (i : ℕ) → InQueue q i → i ≢ NONE = λ i m x. absurd (omega (arith, reads-inside words (rowsIn words) i (h i) (w i m))) in
-    let walked = walk-holds words (rowsIn words) (leastSince words) (rowsIn words) h (atFirst words) q s w there (sym e) l in
-    let end : Line = passAll (leastSince words) (atFirst words) q in
-    let sound = all-holds (leastSince words) (atFirst words) q (get words atRemovals) refl (ordered-holds (leastSince words) q (get words atRemovals) o) in
-    let last : end .last ≡ get words atTail = all-last (leastSince words) (atFirst words) q (sym e) k ∙ sym t in
-    let rows : end .rows ≡ min (length q) NONE = omega (arith, all-rows (leastSince words) (atFirst words) q 0 refl) in
+    let walked = walk-holds words (rowsIn words) (leastSince words) (rowsIn words) h (lineAtHead words) q s w there (sym e) l in
+    let end : Line = passAll (leastSince words) (lineAtHead words) q in
+    let sound = all-holds (leastSince words) (lineAtHead words) q (get words atRemovals) refl (ordered-holds (leastSince words) q (get words atRemovals) o) in
+    let last : end .last ≡ get words atTail = all-last (leastSince words) (lineAtHead words) q (sym e) k ∙ sym t in
+    let rows : end .rows ≡ min (length q) NONE = omega (arith, all-rows (leastSince words) (lineAtHead words) q 0 refl) in
     subst (λ (x : Line). (wholeQueue words x ≡ true) × (x .rows ≡ min (length q) NONE)) (sym walked)
-    (whole-of words end (sound .0) (all-at (leastSince words) (atFirst words) q (sym e)) last (sound .1), rows)
+    (whole-of words end (sound .0) (all-at (leastSince words) (lineAtHead words) q (sym e)) last (sound .1), rows)
 
 -- where the sentence holds the audit says yes
 pub audit-complete : {words : List ℕ} → Audited words → auditOf words ≡ true
@@ -233,14 +285,18 @@ audit-complete {words} a =
     let few : rowsIn words ≤ 8192 = omega (arith, rows, opened-tells words (a .places) (a .limit) (a .opened) .places-most) in
     let all : sizeOf (a .tree) + length (a .queue) ≡ rowsIn words =
     rows-all (2 * a .places) (a .tree) (a .queue) (a .distinct) (a .once) (a .inside) (a .free) (a .apart) (a .each) ∙ sym rows in
+    let not-empty = free-left (a .places) (a .tree) (length (a .queue)) (opened-tells words (a .places) (a .limit) (a .opened) .places-least) (all ∙ rows) in
     let reads : Reads words (rowsIn words) (a .heap) = subst (λ n. Reads words n (a .heap)) (sym rows) (a .reads) in
-    let t = tree-holds words (a .heap) (a .tree) few (a .root) (a .shape) (a .routed) (a .distinct) (λ i m. reads i (omega (arith, rows, a .inside i m))) (omega arith) in
-    let q = queue-holds words (a .heap) (a .queue) few (a .head) (a .tail) (a .not-empty) (a .linked) (λ i m. reads i (omega (arith, rows, a .free i m)))
+    let each : (i : ℕ) → i < rowsIn words → Has (a .tree) i ⊎ (isFree (a .heap i) ≡ true) =
+    λ i l. elim (a .each i (omega (arith, rows))) [ inl m ↦ inl m | inr m ↦ inr (queue-free (a .heap) (a .queue) i (a .linked) m) ] in
+    let t = tree-holds words (a .heap) (a .tree) few (a .root) (a .shape) (a .routed) (a .distinct) reads (λ i m. omega (arith, rows, a .inside i m)) each (omega arith) in
+    let q = queue-holds words (a .heap) (a .queue) few (a .head) (a .tail) not-empty (a .linked) (λ i m. reads i (omega (arith, rows, a .free i m)))
     (omega arith) (a .order) in
-    let sum : plus (min (sizeOf (a .tree)) NONE) (queueIn words .rows) ≡ rowsIn words =
-    omega (arith, plus-min (min (sizeOf (a .tree)) NONE) (queueIn words .rows), q .1, all) in
-    rw (a .opened, t) (and-eq-true-iff (wholeQueue words (queueIn words)) (eqb (plus (min (sizeOf (a .tree)) NONE) (queueIn words .rows)) (rowsIn words)) .1
-    (q .0, eq-eqb (plus (min (sizeOf (a .tree)) NONE) (queueIn words .rows)) (rowsIn words) sum))
+    let tree : ℕ = treeRows (countOf (a .tree)) in
+    let sum : plus tree (queueIn words .rows) ≡ rowsIn words =
+    omega (arith, plus-min tree (queueIn words .rows), rows-counted (a .tree) (countOf (a .tree)) refl, q .1, all) in
+    rw (a .opened, t) (and-eq-true-iff (wholeQueue words (queueIn words)) (eqb (plus tree (queueIn words .rows)) (rowsIn words)) .1
+    (q .0, eq-eqb (plus tree (queueIn words .rows)) (rowsIn words) sum))
 
 -- the audit says yes exactly if the sentence holds
 pub audit-exact : (words : List ℕ) → (auditOf words ≡ true) ↔ Audited words
@@ -252,7 +308,6 @@ audit-exact words = (audit-sound words, audit-complete)
 pub audit-related : {words : List ℕ} {t : Table} → Related words t → Audited words
 unfolding countsAt
 audit-related {words} {t} r =
-    let w = opened-tells words (t .places) (t .limit) (r .opened) in
     let s = r .store in
     let o = s .queue in
     record {
@@ -268,7 +323,6 @@ audit-related {words} {t} r =
       routed = s .routed;
       head = r .counted .head;
       tail = r .counted .tail;
-      not-empty = queue-not-empty s (w .places-least);
       linked = s .linked;
       inside = s .inside;
       free = s .free;

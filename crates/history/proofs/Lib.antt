@@ -63,7 +63,10 @@ pub mod AuditDistinct
 pub mod AuditOnce
 pub mod AuditCount
 pub mod AuditRows
-pub mod AuditTree
+pub mod AuditScan
+pub mod AuditGrow
+pub mod AuditClimb
+pub mod AuditLeaves
 pub mod AuditOrder
 pub mod AuditLine
 pub mod AuditQueue

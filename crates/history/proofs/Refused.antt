@@ -1,8 +1,8 @@
--- Refusals: the number of every call is that of the first question answered no, for all words and arguments (`open-number` to `report-number`), and a
--- refused call leaves every word as it was (`open-refused` to `take-refused`).
+-- Refusals: the number of every call is that of the first question answered no, for all words and arguments (`open-number` to `audit-number`), and a
+-- refused call leaves every word as it was (`open-refused` to `take-refused`); a refused audit does not say yes (`audit-refused`).
 use Prim.Native.Nat.{ℕ}
 use mathlib.Core.Path.{_≡_, refl, sym, ap, _∙_}
-use mathlib.Core.Logic.{_⊎_, inl, inr}
+use mathlib.Core.Logic.{_≢_, _⊎_, inl, inr}
 use mathlib.Core.Bool.{Bool, true, false, cond, _&&_, _||_}
 use mathlib.Core.List.{List, [], _∷_}
 use native.Mathlib.Omega.{arith}
@@ -40,8 +40,12 @@ use Rattle.steps.specs.Step.{recordsSound, workOf, stepOf}
 use Rattle.steps.specs.Take.{takingOf, takeOf, numberOf, takenWords, takeWords}
 use Rattle.steps.specs.declared.report.Report.{Report}
 use Rattle.steps.specs.Report.{reportOf}
+use Rattle.audits.specs.Tree.{treeIn}
+use Rattle.audits.specs.Queue.{queueIn}
+use Rattle.audits.specs.Whole.{allRows}
+use Rattle.steps.specs.Audit.{auditOf, verdictOf}
 use Rattle.steps.specs.Run.{isGiven}
-use Rattle.history.specs.Questions.{Question, asked, orElse, firstNo, openQuestions, stationQuestions, submitQuestions, stepQuestions, takeQuestions, reportQuestions}
+use Rattle.history.specs.Questions.{Question, asked, orElse, firstNo, openQuestions, stationQuestions, submitQuestions, stepQuestions, takeQuestions, sliceQuestions}
 
 -- ---- the work of a step is done or refused with 11
 
@@ -136,13 +140,36 @@ take-number words s = go (isOpened (openedIn words)) (ltb s 8) (waitingAt words 
     go true false w = refl
     go false l w = refl
 
-pub report-number : (words : List ℕ) → reportOf words .number ≡ firstNo (reportQuestions words)
+pub report-number : (words : List ℕ) → reportOf words .number ≡ firstNo (sliceQuestions words)
 unfolding reportOf firstNo
 report-number words = go (isOpened (openedIn words))
   where
     go : (o : Bool) → cond {A = Report} o (record { number = 0; taken = takenIn words }) (record { number = 4; taken = 0 }) .number ≡ orElse o 4 0
     go true = refl
     go false = refl
+
+-- an audit asks what a report asks
+pub audit-number : (words : List ℕ) → verdictOf words .number ≡ firstNo (sliceQuestions words)
+unfolding verdictOf firstNo
+audit-number words = go (isOpened (openedIn words))
+  where
+    go : (o : Bool) → cond o 0 4 ≡ orElse o 4 0
+    go true = refl
+    go false = refl
+
+-- the verdict of an audit is `auditOf`
+pub audit-says : (words : List ℕ) → verdictOf words .sound ≡ auditOf words
+unfolding verdictOf
+audit-says words = refl
+
+-- a refused audit does not say yes
+pub audit-refused : (words : List ℕ) → verdictOf words .number ≢ 0 → verdictOf words .sound ≡ false
+unfolding verdictOf auditOf
+audit-refused words n = go (isOpened (openedIn words)) n
+  where
+    go : (o : Bool) → _≢_ {A = ℕ} (cond o 0 4) 0 → cond o (allRows words (treeIn words) (queueIn words)) false ≡ false
+    go true n = absurd (n refl)
+    go false n = refl
 
 -- ---- a refused call leaves every word as it was
 

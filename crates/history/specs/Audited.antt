@@ -1,7 +1,8 @@
 -- What an audit says yes to: "the rows linked from the root, if any, have fields in range as for question 11 and form a tree in which each
 -- leaf's point is on the side that every cut above it sends it, parent links agree, and every row lies in the tree, among the spare rows, or in
--- the records awaiting release, once and in order of removal."
-use Prim.Native.Nat.{ℕ, _+_, _*_, _≤_, _<_}
+-- the records awaiting release, once and in order of removal." The spare rows are those that the queue gives out before the first awaited one, so
+-- their fields, the queue's tail and their numbers belong to it (docs/LAYOUT.md lists what is asked, docs/DECISIONS.md why).
+use Prim.Native.Nat.{ℕ, _+_, _*_, _<_}
 use mathlib.Core.Path.{_≡_}
 use mathlib.Core.Logic.{_⊎_}
 use mathlib.Core.List.{List, _++_}
@@ -42,7 +43,6 @@ pub record Audited (words : List ℕ) : Type 0 where
   -- the free rows are the queue, from its head by next links to its tail, whose next link is none
   pub head : get words atHead ≡ headOf queue
   pub tail : get words atTail ≡ tailOf queue
-  pub not-empty : 1 ≤ length queue
   pub linked : Linked heap queue
   -- every row lies in the tree or in the queue, once
   pub inside : (i : ℕ) → Has tree i → i < 2 * places

@@ -59,6 +59,6 @@ stepQuestions words s =
 abbrev pub takeQuestions : List ℕ → ℕ → List Question
 takeQuestions words s = stationQuestions words s (asked (isGiven (waitingAt words s)) 12 ∷ [])
 
--- a report names no station
-abbrev pub reportQuestions : List ℕ → List Question
-reportQuestions words = asked (isOpened (openedIn words)) 4 ∷ []
+-- a report and an audit name no station: question 4, of the slice alone
+abbrev pub sliceQuestions : List ℕ → List Question
+sliceQuestions words = asked (isOpened (openedIn words)) 4 ∷ []

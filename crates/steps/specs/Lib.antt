@@ -5,3 +5,4 @@ pub mod Take
 pub mod Report
 pub mod Run
 pub mod Held
+pub mod Audit

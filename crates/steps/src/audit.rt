@@ -1,19 +1,31 @@
-// The audit: the tree is counted from the root and the queue from its head, and together they must be all the rows.
+// The audit: every row answers for itself, the queue is walked from its head, and together they must be all the rows.
 use audits::queue::queue;
 use audits::tree::tree;
 use audits::whole::all_rows;
 use moves::reply::is_opened;
 use rows::common::opened;
 ghost use mathlib.Core.Path.{_≡_};
-ghost use Rattle.audits.specs.Audit.{auditOf};
+ghost use Rattle.steps.specs.Audit.{verdictOf};
 
-// Whether every row is in the tree or in the queue, once, and both are sound; no for a slice that is not opened.
-pub fn audit(words: &[u32]) -> bool
-    ensures { λ r. ⌜ r ≡ auditOf (now (words .entry)) ⌝ }
+// The number of the question that failed, or 0, and whether the audit says yes; not with a refusal.
+pub struct Verdict {
+    pub number: u32,
+    pub sound: bool,
+}
+
+// Question 4; then whether every row is in the tree or in the queue, once, and both are sound.
+pub fn audit(words: &[u32]) -> Verdict
+    ensures { λ r. ⌜ r ≡ verdictOf (now (words .entry)) ⌝ }
 {
     if is_opened(opened(words)) {
-        all_rows(words, tree(words), queue(words))
+        Verdict {
+            number: 0,
+            sound: all_rows(words, tree(words), queue(words)),
+        }
     } else {
-        false
+        Verdict {
+            number: 4,
+            sound: false,
+        }
     }
 }

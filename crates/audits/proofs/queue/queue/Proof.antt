@@ -2,25 +2,27 @@
 use borrow.Author.Needs.{needs}
 use Rattle.audits.proofs.queue.queue.Statement.{statement}
 use Rattle.audits.proofs.queue.queue.Tie as tie
-use Rattle.audits.specs.Audit.{queueIn}
+use mathlib.Core.Path.{_∙_}
+use denote.Ref.{now}
+use Rattle.audits.specs.Queue.{walkQueue, queueIn}
 
 rows-in-requires : tie.Need-rows-in-requires
 rows-in-requires c κs = search needs
 
-least-since-requires : tie.Need-least-since-requires
-least-since-requires c κs = search needs
-
-get-requires : tie.Need-get-requires
-get-requires c κs = search needs
+line-at-head-requires : tie.Need-line-at-head-requires
+line-at-head-requires c κs = search needs
 
 walk-queue-requires : tie.Need-walk-queue-requires
 walk-queue-requires c κs = search needs
 
 returns : tie.Need-returns
 unfolding queueIn
-returns c = cc
+returns c =
+    let s = c .before .before .before .before .args in
+    let rows = c .before .before .rows-in .ensures in
+    let start = c .before .line-at-head .ensures in
+    c .walk-queue .ensures ∙ (λ i. walkQueue (now (s .words)) (rows i) (start i .number) (rows i) (start i))
 
 pub queue-spec : {M : Type 1} → statement M
 queue-spec =
-    tie.close
-    (tie.spec rows-in-requires least-since-requires get-requires walk-queue-requires returns)
+    tie.close (tie.spec rows-in-requires line-at-head-requires walk-queue-requires returns)

@@ -6,6 +6,9 @@ use Rattle.audits.proofs.whole.all_rows.Tie as tie
 whole-queue-requires : tie.Need-whole-queue-requires
 whole-queue-requires c κs = search needs
 
+tree-rows-requires : tie.Need-tree-rows-requires
+tree-rows-requires c κs = search needs
+
 plus-requires : tie.Need-plus-requires
 plus-requires c κs = search needs
 
@@ -16,4 +19,6 @@ returns : tie.Need-returns
 returns c = cc
 
 pub all-rows-spec : {M : Type 1} → statement M
-all-rows-spec = tie.close (tie.spec whole-queue-requires plus-requires rows-in-requires returns)
+all-rows-spec =
+    tie.close
+    (tie.spec whole-queue-requires tree-rows-requires plus-requires rows-in-requires returns)

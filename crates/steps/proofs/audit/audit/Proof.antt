@@ -2,11 +2,15 @@
 use borrow.Author.Needs.{needs}
 use Rattle.steps.proofs.audit.audit.Statement.{statement}
 use Rattle.steps.proofs.audit.audit.Tie as tie
-use mathlib.Core.Path.{refl, sym, ap, _∙_}
-use mathlib.Core.Bool.{true, false}
+use mathlib.Core.Path.{_≡_, sym, ap, _∙_}
+use mathlib.Core.Bool.{true, false, cond}
 use denote.Ref.{now}
+use Rattle.rows.specs.Common.{openedIn}
 use Rattle.moves.specs.Reply.{isOpened}
-use Rattle.audits.proofs.AuditLaws.{audit-by}
+use Rattle.audits.specs.Tree.{treeIn}
+use Rattle.audits.specs.Queue.{queueIn}
+use Rattle.audits.specs.Whole.{allRows}
+use Rattle.steps.specs.Audit.{auditOf, verdictOf}
 
 opened-requires : tie.Need-opened-requires
 opened-requires c κs = search needs
@@ -24,23 +28,22 @@ all-rows-requires : tie.Need-all-rows-requires
 all-rows-requires c κs = search needs
 
 returns : tie.Need-returns
+unfolding verdictOf auditOf
 returns c =
     let o = c .before .before .before .before in
     let s = o .before .before .before .args in
-    c .all-rows .ensures
-    ∙ audit-by (now (s .words)) true _ _
-    (sym (c .before .before .before .if1 .taken) ∙ o .is-opened .ensures ∙ ap isOpened (o .before .opened .ensures))
-    (c .before .before .tree .ensures)
-    (c .before .queue .ensures)
+    let passes : true ≡ isOpened (openedIn (now (s .words))) =
+    sym (c .before .before .before .if1 .taken) ∙ o .is-opened .ensures ∙ ap isOpened (o .before .opened .ensures) in
+    let rows = c .all-rows .ensures ∙ (λ i. allRows (now (s .words)) (c .before .before .tree .ensures i) (c .before .queue .ensures i)) in
+    λ i. record { number = cond (passes i) 0 4; sound = cond (passes i) (rows i) false }
 
 returns-2 : tie.Need-returns-2
+unfolding verdictOf auditOf
 returns-2 c =
     let o = c .before in
     let s = o .before .before .before .args in
-    audit-by (now (s .words)) false _ _
-    (sym (c .if1 .left) ∙ o .is-opened .ensures ∙ ap isOpened (o .before .opened .ensures))
-    refl
-    refl
+    let passes : false ≡ isOpened (openedIn (now (s .words))) = sym (c .if1 .left) ∙ o .is-opened .ensures ∙ ap isOpened (o .before .opened .ensures) in
+    λ i. record { number = cond (passes i) 0 4; sound = cond (passes i) (allRows (now (s .words)) (treeIn (now (s .words))) (queueIn (now (s .words)))) false }
 
 pub audit-spec : {M : Type 1} → statement M
 audit-spec =

@@ -1,8 +1,8 @@
--- `audits::tree::plus` meets its contract. Assumes nothing.
+-- `audits::sum::plus` meets its contract. Assumes nothing.
 use borrow.Author.Needs.{needs}
-use Rattle.audits.proofs.tree.plus.Statement.{statement}
-use Rattle.audits.proofs.tree.plus.Tie as tie
-use Rattle.audits.specs.Audit.{plus}
+use Rattle.audits.proofs.sum.plus.Statement.{statement}
+use Rattle.audits.proofs.sum.plus.Tie as tie
+use Rattle.audits.specs.Sum.{plus}
 use native.Mathlib.Omega.{arith}
 use borrow.Author.Tests.{le-leb, lt-leb}
 use Prim.Native.Nat.{_+_, _≤_, _<_}
