@@ -2,6 +2,7 @@
 #ifndef INDEX_H
 #define INDEX_H
 
+#include <stdbool.h>
 #include <stddef.h>
 #include "records.h"
 
@@ -13,7 +14,12 @@ uint32_t index_open(uint32_t *words, size_t length, uint32_t places, uint32_t li
 uint32_t index_submit(uint32_t *words, size_t length, uint32_t s, uint32_t kind, int32_t grade, int32_t weight, int32_t moisture,
                       int32_t speed, int32_t draw, uint32_t curve);
 uint32_t index_step(uint32_t *words, size_t length, uint32_t s);
+uint32_t index_run(uint32_t *words, size_t length, uint32_t s);
 uint32_t index_take(uint32_t *words, size_t length, uint32_t s);
+uint32_t index_report_number(const uint32_t *words, size_t length);
+uint64_t index_report(const uint32_t *words, size_t length);
+uint32_t index_audit_number(const uint32_t *words, size_t length);
+bool index_audit(const uint32_t *words, size_t length);
 
 // An index that was opened.
 struct index {

@@ -1,6 +1,7 @@
 // The benchmark of the steps: an index and a flat scan of the same records, side by side in one run.
 #define _GNU_SOURCE
 #include "measure.h"
+#include "stair.h"
 #include <sched.h>
 #include <stdio.h>
 #include <stdlib.h>
@@ -69,6 +70,24 @@ static void steps_of(struct pair *pair, const char *name, struct six (*measure)(
     printf("%-14s  %8llu steps  %6u ns, the median\n", name, (unsigned long long)steps, best);
 }
 
+static void stairs(struct index index)
+{
+    static const struct {
+        uint32_t records;
+        enum order order;
+    } rows[] = {{256, BY_WEIGHT}, {1024, BY_WEIGHT}, {MOST_PLACES, BY_WEIGHT}, {MOST_PLACES, SHUFFLED}};
+    printf("\nThe time of an audit, and the most bytes of stack that a call took\n");
+    printf("%7s  %-9s  %8s  %5s  %6s  %5s  %5s  %5s  %6s  %6s\n", "records", "added", "audit ms", "open", "submit", "step", "run", "take",
+           "report", "audit");
+    for (size_t i = 0; i < sizeof rows / sizeof rows[0]; i++) {
+        index.length = words_for(rows[i].records);
+        struct stair stair = measure_stair(index, rows[i].records, rows[i].order);
+        const size_t *u = stair.used;
+        printf("%7u  %-9s  %8.3f  %5zu  %6zu  %5zu  %5zu  %5zu  %6zu  %6zu\n", rows[i].records, rows[i].order == BY_WEIGHT ? "by weight" : "shuffled",
+               stair.audit_ns / 1e6, u[OPENING], u[SUBMISSION], u[STEP], u[RUN], u[TAKING], u[REPORT], u[AUDIT]);
+    }
+}
+
 // One processor throughout: the clocks of two may differ.
 static void stay_here(void)
 {
@@ -95,6 +114,7 @@ int main(void)
     pair.spread = UNIFORM;
     steps_of(&pair, "walk", measure_walks);
     steps_of(&pair, "search", measure_searches);
+    stairs(pair.index);
     free(pair.index.words);
     return 0;
 }

@@ -1,6 +1,9 @@
-// The calls that the benchmark makes, for programs in C: a slice is lent as its first word and its length.
+// The calls for programs in C, as the benchmark makes them: a slice is lent as its first word and its length.
 use points::point::Point;
+use steps::audit::audit;
 use steps::open::open;
+use steps::report::read_report;
+use steps::run::run;
 use steps::step::step;
 use steps::submit::submit;
 use steps::take::Taking;
@@ -10,7 +13,10 @@ ghost use Rattle.moves.specs.Reply.{replied};
 ghost use Rattle.steps.specs.Open.{openOf};
 ghost use Rattle.steps.specs.Submit.{submitOf};
 ghost use Rattle.steps.specs.Step.{stepOf};
+ghost use Rattle.steps.specs.Run.{runOf};
 ghost use Rattle.steps.specs.Take.{numberOf, takeOf, takeWords};
+ghost use Rattle.steps.specs.Report.{reportOf};
+ghost use Rattle.steps.specs.Audit.{verdictOf};
 
 // Opening.
 #[no_mangle]
@@ -53,6 +59,14 @@ pub extern "C" fn index_step(words: &mut [u32], s: u32) -> u32
     step(words, s)
 }
 
+// Steps of station s until it is answered.
+#[no_mangle]
+pub extern "C" fn index_run(words: &mut [u32], s: u32) -> u32
+    ensures { λ r. ⌜ replied r (now (words .exit)) ≡ runOf (now (words .entry)) s ⌝ }
+{
+    run(words, s)
+}
+
 // The number of a taking.
 fn number_of(taking: Taking) -> u32
     ensures { λ r. ⌜ r ≡ numberOf taking ⌝ }
@@ -69,4 +83,40 @@ pub extern "C" fn index_take(words: &mut [u32], s: u32) -> u32
     ensures { λ r. ⌜ (r ≡ numberOf (takeOf (now (words .entry)) s)) × (now (words .exit) ≡ takeWords (now (words .entry)) s) ⌝ }
 {
     number_of(take(words, s))
+}
+
+// The number of a report.
+#[no_mangle]
+pub extern "C" fn index_report_number(words: &[u32]) -> u32
+    ensures { λ r. ⌜ r ≡ reportOf (now (words .entry)) .number ⌝ }
+{
+    let report = read_report(words);
+    report.number
+}
+
+// The places taken, 0 with a refusal.
+#[no_mangle]
+pub extern "C" fn index_report(words: &[u32]) -> u64
+    ensures { λ r. ⌜ r ≡ reportOf (now (words .entry)) .taken ⌝ }
+{
+    let report = read_report(words);
+    report.taken
+}
+
+// The number of an audit.
+#[no_mangle]
+pub extern "C" fn index_audit_number(words: &[u32]) -> u32
+    ensures { λ r. ⌜ r ≡ verdictOf (now (words .entry)) .number ⌝ }
+{
+    let verdict = audit(words);
+    verdict.number
+}
+
+// Whether the audit says yes; not with a refusal.
+#[no_mangle]
+pub extern "C" fn index_audit(words: &[u32]) -> bool
+    ensures { λ r. ⌜ r ≡ verdictOf (now (words .entry)) .sound ⌝ }
+{
+    let verdict = audit(words);
+    verdict.sound
 }

@@ -1,0 +1,145 @@
+#include "stack.h"
+#include <stdint.h>
+#include <string.h>
+#include <ucontext.h>
+
+#define SIZE (2u << 20)
+#define PAINT 0xA5
+#define LIMIT 4000000000u
+
+static unsigned char stacks[ENTRIES][SIZE];
+
+// The call that is made: its arguments, and what it gave.
+static struct {
+    struct index index;
+    uint32_t places;
+    uint32_t s;
+    struct call call;
+    uint32_t number;
+    bool sound;
+} made;
+
+static ucontext_t here, there;
+
+__attribute__((noinline)) static uint32_t nothing(uint32_t *words, size_t length)
+{
+    __asm__ volatile("" : : "r"(words), "r"(length));
+    return 0;
+}
+
+static void make_nothing(void)
+{
+    made.number = nothing(made.index.words, made.index.length);
+}
+
+static void make_open(void)
+{
+    made.number = index_open(made.index.words, made.index.length, made.places, LIMIT);
+}
+
+static void make_submit(void)
+{
+    const int32_t *p = made.call.record.point.axis;
+    made.number = index_submit(made.index.words, made.index.length, made.s, made.call.kind, p[0], p[1], p[2], p[3], p[4], made.call.record.curve);
+}
+
+static void make_step(void)
+{
+    made.number = index_step(made.index.words, made.index.length, made.s);
+}
+
+static void make_run(void)
+{
+    made.number = index_run(made.index.words, made.index.length, made.s);
+}
+
+static void make_take(void)
+{
+    made.number = index_take(made.index.words, made.index.length, made.s);
+}
+
+static void make_report(void)
+{
+    made.number = (uint32_t)index_report(made.index.words, made.index.length);
+}
+
+static void make_audit(void)
+{
+    made.sound = index_audit(made.index.words, made.index.length);
+}
+
+static void (*const MAKE[ENTRIES])(void) = {make_nothing, make_open, make_submit, make_step, make_run, make_take, make_report, make_audit};
+
+static void make(enum entry entry, struct index index)
+{
+    made.index = index;
+    getcontext(&there);
+    there.uc_stack.ss_sp = stacks[entry];
+    there.uc_stack.ss_size = SIZE;
+    there.uc_link = &here;
+    makecontext(&there, MAKE[entry], 0);
+    swapcontext(&here, &there);
+}
+
+void paint(void)
+{
+    memset(stacks, PAINT, sizeof stacks);
+    make(NOTHING, (struct index){NULL, 0});
+}
+
+void painted_open(struct index index, uint32_t places)
+{
+    made.places = places;
+    make(OPENING, index);
+}
+
+void painted_submit(struct index index, uint32_t s, struct call call)
+{
+    made.s = s;
+    made.call = call;
+    make(SUBMISSION, index);
+}
+
+void painted_step(struct index index, uint32_t s)
+{
+    made.s = s;
+    make(STEP, index);
+}
+
+uint32_t painted_run(struct index index, uint32_t s)
+{
+    made.s = s;
+    make(RUN, index);
+    return made.number;
+}
+
+void painted_take(struct index index, uint32_t s)
+{
+    made.s = s;
+    make(TAKING, index);
+}
+
+void painted_report(struct index index)
+{
+    make(REPORT, index);
+}
+
+bool painted_audit(struct index index)
+{
+    make(AUDIT, index);
+    return made.sound;
+}
+
+static size_t below_paint(enum entry entry)
+{
+    size_t i = 0;
+    while (i < SIZE && stacks[entry][i] == PAINT)
+        i++;
+    return SIZE - i;
+}
+
+size_t stack_used(enum entry entry)
+{
+    size_t used = below_paint(entry), nothing_used = below_paint(NOTHING);
+    return used > nothing_used ? used - nothing_used : 0;
+}

@@ -1,0 +1,125 @@
+#define _POSIX_C_SOURCE 200809L
+#include "stair.h"
+#include "flat.h"
+#include <stdio.h>
+#include <stdlib.h>
+#include <time.h>
+
+#define ROUNDS 7
+#define EVENTS 20000
+#define DAMAGES 20000
+#define GRADE 12
+
+// The places of the index whose words are changed; every measured one has as many.
+#define FEW 256
+
+static double clock_ns(void)
+{
+    struct timespec t;
+    clock_gettime(CLOCK_MONOTONIC, &t);
+    return (double)t.tv_sec * 1e9 + (double)t.tv_nsec;
+}
+
+static struct call call_at(uint32_t kind, uint32_t weight)
+{
+    return (struct call){kind, {{{GRADE, (int32_t)weight, 0, 0, 0}}, 1}};
+}
+
+static void must(bool right, const char *what)
+{
+    if (!right) {
+        fprintf(stderr, "bench: %s\n", what);
+        exit(1);
+    }
+}
+
+// The weights 1 to so many, each once.
+static void draw_weights(uint32_t weights[], uint32_t records, enum order order)
+{
+    for (uint32_t k = 0; k < records; k++) {
+        uint32_t j = order == SHUFFLED ? random_below(k + 1) : k;
+        weights[k] = weights[j];
+        weights[j] = k + 1;
+    }
+}
+
+static void build(struct index index, uint32_t records, enum order order)
+{
+    static uint32_t weights[MOST_PLACES];
+    draw_weights(weights, records, order);
+    painted_open(index, records);
+    for (uint32_t k = 0; k < records; k++) {
+        painted_submit(index, 0, call_at(ADD, weights[k]));
+        must(painted_run(index, 0) == 0, "a run on a stair was refused");
+        painted_take(index, 0);
+    }
+}
+
+static double audit_time(struct index index)
+{
+    double best = 1e18;
+    for (int round = 0; round < ROUNDS; round++) {
+        double begin = clock_ns();
+        bool sound = index_audit(index.words, index.length);
+        double took = clock_ns() - begin;
+        must(sound, "the audit of a stair says no");
+        best = took < best ? took : best;
+    }
+    return best;
+}
+
+// One call of some station: a submission, a taking, a report, a run now and then, and mostly steps.
+static void some_call(struct index index, uint32_t records)
+{
+    uint32_t s = random_below(STATIONS);
+    switch (random_below(16)) {
+    case 0:
+    case 1:
+    case 2:
+        painted_submit(index, s, call_at(1 + random_below(4), 1 + random_below(records)));
+        break;
+    case 3:
+    case 4:
+        painted_take(index, s);
+        break;
+    case 5:
+        painted_report(index);
+        break;
+    case 6:
+        painted_run(index, s);
+        break;
+    default:
+        painted_step(index, s);
+    }
+}
+
+// A word of the records or of some row becomes another.
+static void damage(struct index index)
+{
+    size_t at = random_below(2) ? random_below((uint32_t)words_for(0)) : random_below((uint32_t)index.length);
+    index.words[at] = random_below(2) ? random_below(64) : NONE;
+}
+
+struct stair measure_stair(struct index index, uint32_t records, enum order order)
+{
+    struct stair stair;
+    random_seed(records);
+    paint();
+    build(index, records, order);
+    stair.audit_ns = audit_time(index);
+    must(painted_audit(index), "the audit of a stair says no");
+    for (int n = 0; n < EVENTS; n++)
+        some_call(index, records);
+    must(painted_audit(index), "the audit after a history says no");
+    for (int n = 0; n < DAMAGES; n++) {
+        damage(index);
+        some_call(index, records);
+        if (n % 500 == 0) {
+            painted_audit(index);
+            build(index, FEW, order);
+        }
+    }
+    for (int entry = 0; entry < ENTRIES; entry++)
+        stair.used[entry] = stack_used((enum entry)entry);
+    return stair;
+}

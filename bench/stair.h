@@ -1,0 +1,18 @@
+// The time of an audit, and the stack of every call: on records of one grade that differ in weight alone, added in order of weight, which makes
+// the deepest tree there is (a stair), or in a random order.
+#ifndef STAIR_H
+#define STAIR_H
+
+#include "stack.h"
+
+struct stair {
+    double audit_ns;
+    size_t used[ENTRIES];
+};
+
+enum order { BY_WEIGHT, SHUFFLED };
+
+// So many records in an index of as many places, audited; then calls of eight stations on it, and calls on words changed at random.
+struct stair measure_stair(struct index index, uint32_t records, enum order order);
+
+#endif
