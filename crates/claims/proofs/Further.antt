@@ -1,13 +1,15 @@
 -- What document 01 says besides the demands: what an opening leaves (`opening-fresh`, `opening-again`, `opening-beyond`), the report (`report-after`), the audit (`audit-says`,
--- `audit-exact`, `audit-after`), question 11 (`never-11`) and runs (`run-is-steps`, `run-after`).
+-- `audit-exact`, `audit-after`), question 11 (`never-11`) and runs (`run-is-steps`, `run-after`); and of document 02 the comparison of points (`comparison-tells`).
 use Prim.Native.Nat.{ℕ, _+_, _*_, _≤_, _<_}
 use mathlib.Core.Path.{_≡_, refl, ap, _∙_, subst}
 use mathlib.Core.Logic.{_⊎_, _↔_}
 use mathlib.Core.Bool.{true}
 use mathlib.Core.List.{List, [], map, append-nil, List·Memᴰ, List·Memᴰ·not-nil}
 use lib.ListN.{length}
+use Rattle.claims.specs.Definitions.{Point, orderOf, comparedOf, Looked}
 use Rattle.claims.specs.Definitions.{atChanges, get, rowAt, Spare, isIdle, isUnfinished, stateAt, Record, Table, opened, taken, Event}
 use Rattle.claims.specs.Definitions.{openOf, stepOf, mostSteps, runOf, takeOf, numberOf, reportOf, auditOf, verdictOf, heldIn, recordOf, after, stepped, firstNo, Audited}
+use Rattle.points.proofs.ComparedLaws.{compared-tells}
 use Rattle.history.specs.View.{countsAt, seatAt, Counts}
 use Rattle.history.proofs.OpenEffects.{OpenedAs, open-written}
 use Rattle.history.proofs.OpenBeyond.{open-beyond}
@@ -113,3 +115,10 @@ pub run-after : (words : List ℕ) (places limit : ℕ) → openOf words places 
     → (runOf (after evs (openOf words places limit .words)) s .number ≡ 0)
     × (numberOf (takeOf (runOf (after evs (openOf words places limit .words)) s .words) s) ≡ 0)
 run-after words places limit e evs s u = let x = run-answers words places limit e evs s u in (x .number, x .answered)
+
+-- ---- the comparison of points
+
+-- 2026-03: "the comparison should end at the first axis that differs. It also tells how many axes it looked at, proved to be the number of that axis, or 5 where none differs;
+-- the rest of its contract is untouched." For all points, in range or not; `Looked` says the number in words.
+pub comparison-tells : (a b : Point) → (comparedOf a b .order ≡ orderOf a b) × Looked a b (comparedOf a b .looked)
+comparison-tells = compared-tells

@@ -6,6 +6,8 @@
 -- a point's five coordinates, and whether they are in range
 pub use Rattle.points.specs.declared.point.Point.{Point}
 pub use Rattle.points.specs.Point.{inRange}
+-- a comparison of two points: their order, and how many axes it looks at, also in words
+pub use Rattle.points.specs.Order.{orderOf, comparedOf, Looked}
 -- the square of two points; the cut between two points, and the side on which it has a point
 pub use Rattle.points.specs.Square.{squareOf}
 pub use Rattle.points.specs.Cut.{cutOf, goesLeft}

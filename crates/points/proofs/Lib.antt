@@ -3,6 +3,7 @@ pub mod IntegerLaws
 pub mod MachineLaws
 pub mod PointLaws
 pub mod OrderLaws
+pub mod ComparedLaws
 pub mod SquareLaws
 pub mod CutLaws
 pub mod ChoiceLaws

@@ -258,20 +258,27 @@ order-turn a b = ordered .turn a b
 pub order-trans : (a b c : Point) → orderOf a b ≡ Less → orderOf b c ≡ Less → orderOf a c ≡ Less
 order-trans a b c e f = ordered .trans a b c e f
 
+-- points that agree on every axis
+pub points-equal : (a b : Point) → coordinateOf a 1 ≡ coordinateOf b 1 → coordinateOf a 2 ≡ coordinateOf b 2 → coordinateOf a 3 ≡ coordinateOf b 3
+    → coordinateOf a 4 ≡ coordinateOf b 4 → coordinateOf a 5 ≡ coordinateOf b 5 → a ≡ b
+unfolding coordinateOf
+points-equal a b grade weight moisture speed draw =
+    λ i. record { grade = grade i; weight = weight i; moisture = moisture i; speed = speed i; draw = draw i }
+
 pub order-equal : (a b : Point) → orderOf a b ≡ Equal → a ≡ b
-unfolding from2 from3 from4 coordinateOf
+unfolding from2 from3 from4
 order-equal a b e =
     let s1 = sym (order-from a b) ∙ e in
     let s2 = then-second (byAxis a b 1) (from2 a b) s1 in
     let s3 = then-second (byAxis a b 2) (from3 a b) s2 in
     let s4 = then-second (byAxis a b 3) (from4 a b) s3 in
     let s5 = then-second (byAxis a b 4) (byAxis a b 5) s4 in
-    let grade : a .grade ≡ b .grade = axis-equal a b 1 (then-first (byAxis a b 1) (from2 a b) s1) in
-    let weight : a .weight ≡ b .weight = axis-equal a b 2 (then-first (byAxis a b 2) (from3 a b) s2) in
-    let moisture : a .moisture ≡ b .moisture = axis-equal a b 3 (then-first (byAxis a b 3) (from4 a b) s3) in
-    let speed : a .speed ≡ b .speed = axis-equal a b 4 (then-first (byAxis a b 4) (byAxis a b 5) s4) in
-    let draw : a .draw ≡ b .draw = axis-equal a b 5 s5 in
-    λ i. record { grade = grade i; weight = weight i; moisture = moisture i; speed = speed i; draw = draw i }
+    points-equal a b
+    (axis-equal a b 1 (then-first (byAxis a b 1) (from2 a b) s1))
+    (axis-equal a b 2 (then-first (byAxis a b 2) (from3 a b) s2))
+    (axis-equal a b 3 (then-first (byAxis a b 3) (from4 a b) s3))
+    (axis-equal a b 4 (then-first (byAxis a b 4) (byAxis a b 5) s4))
+    (axis-equal a b 5 s5)
 
 -- ---- one point
 pub same-point-refl : (a : Point) → samePoint a a ≡ true

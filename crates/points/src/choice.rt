@@ -30,7 +30,9 @@ pub fn chosen_over(target: Point, a: Point, b: Point) -> bool
     if y < x {
         return false;
     }
-    compare(a, b).is_less()
+    let compared = compare(a, b);
+    let order = compared.order;
+    order.is_less()
 }
 
 // Twice the least distance of a target from the far side of a cut, on the cut's axis.

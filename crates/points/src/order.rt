@@ -1,12 +1,18 @@
 // The order of points: axis by axis, the first that differs decides.
 use crate::point::Point;
 ghost use mathlib.Core.Path.{_≡_};
-ghost use Rattle.points.specs.Order.{byAxis, thenOf, orderOf, isLess, isEqual, samePoint};
+ghost use Rattle.points.specs.Order.{byAxis, comparedOf, isLess, isEqual, samePoint};
 
 pub enum Order {
     Less,
     Equal,
     Greater,
+}
+
+// What a comparison tells: the order, and how many axes it looked at.
+pub struct Compared {
+    pub order: Order,
+    pub looked: u32,
 }
 
 // The order of two points on one axis.
@@ -24,28 +30,20 @@ pub fn by_axis(a: Point, b: Point, axis: u32) -> Order
     Order::Equal
 }
 
-// The first of two orders that is not `Equal`.
-fn then(first: Order, second: Order) -> Order
-    ensures { λ r. ⌜ r ≡ thenOf first second ⌝ }
+// The order of two points. The comparison ends at the first axis that differs.
+pub fn compare(a: Point, b: Point) -> Compared
+    ensures { λ r. ⌜ r ≡ comparedOf a b ⌝ }
 {
-    match first {
-        Order::Less => Order::Less,
-        Order::Equal => second,
-        Order::Greater => Order::Greater,
+    let mut looked = 1;
+    let mut order = by_axis(a, b, looked);
+    while order.is_equal() & (looked < 5) {
+        looked += 1;
+        order = by_axis(a, b, looked);
     }
-}
-
-// The order of two points.
-pub fn compare(a: Point, b: Point) -> Order
-    ensures { λ r. ⌜ r ≡ orderOf a b ⌝ }
-{
-    then(
-        by_axis(a, b, 1),
-        then(
-            by_axis(a, b, 2),
-            then(by_axis(a, b, 3), then(by_axis(a, b, 4), by_axis(a, b, 5))),
-        ),
-    )
+    Compared {
+        order: order,
+        looked: looked,
+    }
 }
 
 impl Order {
@@ -74,5 +72,7 @@ impl Order {
 pub fn same_point(a: Point, b: Point) -> bool
     ensures { λ r. ⌜ r ≡ samePoint a b ⌝ }
 {
-    compare(a, b).is_equal()
+    let compared = compare(a, b);
+    let order = compared.order;
+    order.is_equal()
 }

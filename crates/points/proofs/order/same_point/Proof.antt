@@ -1,7 +1,10 @@
+-- `points::order::same_point` meets its contract. Assumes nothing.
 use borrow.Author.Needs.{needs}
 use Rattle.points.proofs.order.same_point.Statement.{statement}
 use Rattle.points.proofs.order.same_point.Tie as tie
-use Rattle.points.specs.Order.{samePoint}
+use mathlib.Core.Path.{ap, _∙_}
+use Rattle.points.specs.declared.order.Compared.{Compared}
+use Rattle.points.specs.Order.{comparedOf, isEqual, samePoint}
 
 compare-requires : tie.Need-compare-requires
 compare-requires c κs = search needs
@@ -10,8 +13,8 @@ is-equal-requires : tie.Need-is-equal-requires
 is-equal-requires c κs = search needs
 
 returns : tie.Need-returns
-unfolding samePoint
-returns c = cc
+unfolding samePoint comparedOf
+returns c = c .is-equal .ensures ∙ ap (λ (r : Compared). isEqual (r .order)) (c .before .compare .ensures)
 
 pub same-point-spec : {M : Type 1} → statement M
 same-point-spec = tie.close (tie.spec compare-requires is-equal-requires returns)
