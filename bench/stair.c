@@ -8,6 +8,12 @@
 #define ROUNDS 7
 #define EVENTS 20000
 #define DAMAGES 20000
+
+// The words changed one after another before the index is audited and built anew.
+#define AT_ONCE 20
+
+// Mark, places and limit: with one of these changed every call is refused with 4, so they stay.
+#define OPENING_WORDS 3
 #define GRADE 12
 
 // The places of the index whose words are changed; every measured one has as many.
@@ -93,11 +99,25 @@ static void some_call(struct index index, uint32_t records)
     }
 }
 
-// A word of the records or of some row becomes another.
+// A word of the records or of some row of an index of FEW places becomes another.
 static void damage(struct index index)
 {
-    size_t at = random_below(2) ? random_below((uint32_t)words_for(0)) : random_below((uint32_t)index.length);
-    index.words[at] = random_below(2) ? random_below(64) : NONE;
+    uint32_t end = (uint32_t)words_for(random_below(2) ? 0 : FEW);
+    index.words[OPENING_WORDS + random_below(end - OPENING_WORDS)] = random_below(2) ? random_below(64) : NONE;
+}
+
+// Calls on an index of FEW places in which words are changed.
+static void damaged_calls(struct index index, enum order order)
+{
+    for (int n = 0; n < DAMAGES; n++) {
+        if (n % AT_ONCE == 0) {
+            painted_audit(index);
+            build(index, FEW, order);
+        }
+        damage(index);
+        some_call(index, FEW);
+        must(index_report_number(index.words, index.length) == 0, "words changed at random are refused with 4");
+    }
 }
 
 struct stair measure_stair(struct index index, uint32_t records, enum order order)
@@ -111,14 +131,7 @@ struct stair measure_stair(struct index index, uint32_t records, enum order orde
     for (int n = 0; n < EVENTS; n++)
         some_call(index, records);
     must(painted_audit(index), "the audit after a history says no");
-    for (int n = 0; n < DAMAGES; n++) {
-        damage(index);
-        some_call(index, records);
-        if (n % 500 == 0) {
-            painted_audit(index);
-            build(index, FEW, order);
-        }
-    }
+    damaged_calls(index, order);
     for (int entry = 0; entry < ENTRIES; entry++)
         stair.used[entry] = stack_used((enum entry)entry);
     return stair;

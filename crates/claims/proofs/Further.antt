@@ -119,6 +119,7 @@ run-after words places limit e evs s u = let x = run-answers words places limit 
 -- ---- the comparison of points
 
 -- 2026-03: "the comparison should end at the first axis that differs. It also tells how many axes it looked at, proved to be the number of that axis, or 5 where none differs;
--- the rest of its contract is untouched." For all points, in range or not; `Looked` says the number in words.
+-- the rest of its contract is untouched." For all points, in range or not: the order, and the number that it tells, which `Looked` says in words. That it looks no further is the
+-- code's, whose loop counts this number; no contract speaks of the work that is done.
 pub comparison-tells : (a b : Point) → (comparedOf a b .order ≡ orderOf a b) × Looked a b (comparedOf a b .looked)
 comparison-tells = compared-tells
