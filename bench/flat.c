@@ -9,6 +9,12 @@ static int order(const struct point *a, const struct point *b)
     return 0;
 }
 
+// Among equal squares: the heavier wins, and of two of one weight the lower.
+static int wins(const struct point *a, const struct point *b)
+{
+    return a->axis[1] != b->axis[1] ? a->axis[1] > b->axis[1] : order(a, b) < 0;
+}
+
 static uint64_t square(const struct point *a, const struct point *b)
 {
     int64_t sum = 0;
@@ -36,7 +42,7 @@ static struct answer nearest(const struct flat *flat, struct point target)
         if (r->point.axis[0] != target.axis[0])
             continue;
         uint64_t s = square(&r->point, &target);
-        if (best.code == 9 || s < best.square || (s == best.square && order(&r->point, &best.point) < 0))
+        if (best.code == 9 || s < best.square || (s == best.square && wins(&r->point, &best.point)))
             best = (struct answer){8, r->point, r->curve, s};
     }
     return best;

@@ -195,14 +195,14 @@ pub fn case_n(words: &mut [u32], spare: &mut [u32], book: &mut [u64]) {
 
 // What the stations met.
 pub fn stations(words: &mut [u32], spare: &mut [u32], book: &mut [u64]) {
-    // Curve 41 was flat at 80 g/m2 and 42 at 120: at 118 the nearest is 42, at 81 it is 41, half way the lighter.
+    // Curve 41 was flat at 80 g/m2 and 42 at 120: at 118 the nearest is 42, at 81 it is 41, half way the heavier.
     run_case(
         words,
         spare,
         book,
         b"same grade, heavier sheet: its own record|events|
         o 4 100; c 6 1 12 8000 41 41; c 6 1 12 12000 42 42; c 6 1 13 11800 43 43; c 6 4 12 11800 0 42;
-        c 6 4 12 8100 0 41; c 6 4 12 10000 0 41; c 6 4 12 10001 0 42; c 6 4 14 10000;",
+        c 6 4 12 8100 0 41; c 6 4 12 9999 0 41; c 6 4 12 10000 0 42; c 6 4 14 10000;",
     );
     // Eight adds, nearest, contains, removes, eight adds of one point, and calls of every kind.
     run_case(
@@ -213,6 +213,27 @@ pub fn stations(words: &mut [u32], spare: &mut [u32], book: &mut [u64]) {
         o 8 100; e 0 1 12 500 10; a; n 8; e 0 4 12 497 7; a; e 0 3 12 500 10; a; e 0 2 12 500 10; a; n; e 0 1 12 500;
         a; n 1; s 0 1 12 600 9; s 1 2 12 500; s 2 4 12 600; s 3 3 12 500; s 4 1 12 500 8; s 5 4 12 500; s 6 2 12 600;
         s 7 4 13 600; a;",
+    );
+}
+
+// 8,990 and 9,010 are equally far from 9,000, and the cut between 8,990 and 9,030 parts them: its far side begins at 9,010, no farther than the heavier.
+pub fn ties(words: &mut [u32], spare: &mut [u32], book: &mut [u64]) {
+    run_case(
+        words,
+        spare,
+        book,
+        b"a tie: the heavier, beyond a cut at its distance|events|
+        o 4 100; c 0 1 12 8990 41 41; c 0 1 12 9030 43 43; c 0 1 12 9010 42 42; c 1 4 12 9000 0 42; c 0 2 12 9010 0 42;
+        c 1 4 12 9000 0 41;",
+    );
+    run_case(
+        words,
+        spare,
+        book,
+        b"a tie while the heavier is removed and added again|orders|
+        o 4 100; c 1 1 12 8990 41 41; c 1 1 12 9030 43 43; c 1 1 12 9010 42 42;|
+        c 0 4 12 9000; c 0 4 12 9000;|
+        c 5 2 12 9010 0 42; c 5 1 12 9010 44 44;",
     );
 }
 

@@ -93,9 +93,17 @@ fn lower(a: Spot, b: Spot) -> bool {
     a.draw < b.draw
 }
 
-// Whether a record at a square is to be taken for the best so far: it is nearer, or as near and lower.
+// Whether a point wins a tie: it is the heavier, or of one weight and the lower.
+fn wins(a: Spot, b: Spot) -> bool {
+    if a.weight != b.weight {
+        return b.weight < a.weight;
+    }
+    lower(a, b)
+}
+
+// Whether a record at a square is to be taken for the best so far: it is nearer, or as near and wins the tie.
 fn better(best: Due, p: Spot, far: u64) -> bool {
-    (best.code == 9) | (far < best.square) | ((far == best.square) & lower(p, best.spot))
+    (best.code == 9) | (far < best.square) | ((far == best.square) & wins(p, best.spot))
 }
 
 // The best so far, or a record of the target's grade that is better.

@@ -36,6 +36,7 @@ fn cases_of_refusals(words: &mut [u32], spare: &mut [u32], book: &mut [u64]) {
 fn cases_of_stations(words: &mut [u32], spare: &mut [u32], book: &mut [u64]) {
     cases::case_n(words, spare, book);
     cases::stations(words, spare, book);
+    cases::ties(words, spare, book);
     cases::two_stations(words, spare, book);
 }
 

@@ -55,6 +55,7 @@ proved-cases = record {
   p3 = p3;
   p4 = p4;
   p5 = answered-calls 2 10 _ _ refl refl (refl, (refl, (refl, tt))) refl;
+  p5-first = answered-calls 2 10 _ _ refl refl (refl, (refl, (refl, tt))) refl;
   p6 = answered-calls 2 10 _ _ refl refl (refl, (refl, tt)) refl;
   p7 = p7;
   p8 = p8;

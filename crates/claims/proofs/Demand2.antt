@@ -1,17 +1,18 @@
 -- Demand 2: "Each call run alone answers as a plain table of records does, after Definition 1 of the LFkD-tree paper: added unless held, removed only if held,
--- and the nearest record of the same grade by squared distance over weight, moisture, speed and draw, the lighter on a tie. No room and changes spent are
+-- and the nearest record of the same grade by squared distance over weight, moisture, speed and draw, the heavier on a tie. No room and changes spent are
 -- answered exactly under document 01's counts."
 -- First the plain table's answers, one by one; then `demand-2`, that a call run alone after any history gives them; then frames.
 use Prim.Native.Nat.{ℕ, suc, _+_, _-_, _*_, _<_}
 use mathlib.Core.Path.{_≡_, refl}
-use mathlib.Core.Logic.{_⊎_, inl, inr}
+use mathlib.Core.Logic.{_↔_, _⊎_, inl, inr}
 use mathlib.Core.Bool.{true}
 use mathlib.Core.List.{List, _++_, List·Memᴰ}
 use lib.ListN.{length, drop, take as takeFirst}
 use mathlib.Core.Option.{Option, none, some}
-use Rattle.claims.specs.Definitions.{Point, squareOf, sameGrade, chosenOver, Record, curveAt, add, remove, contains, nearest, callOf, answer, isChange}
+use Rattle.claims.specs.Definitions.{Point, squareOf, sameGrade, chosenOver, Chosen, Record, curveAt, add, remove, contains, nearest, callOf, answer, isChange}
 use Rattle.claims.specs.Definitions.{Table, taken, answerOf, changedIf, Event, submit, done, openOf, submitOf, runOf, takeOf, takeWords}
 use Rattle.claims.specs.Definitions.{opened, givenBy, wordIndex, after, stepped, Frame, AllBytes, InWidth, Read, readOf, writtenOf}
+use Rattle.points.proofs.ChoiceLaws
 use Rattle.table.proofs.Answers
 use Rattle.table.specs.Record.{nearestOf}
 use Rattle.table.specs.Call.{nearestAnswer}
@@ -61,6 +62,11 @@ module _ (t : Table) (p : Point) where
   -- "or 6."
   pub contains-absent : curveAt p (t .held) ≡ none → answerOf t (contains p) ≡ answer 6 p 0 0
   contains-absent = Answers.contains-absent t p
+
+-- "by squared distance over weight, moisture, speed and draw, the heavier on a tie": of two points the one with the smaller square is chosen; of two with the
+-- same square the one of the higher basis weight; of two with the same square and weight the lower, compared axis by axis
+pub chosen-exact : (target a b : Point) → (chosenOver target a b ≡ true) ↔ Chosen target a b
+chosen-exact = ChoiceLaws.chosen-exact
 
 -- "Nearest: 8 with the record and the square": a held record of the grade, and "every other held record of the grade has a greater square, or the same and loses
 -- the tie", so that the found one is chosen over it

@@ -1,6 +1,6 @@
--- "Proved cases (P)" of document 01 as one table, a row for each case (`ProvedCases`). P1 to P4 are about points, P7 and P8 about frames. P5, P6, P9 and P10 are
--- about calls made one after the other: what the plain table answers, and what every slice long enough gives when it is opened and each call is submitted,
--- run and taken.
+-- "Proved cases (P)" of document 01, P5 as request 2026-02 has it, as one table, a row for each case (`ProvedCases`). P1 to P4 are about points, P7 and P8
+-- about frames. P5, P6, P9 and P10 are about calls made one after the other: what the plain table answers, and what every slice long enough gives when it
+-- is opened and each call is submitted, run and taken.
 use Prim.Native.Nat.{ℕ, _≤_}
 use mathlib.Core.Path.{_≡_}
 use mathlib.Core.Bool.{true, false}
@@ -88,9 +88,12 @@ pub record ProvedCases : Type 0 where
       × (goesLeft (cutOf (drawn (negsuc 3)) (drawn (negsuc 2))) (drawn (negsuc 2)) ≡ false)
   -- points equal but for weight +5 and speed +5: axis 2
   pub p4 : cutOf (made 8_000 9_000) (made 8_005 9_005) .axis ≡ 2
-  -- target weight 9,000, held 8,990 and 9,010: 8,990
-  pub p5 : Answered 2 10 (adds (sheet 12 9_010) 41 ∷ adds (sheet 12 8_990) 42 ∷ seeks (sheet 12 9_000) ∷ [])
-      (answer 1 (sheet 12 9_010) 41 0 ∷ answer 1 (sheet 12 8_990) 42 0 ∷ answer 8 (sheet 12 8_990) 42 100 ∷ [])
+  -- target weight 9,000, held 8,990 and 9,010: 9,010
+  pub p5 : Answered 2 10 (adds (sheet 12 8_990) 42 ∷ adds (sheet 12 9_010) 41 ∷ seeks (sheet 12 9_000) ∷ [])
+      (answer 1 (sheet 12 8_990) 42 0 ∷ answer 1 (sheet 12 9_010) 41 0 ∷ answer 8 (sheet 12 9_010) 41 100 ∷ [])
+  -- also where the heavier was added first
+  pub p5-first : Answered 2 10 (adds (sheet 12 9_010) 41 ∷ adds (sheet 12 8_990) 42 ∷ seeks (sheet 12 9_000) ∷ [])
+      (answer 1 (sheet 12 9_010) 41 0 ∷ answer 1 (sheet 12 8_990) 42 0 ∷ answer 8 (sheet 12 9_010) 41 100 ∷ [])
   -- target grade 13, only grade 12 held: 9
   pub p6 : Answered 2 10 (adds (sheet 12 9_000) 41 ∷ seeks (sheet 13 9_000) ∷ []) (answer 1 (sheet 12 9_000) 41 0 ∷ answer 9 (sheet 13 9_000) 0 0 ∷ [])
   -- step for station 2: bytes 03 00 03 00 02

@@ -11,8 +11,8 @@ pub use Rattle.points.specs.Order.{orderOf, comparedOf, Looked}
 -- the square of two points; the cut between two points, and the side on which it has a point
 pub use Rattle.points.specs.Square.{squareOf}
 pub use Rattle.points.specs.Cut.{cutOf, goesLeft}
--- one grade; the nearer of two points, the lower on a tie
-pub use Rattle.points.specs.Choice.{sameGrade, chosenOver}
+-- one grade; which of two points a target chooses, also in words: the nearer, on a tie the heavier
+pub use Rattle.points.specs.Choice.{sameGrade, chosenOver, Chosen}
 -- ---- rows
 
 -- words, rows, and question 4

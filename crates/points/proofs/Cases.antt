@@ -1,4 +1,4 @@
--- P1 to P4 of document 01 and two more cases, by computation of the definitions that the contracts cite.
+-- P1 to P4 of document 01 and three more cases, by computation of the definitions that the contracts cite.
 -- Assumes nothing.
 use mathlib.Core.Path.{_≡_, refl}
 use mathlib.Core.Bool.{true, false}
@@ -8,7 +8,7 @@ use Rattle.points.specs.declared.point.Point.{Point}
 use Rattle.points.specs.Point.{placeOf, rangeOf, coordinateOf, withinRange, onAxis, inRange}
 use Rattle.points.specs.Signed.{cappedOf}
 use Rattle.points.specs.Square.{gapOf, topped, squareOf}
-use Rattle.points.specs.Order.{byAxis, orderOf}
+use Rattle.points.specs.Order.{byAxis, orderOf, tieOf}
 use Rattle.points.specs.Choice.{chosenOver, farGap, excluded}
 use Rattle.points.specs.Cut.{widerOf, spreadOf, widestOf, cutOf, goesLeft}
 
@@ -38,11 +38,19 @@ pub p4 : cutOf (sheet (pos 8000) (pos 9000) (pos 0)) (sheet (pos 8005) (pos 9005
 unfolding cutOf widestOf widerOf spreadOf gapOf coordinateOf
 p4 = refl
 
--- a far side at the distance of the best may hold the record that wins the tie: target 9,000, best 9,010, beyond the cut 8,990
-pub tie-kept : (excluded (record { axis = 2; sum = pos 17981 }) (sheet (pos 9000) (pos 9000) (pos 0)) 100 ≡ false)
-    × (chosenOver (sheet (pos 9000) (pos 9000) (pos 0)) (sheet (pos 8990) (pos 9000) (pos 0)) (sheet (pos 9010) (pos 9000) (pos 0)) ≡ true)
-unfolding excluded farGap goesLeft chosenOver squareOf topped gapOf orderOf byAxis coordinateOf
-tie-kept = (refl, refl)
+-- a far side at the distance of the best may hold the record that wins the tie: target 9,000, best 8,990, and beyond the cut, from 9,010 on, the heavier
+pub tie-kept : (farGap (record { axis = 2; sum = pos 18020 }) (sheet (pos 9000) (pos 9000) (pos 0)) ≡ 20)
+    × (excluded (record { axis = 2; sum = pos 18020 }) (sheet (pos 9000) (pos 9000) (pos 0)) 100 ≡ false)
+    × (chosenOver (sheet (pos 9000) (pos 9000) (pos 0)) (sheet (pos 9010) (pos 9000) (pos 0)) (sheet (pos 8990) (pos 9000) (pos 0)) ≡ true)
+unfolding excluded farGap goesLeft chosenOver squareOf topped gapOf tieOf orderOf byAxis coordinateOf
+tie-kept = (refl, refl, refl)
+
+-- the same to the left: target speed 9,000, best 9,010, and beyond the cut, up to 8,990, the lower of two of one weight
+pub tie-kept-left : (farGap (record { axis = 4; sum = pos 17981 }) (sheet (pos 8000) (pos 9000) (pos 0)) ≡ 20)
+    × (excluded (record { axis = 4; sum = pos 17981 }) (sheet (pos 8000) (pos 9000) (pos 0)) 100 ≡ false)
+    × (chosenOver (sheet (pos 8000) (pos 9000) (pos 0)) (sheet (pos 8000) (pos 8990) (pos 0)) (sheet (pos 8000) (pos 9010) (pos 0)) ≡ true)
+unfolding excluded farGap goesLeft chosenOver squareOf topped gapOf tieOf orderOf byAxis coordinateOf
+tie-kept-left = (refl, refl, refl)
 
 -- the ends of the ranges: a draw of −2,000 is in, one of −2,001 is not
 pub least-draw : (inRange (sheet (pos 1) (pos 0) (negsuc 1999)) ≡ true) × (inRange (sheet (pos 1) (pos 0) (negsuc 2000)) ≡ false)

@@ -1,8 +1,10 @@
--- Laws 3 and 4. A target's choice is a strict total order (`chosen-irrefl`, `chosen-trans`, `chosen-total`), and exclusion is sound, strictly:
+-- Laws 3 and 4. A target's choice is what the rule says in words (`chosen-exact`) and a strict total order (`chosen-irrefl`, `chosen-trans`,
+-- `chosen-total`), and exclusion is sound, strictly:
 -- no record of the grade beyond an excluded cut is chosen over the best (`far-loses`), and while there is no best none is there (`far-none`).
 -- A search needs nothing else about squares and ties.
 -- Assumes nothing.
 use mathlib.Core.Path.{_≡_, refl, sym, ap, _∙_}
+use mathlib.Core.Logic.{_↔_, _⊎_, inl, inr}
 use mathlib.Core.Bool.{Bool, true, false, not, cond, true≢false}
 use Prim.Native.Nat.{ℕ, zero, suc, _+_, _*_, _≤_, _<_}
 use native.Mathlib.Omega.{arith}
@@ -16,13 +18,14 @@ use Rattle.points.specs.declared.cut.Cut.{Cut}
 use Rattle.points.specs.declared.order.Order.{Order}
 use Rattle.points.specs.declared.order.Order.the-variants.{Less, Equal, Greater}
 use Rattle.points.specs.Point.{coordinateOf}
-use Rattle.points.specs.Order.{byAxis, orderOf, isLess, isEqual}
+use Rattle.points.specs.Order.{byAxis, tieOf, isLess, isEqual}
 use Rattle.points.specs.Square.{gapOf, topped, squareOf}
 use Rattle.points.specs.Cut.{goesLeft}
-use Rattle.points.specs.Choice.{sameGrade, chosenOver, farGap, excluded, noSquare}
+use Rattle.points.specs.Choice.{sameGrade, chosenOver, Chosen, nearer, heavier, lower, farGap, excluded, noSquare}
 use Rattle.points.proofs.Tests.{no! }
 use Rattle.points.proofs.IntegerLaws.{raise, Near, near-add, near-raise, near-more, raise-add, ltZ-raise, apart-raise}
-use Rattle.points.proofs.OrderLaws.{turned, order-refl, order-turn, order-trans, order-equal, axis-equal, axis-same}
+use Rattle.points.proofs.OrderLaws.{turned, clash, axis-equal, axis-same}
+use Rattle.points.proofs.TieLaws.{tie-heavier, tie-level, tie-tells, tie-refl, tie-turn, tie-trans, tie-equal}
 
 -- ---- grades
 grade-equal : (a b : Point) → sameGrade a b ≡ true → coordinateOf a 1 ≡ coordinateOf b 1
@@ -49,33 +52,43 @@ grade-trans a b c e f = grade-same a c (grade-equal a b e ∙ grade-equal b c f)
 
 -- ---- the choice
 
--- by which of the two a choice is made, for it and against it
-data Chosen (t a b : Point) : Type 0 where
-  nearer : squareOf t a < squareOf t b → Chosen t a b
-  lower : squareOf t a ≡ squareOf t b → orderOf a b ≡ Less → Chosen t a b
+-- what a choice is made by: the square, or the tie
+data Reason (t a b : Point) : Type 0 where
+  by-square : squareOf t a < squareOf t b → Reason t a b
+  by-tie : squareOf t a ≡ squareOf t b → tieOf a b ≡ Less → Reason t a b
 
-chosen : (t a b : Point) → chosenOver t a b ≡ true → Chosen t a b
+chosen : (t a b : Point) → chosenOver t a b ≡ true → Reason t a b
 unfolding chosenOver
-chosen t a b = go (ltb (squareOf t a) (squareOf t b)) refl (ltb (squareOf t b) (squareOf t a)) refl (orderOf a b) refl
+chosen t a b = go (ltb (squareOf t a) (squareOf t b)) refl (ltb (squareOf t b) (squareOf t a)) refl (tieOf a b) refl
   where
-    go : (s : Bool) → ltb (squareOf t a) (squareOf t b) ≡ s → (u : Bool) → ltb (squareOf t b) (squareOf t a) ≡ u → (o : Order) → orderOf a b ≡ o
-        → cond s true (cond u false (isLess o)) ≡ true → Chosen t a b
-    go true e u f o g h = nearer (ltb-true (squareOf t a) (squareOf t b) e)
+    go : (s : Bool) → ltb (squareOf t a) (squareOf t b) ≡ s → (u : Bool) → ltb (squareOf t b) (squareOf t a) ≡ u → (o : Order) → tieOf a b ≡ o
+        → cond s true (cond u false (isLess o)) ≡ true → Reason t a b
+    go true e u f o g h = by-square (ltb-true (squareOf t a) (squareOf t b) e)
     go false e true f o g h = no! h
-    go false e false f Less g h = lower (omega (arith, ltb-false (squareOf t a) (squareOf t b) e, ltb-false (squareOf t b) (squareOf t a) f)) g
+    go false e false f Less g h = by-tie (omega (arith, ltb-false (squareOf t a) (squareOf t b) e, ltb-false (squareOf t b) (squareOf t a) f)) g
     go false e false f Equal g h = no! h
     go false e false f Greater g h = no! h
 
-choose : (t a b : Point) → Chosen t a b → chosenOver t a b ≡ true
+choose : (t a b : Point) → Reason t a b → chosenOver t a b ≡ true
 unfolding chosenOver
-choose t a b (nearer h) = rw (lt-ltb (squareOf t a) (squareOf t b) h)
-choose t a b (lower e o) =
+choose t a b (by-square h) = rw (lt-ltb (squareOf t a) (squareOf t b) h)
+choose t a b (by-tie e o) =
     rw (le-ltb (squareOf t a) (squareOf t b) (omega arith), le-ltb (squareOf t b) (squareOf t a) (omega arith), o)
 
-clash {ℓ} : {X : Type ℓ} → _≡_ {A = ℕ} 0 1 → X
-clash e = absurd (omega arith)
+-- the choice in words
+pub chosen-exact : (t a b : Point) → (chosenOver t a b ≡ true) ↔ Chosen t a b
+chosen-exact t a b = (λ e. tells (chosen t a b e), λ c. choose t a b (told c))
+  where
+    tells : Reason t a b → Chosen t a b
+    tells (by-square h) = nearer h
+    tells (by-tie e o) = elim (tie-tells a b o) [ inl h ↦ heavier e h | inr p ↦ lower e (p .0) (p .1) ]
 
-refuse : (t a b : Point) → (Chosen t a b → ⊥) → chosenOver t a b ≡ false
+    told : Chosen t a b → Reason t a b
+    told (nearer h) = by-square h
+    told (heavier e h) = by-tie e (tie-heavier a b h)
+    told (lower e w o) = by-tie e (tie-level a b w ∙ o)
+
+refuse : (t a b : Point) → (Reason t a b → ⊥) → chosenOver t a b ≡ false
 refuse t a b n = go (chosenOver t a b) refl
   where
     go : (s : Bool) → chosenOver t a b ≡ s → chosenOver t a b ≡ false
@@ -85,40 +98,40 @@ refuse t a b n = go (chosenOver t a b) refl
 pub chosen-irrefl : (t a : Point) → chosenOver t a a ≡ false
 chosen-irrefl t a = refuse t a a never
   where
-    never : Chosen t a a → ⊥
-    never (nearer h) = omega arith
-    never (lower e o) = clash (cc (order-refl a))
+    never : Reason t a a → ⊥
+    never (by-square h) = omega arith
+    never (by-tie e o) = clash (cc (tie-refl a))
 
 pub chosen-asym : (t a b : Point) → chosenOver t a b ≡ true → chosenOver t b a ≡ false
 chosen-asym t a b c = refuse t b a (never (chosen t a b c))
   where
-    never : Chosen t a b → Chosen t b a → ⊥
-    never (nearer h) (nearer k) = omega arith
-    never (nearer h) (lower e o) = omega arith
-    never (lower e o) (nearer k) = omega arith
-    never (lower e o) (lower f p) = clash (cc (order-turn a b, ap turned o))
+    never : Reason t a b → Reason t b a → ⊥
+    never (by-square h) (by-square k) = omega arith
+    never (by-square h) (by-tie e o) = omega arith
+    never (by-tie e o) (by-square k) = omega arith
+    never (by-tie e o) (by-tie f p) = clash (cc (tie-turn a b, ap turned o))
 
 pub chosen-trans : (t a b c : Point) → chosenOver t a b ≡ true → chosenOver t b c ≡ true → chosenOver t a c ≡ true
 chosen-trans t a b c e f = choose t a c (go (chosen t a b e) (chosen t b c f))
   where
-    go : Chosen t a b → Chosen t b c → Chosen t a c
-    go (nearer h) (nearer k) = nearer (omega arith)
-    go (nearer h) (lower q o) = nearer (omega arith)
-    go (lower q o) (nearer k) = nearer (omega arith)
-    go (lower q o) (lower r p) = lower (q ∙ r) (order-trans a b c o p)
+    go : Reason t a b → Reason t b c → Reason t a c
+    go (by-square h) (by-square k) = by-square (omega arith)
+    go (by-square h) (by-tie q o) = by-square (omega arith)
+    go (by-tie q o) (by-square k) = by-square (omega arith)
+    go (by-tie q o) (by-tie r p) = by-tie (q ∙ r) (tie-trans a b c o p)
 
 pub chosen-total : (t a b : Point) → ¬ (a ≡ b) → chosenOver t a b ≡ false → chosenOver t b a ≡ true
-chosen-total t a b ne e = choose t b a (go (ltb (squareOf t a) (squareOf t b)) refl (ltb (squareOf t b) (squareOf t a)) refl (orderOf a b) refl)
+chosen-total t a b ne e = choose t b a (go (ltb (squareOf t a) (squareOf t b)) refl (ltb (squareOf t b) (squareOf t a)) refl (tieOf a b) refl)
   where
-    lost : Chosen t a b → ⊥
+    lost : Reason t a b → ⊥
     lost c = true≢false (sym (choose t a b c) ∙ e)
 
-    go : (s : Bool) → ltb (squareOf t a) (squareOf t b) ≡ s → (u : Bool) → ltb (squareOf t b) (squareOf t a) ≡ u → (o : Order) → orderOf a b ≡ o → Chosen t b a
-    go true f u g o h = absurd (lost (nearer (ltb-true (squareOf t a) (squareOf t b) f)))
-    go false f true g o h = nearer (ltb-true (squareOf t b) (squareOf t a) g)
-    go false f false g Less h = absurd (lost (lower (omega (arith, ltb-false (squareOf t a) (squareOf t b) f, ltb-false (squareOf t b) (squareOf t a) g)) h))
-    go false f false g Equal h = absurd (ne (order-equal a b h))
-    go false f false g Greater h = lower (omega (arith, ltb-false (squareOf t a) (squareOf t b) f, ltb-false (squareOf t b) (squareOf t a) g)) (order-turn a b ∙ ap turned h)
+    go : (s : Bool) → ltb (squareOf t a) (squareOf t b) ≡ s → (u : Bool) → ltb (squareOf t b) (squareOf t a) ≡ u → (o : Order) → tieOf a b ≡ o → Reason t b a
+    go true f u g o h = absurd (lost (by-square (ltb-true (squareOf t a) (squareOf t b) f)))
+    go false f true g o h = by-square (ltb-true (squareOf t b) (squareOf t a) g)
+    go false f false g Less h = absurd (lost (by-tie (omega (arith, ltb-false (squareOf t a) (squareOf t b) f, ltb-false (squareOf t b) (squareOf t a) g)) h))
+    go false f false g Equal h = absurd (ne (tie-equal a b h))
+    go false f false g Greater h = by-tie (omega (arith, ltb-false (squareOf t a) (squareOf t b) f, ltb-false (squareOf t b) (squareOf t a) g)) (tie-turn a b ∙ ap turned h)
 
 -- a record that is not chosen over the best is not chosen over a better one
 pub chosen-stays : (t r a b : Point) → chosenOver t a b ≡ true → chosenOver t r b ≡ false → chosenOver t r a ≡ false
@@ -230,9 +243,9 @@ beyond k t p best e far = go (eqb (k .axis) 1) refl e
 pub far-loses : (k : Cut) (t b p : Point) → excluded k t (squareOf t b) ≡ true → goesLeft k p ≡ not (goesLeft k t) → sameGrade t p ≡ true → chosenOver t p b ≡ false
 far-loses k t b p e far g = go (beyond k t p (squareOf t b) e far)
   where
-    never : squareOf t b < squareOf t p → Chosen t p b → ⊥
-    never h (nearer i) = omega arith
-    never h (lower i o) = omega arith
+    never : squareOf t b < squareOf t p → Reason t p b → ⊥
+    never h (by-square i) = omega arith
+    never h (by-tie i o) = omega arith
 
     go : Beyond k t p (squareOf t b) → chosenOver t p b ≡ false
     go (other n) = absurd (n g)

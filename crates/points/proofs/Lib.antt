@@ -4,6 +4,7 @@ pub mod MachineLaws
 pub mod PointLaws
 pub mod OrderLaws
 pub mod ComparedLaws
+pub mod TieLaws
 pub mod SquareLaws
 pub mod CutLaws
 pub mod ChoiceLaws

@@ -23,7 +23,7 @@ turned Equal = Equal
 turned Greater = Less
 
 -- two different orders are not one
-clash {ℓ} : {X : Type ℓ} → _≡_ {A = ℕ} 0 1 → X
+pub clash {ℓ} : {X : Type ℓ} → _≡_ {A = ℕ} 0 1 → X
 clash e = absurd (omega arith)
 
 -- ---- one axis
@@ -87,11 +87,11 @@ module _ (x y z : ℤ) where
   near-z = record { near = omega arith }
 
 -- ---- what an order of points obeys
-record Ordered (o : Point → Point → Order) : Type 0 where
-  self : (a : Point) → o a a ≡ Equal
-  turn : (a b : Point) → o b a ≡ turned (o a b)
-  like : (a b c : Point) → o a b ≡ Equal → o a c ≡ o b c
-  trans : (a b c : Point) → o a b ≡ Less → o b c ≡ Less → o a c ≡ Less
+pub record Ordered (o : Point → Point → Order) : Type 0 where
+  pub self : (a : Point) → o a a ≡ Equal
+  pub turn : (a b : Point) → o b a ≡ turned (o a b)
+  pub like : (a b c : Point) → o a b ≡ Equal → o a c ≡ o b c
+  pub trans : (a b c : Point) → o a b ≡ Less → o b c ≡ Less → o a c ≡ Less
 
 numbers-self : (x : ℤ) → numbers x x ≡ Equal
 numbers-self x = numbers-naturals x x (near-x x x x) (near-x x x x) ∙ naturals-equal (raise (bound x x x) x) (raise (bound x x x) x) refl
@@ -168,7 +168,16 @@ axis-equal a b k e = numbers-equal (coordinateOf a k) (coordinateOf b k) (sym (a
 pub axis-same : (a b : Point) (k : ℕ) → coordinateOf a k ≡ coordinateOf b k → byAxis a b k ≡ Equal
 axis-same a b k e = axis-numbers a b k ∙ ap (numbers (coordinateOf a k)) (sym e) ∙ numbers-self (coordinateOf a k)
 
-axis-ordered : (k : ℕ) → Ordered (λ a b. byAxis a b k)
+pub axis-less : (a b : Point) (k : ℕ) → byAxis a b k ≡ Less → ltZ (coordinateOf a k) (coordinateOf b k) ≡ true
+unfolding byAxis
+axis-less a b k = go (ltZ (coordinateOf a k) (coordinateOf b k)) (ltZ (coordinateOf b k) (coordinateOf a k))
+  where
+    go : (s t : Bool) → pickOrder s Less (pickOrder t Greater Equal) ≡ Less → s ≡ true
+    go true t e = refl
+    go false true e = clash cc
+    go false false e = clash cc
+
+pub axis-ordered : (k : ℕ) → Ordered (λ a b. byAxis a b k)
 axis-ordered k = record {
   self = λ a. axis-same a a k refl;
   turn = λ a b. axis-numbers b a k ∙ numbers-turn (coordinateOf a k) (coordinateOf b k) ∙ sym (ap turned (axis-numbers a b k));
@@ -213,7 +222,7 @@ module _ (o p : Point → Point → Order) (w : Ordered o) (v : Ordered p) where
       go Equal e Greater f h k = clash (cc)
       go Greater e y f h k = clash (cc)
 
-  then-ordered : Ordered (λ a b. thenOf (o a b) (p a b))
+  pub then-ordered : Ordered (λ a b. thenOf (o a b) (p a b))
   then-ordered = record { self = then-self; turn = then-turn; like = then-like; trans = then-trans }
 
 -- the first of two orders is Equal, and so is the second, where they are together
@@ -222,7 +231,7 @@ then-first Less y e = clash (cc)
 then-first Equal y e = refl
 then-first Greater y e = clash (cc)
 
-then-second : (x y : Order) → thenOf x y ≡ Equal → y ≡ Equal
+pub then-second : (x y : Order) → thenOf x y ≡ Equal → y ≡ Equal
 then-second Less y e = clash (cc)
 then-second Equal y e = e
 then-second Greater y e = clash (cc)
@@ -241,7 +250,7 @@ order-from : (a b : Point) → orderOf a b ≡ thenOf (byAxis a b 1) (from2 a b)
 unfolding orderOf from2 from3 from4
 order-from a b = refl
 
-ordered : Ordered orderOf
+pub ordered : Ordered orderOf
 unfolding orderOf from2 from3 from4
 ordered =
     let four : Ordered from4 = then-ordered (λ a b. byAxis a b 4) (λ a b. byAxis a b 5) (axis-ordered 4) (axis-ordered 5) in

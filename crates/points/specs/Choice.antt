@@ -1,12 +1,15 @@
--- The choice of the nearest (document 01, "Records"), and what a cut says of the records beyond it.
-use Prim.Native.Nat.{ℕ, suc, _*_}
+-- The choice of the nearest (document 01, "Records", and request 2026-02), and what a cut says of the records beyond it.
+use Prim.Native.Nat.{ℕ, suc, _*_, _<_}
+use mathlib.Core.Path.{_≡_}
 use mathlib.Core.Bool.{Bool, true, false, cond}
 use lib.Dec.{eqb, ltb}
 use lib.IntN.{natAbs, _+ℤ_, _-ℤ_}
+use lib.Signed.{ltZ}
 use Rattle.points.specs.declared.point.Point.{Point}
 use Rattle.points.specs.declared.cut.Cut.{Cut}
+use Rattle.points.specs.declared.order.Order.the-variants.{Less}
 use Rattle.points.specs.Point.{coordinateOf}
-use Rattle.points.specs.Order.{byAxis, orderOf, isLess, isEqual}
+use Rattle.points.specs.Order.{byAxis, orderOf, tieOf, isLess, isEqual}
 use Rattle.points.specs.Square.{topped, squareOf}
 use Rattle.points.specs.Cut.{goesLeft}
 
@@ -14,11 +17,17 @@ use Rattle.points.specs.Cut.{goesLeft}
 unfoldable pub sameGrade : Point → Point → Bool
 sameGrade a b = isEqual (byAxis a b 1)
 
--- the smaller square is chosen; "among equal squares the lower point wins"
+-- the smaller square is chosen; "among equal squares the higher basis weight now wins; among equal weights the order of 01 stands"
 unfoldable pub chosenOver : Point → Point → Point → Bool
 chosenOver target a b =
     cond (ltb (squareOf target a) (squareOf target b)) true
-    (cond (ltb (squareOf target b) (squareOf target a)) false (isLess (orderOf a b)))
+    (cond (ltb (squareOf target b) (squareOf target a)) false (isLess (tieOf a b)))
+
+-- the same in words, as the law `chosen-exact` has it: a is nearer to the target than b; or as near and heavier; or as near, of one weight, and lower
+pub data Chosen (target a b : Point) : Type 0 where
+  nearer : squareOf target a < squareOf target b → Chosen target a b
+  heavier : squareOf target a ≡ squareOf target b → ltZ (b .weight) (a .weight) ≡ true → Chosen target a b
+  lower : squareOf target a ≡ squareOf target b → a .weight ≡ b .weight → orderOf a b ≡ Less → Chosen target a b
 
 -- twice the least distance of the target from the far side, on the cut's axis
 unfoldable pub farGap : Cut → Point → ℕ

@@ -1,4 +1,4 @@
--- The order of points, compared axis by axis (document 01, "Records").
+-- The order of points, compared axis by axis (document 01, "Records"), and their order on a tie (request 2026-02).
 use Prim.Native.Nat.{ℕ, _≤_, _<_}
 use mathlib.Core.Path.{_≡_}
 use mathlib.Core.Logic.{_⊎_}
@@ -56,6 +56,10 @@ pub record Looked (a b : Point) (n : ℕ) : Type 0 where
   pub most : n ≤ 5
   pub before : (k : ℕ) → 1 ≤ k → k < n → coordinateOf a k ≡ coordinateOf b k
   pub ends : ¬ (coordinateOf a n ≡ coordinateOf b n) ⊎ ((n ≡ 5) × (a ≡ b))
+
+-- the order on a tie: the heavier first, and of two of one weight the lower
+unfoldable pub tieOf : Point → Point → Order
+tieOf a b = thenOf (byAxis b a 2) (orderOf a b)
 
 -- the two points are one
 unfoldable pub samePoint : Point → Point → Bool

@@ -1,7 +1,7 @@
 // The choice of the nearest: which of two records a target chooses, and when a far side holds none that it would.
 use crate::cut::Cut;
 use crate::order::by_axis;
-use crate::order::compare;
+use crate::order::tie;
 use crate::point::Point;
 use crate::signed::twice;
 use crate::signed::wide;
@@ -18,7 +18,7 @@ pub fn same_grade(a: Point, b: Point) -> bool
     by_axis(a, b, 1).is_equal()
 }
 
-// Whether a target chooses a over b: the smaller square, then the lower point.
+// Whether a target chooses a over b: the smaller square, then the heavier, then the lower point.
 pub fn chosen_over(target: Point, a: Point, b: Point) -> bool
     ensures { λ r. ⌜ r ≡ chosenOver target a b ⌝ }
 {
@@ -30,9 +30,7 @@ pub fn chosen_over(target: Point, a: Point, b: Point) -> bool
     if y < x {
         return false;
     }
-    let compared = compare(a, b);
-    let order = compared.order;
-    order.is_less()
+    tie(a, b).is_less()
 }
 
 // Twice the least distance of a target from the far side of a cut, on the cut's axis.

@@ -1,7 +1,7 @@
-// The order of points: axis by axis, the first that differs decides.
+// The order of points: axis by axis, the first that differs decides; and their order on a tie.
 use crate::point::Point;
 ghost use mathlib.Core.Path.{_≡_};
-ghost use Rattle.points.specs.Order.{byAxis, comparedOf, isLess, isEqual, samePoint};
+ghost use Rattle.points.specs.Order.{byAxis, comparedOf, tieOf, isLess, isEqual, samePoint};
 
 pub enum Order {
     Less,
@@ -44,6 +44,19 @@ pub fn compare(a: Point, b: Point) -> Compared
         order: order,
         looked: looked,
     }
+}
+
+// The order of two points on a tie: the heavier first, and of two of one weight the lower.
+pub fn tie(a: Point, b: Point) -> Order
+    ensures { λ r. ⌜ r ≡ tieOf a b ⌝ }
+{
+    let weights = by_axis(b, a, 2);
+    if weights.is_equal() {
+        let compared = compare(a, b);
+        let order = compared.order;
+        return order;
+    }
+    weights
 }
 
 impl Order {

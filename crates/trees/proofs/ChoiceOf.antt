@@ -16,7 +16,7 @@ pub far-sound : (target : Point) (k : Cut) (best : Option Point) (p : Point) →
 far-sound target k none p e f g = far-none k target p e f g
 far-sound target k (some b) p e f g = far-loses k target b p e f g
 
--- the side of the target, the records of its grade, the smaller square and then the lower point, and the cuts too far away
+-- the side of the target, the records of its grade, the smaller square and on a tie the heavier, and the cuts too far away
 abbrev pub choiceOf : Point → Choice
 choiceOf target = record {
   side = λ k. goesLeft k target;

@@ -3,8 +3,7 @@ use Rattle.points.proofs.choice.chosen_over.Statement.{statement}
 use Rattle.points.proofs.choice.chosen_over.Tie as tie
 use mathlib.Core.Path.{ap, _∙_}
 use borrow.Author.Tests.{lt-ltb, le-ltb}
-use Rattle.points.specs.declared.order.Compared.{Compared}
-use Rattle.points.specs.Order.{isLess, comparedOf}
+use Rattle.points.specs.Order.{isLess}
 use Rattle.points.specs.Choice.{chosenOver}
 use native.Mathlib.Omega.{arith}
 use Rattle.points.specs.Square.{squareOf}
@@ -31,20 +30,20 @@ returns-2 c =
     let y = c .before .before .square2 .ensures in
     rw (le-ltb (squareOf (s .target) (s .a)) (squareOf (s .target) (s .b)) (omega (arith, c .before .if1 .left)), lt-ltb (squareOf (s .target) (s .b)) (squareOf (s .target) (s .a)) (omega (arith, c .if2 .taken)))
 
-compare-requires : tie.Need-compare-requires
-compare-requires c κs = search needs
+tie-requires : tie.Need-tie-requires
+tie-requires c κs = search needs
 
 is-less-requires : tie.Need-is-less-requires
 is-less-requires c κs = search needs
 
 returns-3 : tie.Need-returns-3
-unfolding chosenOver comparedOf
+unfolding chosenOver
 returns-3 c =
     let s = c .before .before .before .before .before .before .args in
     let x = c .before .before .before .before .before .square .ensures in
     let y = c .before .before .before .before .square2 .ensures in
     rw (le-ltb (squareOf (s .target) (s .a)) (squareOf (s .target) (s .b)) (omega (arith, c .before .before .before .if1 .left)), le-ltb (squareOf (s .target) (s .b)) (squareOf (s .target) (s .a)) (omega (arith, c .before .before .if2 .left)))
-    (c .is-less .ensures ∙ ap (λ (r : Compared). isLess (r .order)) (c .before .compare .ensures))
+    (c .is-less .ensures ∙ ap isLess (c .before .tie .ensures))
 
 pub chosen-over-spec : {M : Type 1} → statement M
 chosen-over-spec =
@@ -54,6 +53,6 @@ chosen-over-spec =
     square-requires-2
     returns
     returns-2
-    compare-requires
+    tie-requires
     is-less-requires
     returns-3)
