@@ -1,18 +1,20 @@
 #include "flat.h"
+#include <string.h>
 
-// -1, 0 or 1 as the point a is below, at or above b, axis by axis.
-static int order(const struct point *a, const struct point *b)
+static int same(const struct point *a, const struct point *b)
 {
-    for (int k = 0; k < AXES; k++)
-        if (a->axis[k] != b->axis[k])
-            return a->axis[k] < b->axis[k] ? -1 : 1;
-    return 0;
+    return memcmp(a, b, sizeof *a) == 0;
 }
 
-// Among equal squares: the heavier wins, and of two of one weight the lower.
+// Among equal squares of one grade: the heavier wins, and of two of one weight the lower.
 static int wins(const struct point *a, const struct point *b)
 {
-    return a->axis[1] != b->axis[1] ? a->axis[1] > b->axis[1] : order(a, b) < 0;
+    if (a->axis[1] != b->axis[1])
+        return a->axis[1] > b->axis[1];
+    for (int k = 2; k < AXES; k++)
+        if (a->axis[k] != b->axis[k])
+            return a->axis[k] < b->axis[k];
+    return 0;
 }
 
 static uint64_t square(const struct point *a, const struct point *b)
@@ -29,7 +31,7 @@ static uint64_t square(const struct point *a, const struct point *b)
 static uint32_t find(const struct flat *flat, const struct point *point)
 {
     for (uint32_t i = 0; i < flat->held; i++)
-        if (order(&flat->records[i].point, point) == 0)
+        if (same(&flat->records[i].point, point))
             return i;
     return flat->held;
 }
