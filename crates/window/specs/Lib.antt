@@ -1,0 +1,7 @@
+pub mod Tail
+pub mod Figures
+pub mod Window
+pub mod Begin
+pub mod Update
+pub mod Log
+pub mod Steady
