@@ -82,3 +82,21 @@ unfoldable pub use Rattle.frames.specs.Write.{padded, writtenBytes, writtenOf, 
 pub use Rattle.frames.specs.Apply.{appliedNumber}
 unfoldable pub use Rattle.frames.specs.Apply.{pointOf, submissionReply, applyOf, applyWords}
 unfoldable pub use Rattle.frames.specs.Line.{lineWords}
+-- ---- window
+
+-- a window's state, what is told of the readings present, and what a call gives back
+pub use Rattle.window.specs.declared.window.Window.{Window}
+pub use Rattle.window.specs.declared.figures.Figures.{Figures}
+-- lengths and readings in range; a state that readings could leave
+pub use Rattle.window.specs.Window.{longest, wettest, lengthIn, readingIn, isSound}
+-- the tail of a list; the figures of some readings; both also in words
+pub use Rattle.window.specs.Tail.{tailOf, IsTail}
+pub use Rattle.window.specs.Figures.{sumOf, meanOf, figuresOf, refusedWith, IsLeast, IsGreatest, IsMean}
+pub use Rattle.window.specs.Told.{Told}
+-- beginning, and bringing up to date
+pub use Rattle.window.specs.Begin.{beginOf}
+pub use Rattle.window.specs.Update.{refusedOf, updateOf}
+-- what happens to a window, its state after that, and the log of all accepted readings; the states that readings leave
+pub use Rattle.window.specs.Log.{WindowEvent, beginning, reading, stateAfter, Log, newLog, logAfter, LeftByReadings}
+-- whether the moisture is steady, also in words
+pub use Rattle.window.specs.Steady.{isSteady, Steady}

@@ -4,6 +4,7 @@ pub mod TailLaws
 pub mod FiguresLaws
 pub mod LeastLaws
 pub mod MeanLaws
+pub mod ToldLaws
 -- the states that readings could leave
 pub mod WindowLaws
 -- a reading more
@@ -12,5 +13,7 @@ pub mod UpdateLaws
 -- the whole run of accepted readings
 pub mod BeginLaws
 pub mod LogLaws
+-- which calls are refused
+pub mod RefusedLaws
 -- whether the moisture is steady
 pub mod SteadyLaws

@@ -1,23 +1,26 @@
--- What a window tells is worked out from the tail of the log (`window-run`), and the states that are not refused are exactly those that readings leave
--- (`sound-exact`).
-use Prim.Native.Nat.{ℕ, _≤_, min}
+-- What a window tells is worked out from the tail of the log (`window-run`, in words `window-told`), and the states that are not refused are exactly those that
+-- readings leave (`sound-exact`).
+use Prim.Native.Nat.{ℕ, _≤_}
 use mathlib.Core.Path.{_≡_, refl, sym, ap, _∙_, subst}
 use mathlib.Core.Logic.{_↔_}
 use mathlib.Core.Bool.{Bool, true, false, cond}
 use mathlib.Core.List.{List, [], _∷_, _++_, map, append-assoc, append-nil}
 use native.Mathlib.Omega.{arith}
-use lib.ListN.{length}
+use lib.ListN.{length, length-append}
 use borrow.Author.Tests.{leb-true, le-leb}
 use Rattle.window.specs.declared.window.Window.{Window}
+use Rattle.window.specs.declared.figures.Figures.{Figures}
 use Rattle.window.specs.declared.update.Updated.{Updated}
 use Rattle.window.specs.Tail.{tailOf}
 use Rattle.window.specs.Figures.{figuresOf, refusedWith}
+use Rattle.window.specs.Told.{Told}
 use Rattle.window.specs.Window.{longest, wettest, lengthIn, readingIn, windowOf, presentIn, isSound}
 use Rattle.window.specs.Begin.{begunOf, beginOf}
 use Rattle.window.specs.Update.{nextOf, refusedOf, updateOf}
 use Rattle.window.specs.Log.{WindowEvent, beginning, reading, stateAfter, Log, newLog, withReading, logAfter, LeftByReadings}
 use Rattle.window.proofs.TailLaws.{tail-length, tail-short, tail-tail}
 use Rattle.window.proofs.WindowLaws.{AllIn, in-tail, in-snoc, length-tells, length-of, SoundState, sound-tells, sound-window, present-length, present-in, window-sound, window-present}
+use Rattle.window.proofs.ToldLaws.{told-exact}
 use Rattle.window.proofs.BeginLaws.{begin-accepted}
 
 -- ---- a window in which the tail of a log is present
@@ -94,12 +97,14 @@ unfolding stateAfter logAfter beginOf
 state-shown [] l h = refl
 state-shown (beginning n ∷ evs) l h = go (λ k u. state-shown evs k u) (lengthIn n) refl
   where
-    go : ((k : Log) → LogIn k → stateAfter (shown k) evs ≡ shown (logAfter k evs)) → (b : Bool) → lengthIn n ≡ b → stateAfter (beginOf (shown l) n .window) evs ≡ shown (logAfter (cond b (newLog n) l) evs)
+    go : ((k : Log) → LogIn k → stateAfter (shown k) evs ≡ shown (logAfter k evs)) → (b : Bool) → lengthIn n ≡ b
+        → stateAfter (beginOf (shown l) n .window) evs ≡ shown (logAfter (cond b (newLog n) l) evs)
     go ih true e = rw e (ap (λ (w : Window). stateAfter w evs) (begun-shown n) ∙ ih (newLog n) (new-in n e))
     go ih false e = rw e (ih l h)
 state-shown (reading x ∷ evs) l h = go (λ k u. state-shown evs k u) (readingIn x) refl
   where
-    go : ((k : Log) → LogIn k → stateAfter (shown k) evs ≡ shown (logAfter k evs)) → (b : Bool) → readingIn x ≡ b → stateAfter (updateOf (shown l) x .window) evs ≡ shown (logAfter (cond b (withReading l x) l) evs)
+    go : ((k : Log) → LogIn k → stateAfter (shown k) evs ≡ shown (logAfter k evs)) → (b : Bool) → readingIn x ≡ b
+        → stateAfter (updateOf (shown l) x .window) evs ≡ shown (logAfter (cond b (withReading l x) l) evs)
     go ih true e = ap (λ (u : Updated). stateAfter (u .window) evs) (update-shown l h x ∙ ap (given l h x) e) ∙ ih (withReading l x) (with-in l x h e)
     go ih false e = ap (λ (u : Updated). stateAfter (u .window) evs) (update-shown l h x ∙ ap (given l h x) e) ∙ ih l h
 
@@ -126,6 +131,13 @@ module _ (w : Window) (n : ℕ) (begun : beginOf w n .number ≡ 0) (evs : List 
       by-test : (fits : Bool) → given logged logged-in x fits .figures ≡ cond fits (figuresOf (tailOf (logged .length) (logged .accepted ++ (x ∷ [])))) (refusedWith 19)
       by-test true = refl
       by-test false = refl
+
+  -- the same in words, for a reading that is accepted
+  pub window-told : (x : ℕ) → readingIn x ≡ true → Told (logged .length) (logged .accepted ++ (x ∷ [])) (updateOf (stateAfter (beginOf w n .window) evs) x .figures)
+  window-told x fits =
+      let run : List ℕ = logged .accepted ++ (x ∷ []) in
+      let some : 1 ≤ length run = omega (arith, length-append (logged .accepted) (x ∷ [])) in
+      subst (λ (f : Figures). Told (logged .length) run f) (sym (window-run x ∙ rw fits refl)) (told-exact (logged .length) run (length-tells (logged .length) (logged-in .length-in) .0) some)
 
 -- ---- the states that readings leave
 

@@ -1,9 +1,9 @@
 -- Steady in words (`steady-exact`): since the window was begun there were as many readings as it is long, and no two of the last so many differ by more than the spread.
-use Prim.Native.Nat.{ℕ, _+_, _-_, _≤_, min}
-use mathlib.Core.Path.{_≡_, refl, sym, ap, _∙_, subst}
+use Prim.Native.Nat.{ℕ, _-_, _≤_}
+use mathlib.Core.Path.{_≡_, refl, sym, ap, _∙_}
 use mathlib.Core.Logic.{_↔_}
-use mathlib.Core.Bool.{Bool, true, false, _&&_}
-use mathlib.Core.List.{List, [], _∷_, List·Memᴰ}
+use mathlib.Core.Bool.{Bool, true, _&&_}
+use mathlib.Core.List.{List}
 use native.Mathlib.Omega.{arith}
 use lib.Dec.{leb, eqb}
 use lib.ListN.{length}
@@ -11,14 +11,14 @@ use borrow.Author.Tests.{leb-true, le-leb, eqb-true, eq-eqb}
 use Rattle.window.specs.declared.window.Window.{Window}
 use Rattle.window.specs.Tail.{tailOf}
 use Rattle.window.specs.Figures.{leastOf, greatestOf}
-use Rattle.window.specs.Window.{windowOf, presentIn, isSound}
+use Rattle.window.specs.Window.{windowOf, isSound}
 use Rattle.window.specs.Begin.{beginOf}
 use Rattle.window.specs.Log.{WindowEvent, stateAfter, Log, newLog, logAfter}
 use Rattle.window.specs.Steady.{isFull, withinSpread, isSteady, Steady}
 use Rattle.window.proofs.TailLaws.{tail-length}
 use Rattle.window.proofs.LeastLaws.{least-exact, greatest-exact}
 use Rattle.window.proofs.WindowLaws.{and-left, and-right, length-tells, sound-tells, window-present}
-use Rattle.window.proofs.LogLaws.{LogIn, shown, shown-sound, logged, logged-in, state-run}
+use Rattle.window.proofs.LogLaws.{LogIn, shown, shown-sound, logged-in, state-run}
 
 -- a full window has a reading
 pub full-tells : (w : Window) → isFull w ≡ true → (isSound w ≡ true) × (1 ≤ w .present)

@@ -12,8 +12,8 @@ use Rattle.window.specs.declared.window.Window.{Window}
 use Rattle.window.specs.declared.update.Updated.{Updated}
 use Rattle.window.specs.Tail.{tailOf}
 use Rattle.window.specs.declared.figures.Figures.{Figures}
-use Rattle.window.specs.Figures.{sumOf, greatestOf, meanOf, figuresOf, refusedWith}
-use Rattle.window.specs.Window.{longest, wettest, readingIn, padded, windowOf, presentIn, isSound}
+use Rattle.window.specs.Figures.{sumOf, greatestOf, meanOf, figuresOf}
+use Rattle.window.specs.Window.{longest, wettest, readingIn, padded, presentIn, isSound}
 use Rattle.window.specs.Update.{nextOf, refusedOf, updateOf}
 use Rattle.window.proofs.TailLaws.{tail-more, tail-length}
 use Rattle.window.proofs.WindowLaws.{SoundState, sound-tells, sound-padded, present-length, present-in, AllIn, in-snoc, in-tail, in-mem, length-of, window-sound, window-present}

@@ -13,7 +13,7 @@ use lib.Seq.{length-take-le, getD-drop, getD-take, getD-append-add, ext-getD, ta
 use borrow.Author.Tests.{leb-true, le-leb, lt-ltb, le-ltb}
 use Rattle.window.specs.declared.window.Window.{Window}
 use Rattle.window.specs.Tail.{tailOf}
-use Rattle.window.specs.Window.{longest, wettest, lengthIn, readingIn, padded, windowOf, presentIn, mostAt, soundBelow, isSound}
+use Rattle.window.specs.Window.{longest, wettest, lengthIn, padded, windowOf, presentIn, mostAt, soundBelow, isSound}
 
 pub and-left : (a b : Bool) → (a && b) ≡ true → a ≡ true
 and-left true b e = refl

@@ -1,5 +1,6 @@
 pub mod Tail
 pub mod Figures
+pub mod Told
 pub mod Window
 pub mod Begin
 pub mod Update

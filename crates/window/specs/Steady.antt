@@ -2,7 +2,7 @@
 -- product's own (docs/DECISIONS.md).
 use Prim.Native.Nat.{ℕ, _+_, _-_, _≤_}
 use mathlib.Core.Bool.{Bool, _&&_}
-use mathlib.Core.List.{List, List·Memᴰ}
+use mathlib.Core.List.{List·Memᴰ}
 use lib.ListN.{length}
 use lib.Dec.{leb, eqb}
 use Rattle.window.specs.declared.window.Window.{Window}

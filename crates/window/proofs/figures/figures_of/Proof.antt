@@ -1,7 +1,7 @@
 -- `window::figures::figures_of` meets its contract. Assumes nothing.
 use borrow.Author.Needs.{needs}
 use Prim.Native.Nat.{ℕ, _≤_, _*_, _-_, min, max}
-use mathlib.Core.Path.{_≡_, refl, sym, ap, _∙_}
+use mathlib.Core.Path.{_≡_, sym, ap, _∙_}
 use native.Mathlib.Omega.{arith}
 use lib.ListN.{length, length-map, take, getD}
 use Rattle.window.specs.Figures.{sumOf, leastOf, greatestOf, meanOf, figuresOf}

@@ -1,6 +1,5 @@
 -- `window::update::accepted` meets its contract. Assumes nothing.
 use borrow.Author.Needs.{needs}
-use Prim.Native.Nat.{ℕ, _≤_}
 use mathlib.Core.Path.{_≡_, sym, ap, _∙_}
 use native.Mathlib.Omega.{arith}
 use lib.ListN.{length, length-map}
@@ -9,7 +8,7 @@ use Rattle.window.specs.declared.window.Window.{Window}
 use Rattle.window.specs.Figures.{figuresOf}
 use Rattle.window.specs.Window.{wettest, windowOf, presentIn, isSound}
 use Rattle.window.specs.Update.{nextOf}
-use Rattle.window.proofs.WindowLaws.{SoundState, sound-tells}
+use Rattle.window.proofs.WindowLaws.{sound-tells}
 use Rattle.window.proofs.UpdateLaws.{next-present, next-sound}
 use Rattle.window.proofs.update.accepted.Statement.{statement}
 use Rattle.window.proofs.update.accepted.Tie as tie

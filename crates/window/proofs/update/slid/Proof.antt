@@ -1,14 +1,11 @@
-use borrow.Author.Needs.{needs}
+-- `window::update::slid` meets its contract. Assumes nothing.
 use Prim.Native.Nat.{ℕ, _≤_, _<_, _+_, _-_}
-use mathlib.Core.Path.{_≡_, refl, sym, ap, _∙_}
+use mathlib.Core.Path.{_≡_, refl, _∙_}
 use native.Mathlib.Omega.{arith}
-use native.Mathlib.Numerals.{add-one}
 use lib.ListN.{length, getD, length-set}
 use Rattle.window.proofs.SlideLaws.{zeros-behind, slid-more, behind-more, slid-all}
 use Rattle.window.proofs.update.slid.Statement.{statement}
 use Rattle.window.proofs.update.slid.Tie as tie
-use Rattle.window.proofs.update.slid.Reads as reads
-use Rattle.window.proofs.update.slid.Lts as lts
 
 abbrev Inv-loop : tie.InvT-loop
 Inv-loop from readings out₀ end i₀ out i =
@@ -17,50 +14,44 @@ Inv-loop from readings out₀ end i₀ out i =
 abbrev μ-loop : tie.MeasureT-loop
 μ-loop from readings out₀ end i₀ out i = end - i
 
--- src/slide.rt:35:15
 sub-end : tie.Need-sub-end Inv-loop μ-loop
 sub-end c = omega arith
 
--- src/slide.rt:37:5
 loop-holds : tie.Need-loop-holds Inv-loop μ-loop
 loop-holds c = (omega arith, refl, refl, (λ k l. absurd (omega arith)), zeros-behind)
 
--- src/slide.rt:38:27
 add-out : tie.Need-add-out Inv-loop μ-loop
 add-out c = omega arith
 
--- src/slide.rt:38:18
 mul-out : tie.Need-mul-out Inv-loop μ-loop
 mul-out c = omega arith
 
--- src/slide.rt:38:18
 array-read-out : tie.Need-array-read-out Inv-loop μ-loop
 array-read-out c = omega arith
 
--- src/slide.rt:38:9
 mul-out-2 : tie.Need-mul-out-2 Inv-loop μ-loop
 mul-out-2 c = omega arith
 
--- src/slide.rt:38:9
 array-write-out : tie.Need-array-write-out Inv-loop μ-loop
 array-write-out c = omega arith
 
--- src/slide.rt:39:9
 add-i : tie.Need-add-i Inv-loop μ-loop
 add-i c = omega arith
 
--- src/slide.rt:37:5
 loop-less : tie.Need-loop-less Inv-loop μ-loop
 loop-less c = omega arith
 
--- src/slide.rt:37:5
 loop-again : tie.Need-loop-again Inv-loop μ-loop
 loop-again c =
     let l = c .before .loop in
-    let a = c .before .before .args in
-    (omega arith, l .inv .1, length-set (l .out) (l .i) (getD (a .t1) (l .i + a .from) 0) ∙ l .inv .2, slid-more (a .t1) (l .out) (a .from) (l .i) (omega (arith, l .inv .2)) (l .inv .3), behind-more (a .t1) (l .out) (a .from) (l .i) (l .inv .4))
+    let a = c .before .before .args in (
+      omega arith,
+      l .inv .1,
+      length-set (l .out) (l .i) (getD (a .t1) (l .i + a .from) 0) ∙ l .inv .2,
+      slid-more (a .t1) (l .out) (a .from) (l .i) (omega (arith, l .inv .2)) (l .inv .3),
+      behind-more (a .t1) (l .out) (a .from) (l .i) (l .inv .4),
+    )
 
--- src/slide.rt:30:1
 returns : tie.Need-returns Inv-loop μ-loop
 returns c =
     let l = c .before .loop in

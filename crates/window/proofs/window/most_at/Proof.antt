@@ -1,16 +1,13 @@
+-- `window::window::most_at` meets its contract. Assumes nothing.
 use borrow.Author.Tests.{lt-ltb, le-ltb}
 use Rattle.window.specs.Window.{mostAt}
 use Rattle.window.proofs.window.most_at.Statement.{statement}
 use Rattle.window.proofs.window.most_at.Tie as tie
-use Rattle.window.proofs.window.most_at.Reads as reads
-use Rattle.window.proofs.window.most_at.Lts as lts
 
--- src/slide.rt:9:1
 returns : tie.Need-returns
 unfolding mostAt
 returns c = simp (lt-ltb _ _ (c .if1 .taken))
 
--- src/slide.rt:9:1
 returns-2 : tie.Need-returns-2
 unfolding mostAt
 returns-2 c = simp (le-ltb _ _ (c .if1 .left))

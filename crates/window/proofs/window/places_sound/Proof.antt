@@ -1,3 +1,4 @@
+-- `window::window::places_sound` meets its contract. Assumes nothing.
 use borrow.Author.Needs.{needs}
 use Prim.Native.Nat.{ℕ, _≤_, _-_}
 use mathlib.Core.Path.{_≡_, refl, sym, ap, _∙_}
@@ -9,9 +10,6 @@ use lib.ListN.{getD}
 use Rattle.window.specs.Window.{soundBelow}
 use Rattle.window.proofs.window.places_sound.Statement.{statement}
 use Rattle.window.proofs.window.places_sound.Tie as tie
-use Rattle.window.proofs.window.places_sound.Reads as reads
-use Rattle.window.proofs.window.places_sound.Lts as lts
-use Rattle.window.proofs.window.most_at.Reads as most-at-reads
 
 abbrev Inv-loop : tie.InvT-loop
 Inv-loop present readings sound₀ i₀ sound i = (i ≤ 64) × (sound ≡ soundBelow readings present i)
@@ -19,32 +17,25 @@ Inv-loop present readings sound₀ i₀ sound i = (i ≤ 64) × (sound ≡ sound
 abbrev μ-loop : tie.MeasureT-loop
 μ-loop present readings sound₀ i₀ sound i = 64 - i
 
--- src/slide.rt:21:5
 loop-holds : tie.Need-loop-holds Inv-loop μ-loop
 unfolding soundBelow
 loop-holds c = (omega arith, refl)
 
--- src/slide.rt:22:13
 most-at-requires : tie.Need-most-at-requires Inv-loop μ-loop
 most-at-requires c κs = search needs
 
--- src/slide.rt:23:26
 mul-sound : tie.Need-mul-sound Inv-loop μ-loop
 mul-sound c = omega arith
 
--- src/slide.rt:23:26
 array-read-sound : tie.Need-array-read-sound Inv-loop μ-loop
 array-read-sound c = omega arith
 
--- src/slide.rt:24:9
 add-i : tie.Need-add-i Inv-loop μ-loop
 add-i c = omega arith
 
--- src/slide.rt:21:5
 loop-less : tie.Need-loop-less Inv-loop μ-loop
 loop-less c = omega arith
 
--- src/slide.rt:21:5
 loop-again : tie.Need-loop-again Inv-loop μ-loop
 unfolding soundBelow
 loop-again c =
@@ -56,7 +47,6 @@ loop-again c =
           ∙ sym (ap (λ (n : ℕ). soundBelow (a .t1) (a .present) n) (add-one (l .i))),
     )
 
--- src/slide.rt:16:1
 returns : tie.Need-returns Inv-loop μ-loop
 returns c =
     let l = c .before .loop in
