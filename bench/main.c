@@ -1,12 +1,15 @@
 // The benchmark of the steps: an index and a flat scan of the same records, side by side in one run.
 #define _GNU_SOURCE
 #include "measure.h"
+#include "scans.h"
+#include "stack.h"
 #include "stair.h"
 #include <sched.h>
 #include <stdio.h>
 #include <stdlib.h>
 
 #define CALLS 10000
+#define READINGS 100000
 #define ROUNDS 7
 #define KINDS 4
 
@@ -88,6 +91,30 @@ static void stairs(struct index index)
     }
 }
 
+static struct scan_times scans_of(uint32_t length)
+{
+    struct scan_times best = measure_scans(length, READINGS);
+    for (int round = 1; round < ROUNDS; round++) {
+        struct scan_times times = measure_scans(length, READINGS);
+        best.window = least(best.window, times.window);
+        best.ring = least(best.ring, times.ring);
+    }
+    return best;
+}
+
+static void scans(void)
+{
+    static const uint32_t lengths[] = {1, 12, LONGEST_WINDOW};
+    printf("\nA moisture reading into a window, beside a ring, and the most bytes of stack that a call took\n");
+    printf("%6s  %9s  %7s  %11s  %5s  %6s\n", "length", "window ns", "ring ns", "window/ring", "begin", "update");
+    for (size_t i = 0; i < sizeof lengths / sizeof lengths[0]; i++) {
+        struct scan_times t = scans_of(lengths[i]);
+        paint_scans(lengths[i]);
+        printf("%6u  %9.1f  %7.1f  %11.2f  %5zu  %6zu\n", lengths[i], t.window / READINGS, t.ring / READINGS, t.window / t.ring,
+               stack_used(WINDOW_BEGIN), stack_used(WINDOW_UPDATE));
+    }
+}
+
 // One processor throughout: the clocks of two may differ.
 static void stay_here(void)
 {
@@ -115,6 +142,7 @@ int main(void)
     steps_of(&pair, "walk", measure_walks);
     steps_of(&pair, "search", measure_searches);
     stairs(pair.index);
+    scans();
     free(pair.index.words);
     return 0;
 }

@@ -17,6 +17,9 @@ static struct {
     struct call call;
     uint32_t number;
     bool sound;
+    struct window *window;
+    uint32_t length;
+    uint32_t reading;
 } made;
 
 static ucontext_t here, there;
@@ -68,7 +71,18 @@ static void make_audit(void)
     made.sound = index_audit(made.index.words, made.index.length);
 }
 
-static void (*const MAKE[ENTRIES])(void) = {make_nothing, make_open, make_submit, make_step, make_run, make_take, make_report, make_audit};
+static void make_window_begin(void)
+{
+    made.number = window_begin(made.window, made.length);
+}
+
+static void make_window_update(void)
+{
+    made.number = window_update(made.window, made.reading).number;
+}
+
+static void (*const MAKE[ENTRIES])(void) = {make_nothing, make_open,   make_submit, make_step,         make_run,
+                                            make_take,    make_report, make_audit,  make_window_begin, make_window_update};
 
 static void make(enum entry entry, struct index index)
 {
@@ -128,6 +142,35 @@ bool painted_audit(struct index index)
 {
     make(AUDIT, index);
     return made.sound;
+}
+
+static void painted_update(struct window *window, uint32_t reading)
+{
+    made.window = window;
+    made.reading = reading;
+    make(WINDOW_UPDATE, (struct index){NULL, 0});
+}
+
+// A copy of the window with one number of its state changed.
+static void changed_update(struct window window, size_t at, uint32_t number)
+{
+    ((uint32_t *)&window)[at] = number;
+    painted_update(&window, number);
+}
+
+void paint_scans(uint32_t length)
+{
+    struct window window = {0};
+    paint();
+    made.window = &window;
+    made.length = length;
+    make(WINDOW_BEGIN, (struct index){NULL, 0});
+    for (uint32_t n = 0; n < 3 * LONGEST_WINDOW; n++)
+        painted_update(&window, n * 100);
+    for (size_t at = 0; at < sizeof window / sizeof(uint32_t); at++)
+        changed_update(window, at, NONE);
+    made.length = LONGEST_WINDOW + 1;
+    make(WINDOW_BEGIN, (struct index){NULL, 0});
 }
 
 static size_t below_paint(enum entry entry)

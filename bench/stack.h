@@ -3,8 +3,9 @@
 #define STACK_H
 
 #include "index.h"
+#include "scans.h"
 
-enum entry { NOTHING, OPENING, SUBMISSION, STEP, RUN, TAKING, REPORT, AUDIT, ENTRIES };
+enum entry { NOTHING, OPENING, SUBMISSION, STEP, RUN, TAKING, REPORT, AUDIT, WINDOW_BEGIN, WINDOW_UPDATE, ENTRIES };
 
 // Paints the stack of every call.
 void paint(void);
@@ -17,6 +18,10 @@ uint32_t painted_run(struct index index, uint32_t s);
 void painted_take(struct index index, uint32_t s);
 void painted_report(struct index index);
 bool painted_audit(struct index index);
+
+// Paints the stacks, then begins a window of this length and brings it up to date with readings in range and out of it, and in every state that one
+// changed number leaves.
+void paint_scans(uint32_t length);
 
 // The bytes that the calls of an entry have used since the painting, the most of any, less those of a call that does nothing.
 size_t stack_used(enum entry entry);
