@@ -26,7 +26,7 @@ use denote.Laws.{Is, shows}
 use denote.Memory.{mem, cellAt}
 use denote.Plain.{uint-vals, uint-tells, uint-makes}
 use denote.Builtin.{u32}
-use denote.Ref.{RefT, MutRef, ptr-vals, mut-tells}
+use denote.Ref.{MutRef, ptr-vals, mut-tells}
 use denote.Signature.{plain}
 use denote.Steps.{only, opens, closes, owned, peeks, heard, nothing}
 use denote.Struct.Laws as LL
@@ -42,6 +42,7 @@ use denote.Exit.{yes}
 use Rattle.window.specs.Begin.{beginOf}
 use Rattle.window.specs.declared.window.Window.{Window}
 use Rattle.window.specs.declared.begin.Begun.{Begun}
+use Rattle.window.proofs.LentLaws.{given, at, mach, vals}
 use Rattle.window.proofs.window.Window as T
 use Rattle.window.proofs.window.Window.Laws as T′
 use Rattle.window.proofs.begin.Begun as K
@@ -55,13 +56,7 @@ use Rattle.window.proofs.lent.window_begin as f
 use Rattle.window.proofs.lent.window_begin.Statement as stated
 use Rattle.window.proofs.lent.window_begin.Code as code
 
-abbrev Arg : Type 0
-Arg = RefT Window × (ℕ × Unit {0})
-
--- the machine values
-abbrev mach : Window → Val
-mach w = LL.val T.the-type T′.the-laws w
-
+-- the machine value of what is given back
 abbrev told : ℕ → Val
 told k = vint w32 k
 
@@ -72,7 +67,7 @@ whole-is r u is = subst (λ (vs : List Val). Is K.the-row r vs) (LL.tells K.the-
 is-number : (r : Begun) (u : Val) → Is K.the-row r (u ∷ []) → Is u32 (r .number) (vint w32 (r .number) ∷ [])
 is-number r u is = LL.owed K.the-type K′.the-laws r (LL.vals K.the-type K′.the-laws r) (whole-is r u is) .0
 
-is-window : (r : Begun) (u : Val) → Is K.the-row r (u ∷ []) → Is T.the-row (r .window) (LL.vals T.the-type T′.the-laws (r .window))
+is-window : (r : Begun) (u : Val) → Is K.the-row r (u ∷ []) → Is T.the-row (r .window) (vals (r .window))
 is-window r u is = LL.owed K.the-type K′.the-laws r (LL.vals K.the-type K′.the-laws r) (whole-is r u is) .1 .0
 
 abbrev stayed : Stays (f.ended .signature .params) (f.ended .kept)
@@ -84,25 +79,16 @@ module _ {M : Type 1} (𝓤 : URA M) (H : Heap 𝓤) (A : Atoms 𝓤) (at-mem : 
   Begin = tripleOf 𝓤 H A begin.signature (begin.spec 𝓤 H A at-mem run)
 
 module _ {M : Type 1} (𝓤 : URA M) (H : Heap 𝓤) (A : Atoms 𝓤) (W : Given 𝓤 H A) (at-mem : Memory → SProp 𝓤) (run : Routine → Fun 𝓤) (κ : Lft) (q : Share) (b o : ℕ) (γ : GName) (h : Window) (n : ℕ) where
-  abbrev x : Arg
-  x = (record { ptr = (b, o); name = γ; now = h }, (n, tt))
-
-  abbrev at : List Val × (List Val × Unit {0})
-  at = (vptr b o ∷ [], (vint w32 n ∷ [], tt))
-
-  abbrev vh : List Val
-  vh = LL.vals T.the-type T′.the-laws h
-
   abbrev Post : Val → SProp 𝓤
-  Post = walkOf 𝓤 H A f.ended stayed (f.clauses 𝓤 H A at-mem run) .post (((κ, tt), (q, tt), tt, x, at), tt)
+  Post = walkOf 𝓤 H A f.ended stayed (f.clauses 𝓤 H A at-mem run) .post (((κ, tt), (q, tt), tt, given b o γ h n, at b o n), tt)
 
   -- the call of `begin`
   abbrev to-begin : Begin 𝓤 H A at-mem run .Ghost
-  to-begin = ((tt, tt, tt, (h, (n, tt)), (vh, (vint w32 n ∷ [], tt))), tt)
+  to-begin = ((tt, tt, tt, (h, (n, tt)), ((vals h), (vint w32 n ∷ [], tt))), tt)
 
-  goes-in : Is T.the-row h vh → n < 2 ^ 32 → ent 𝓤 (sem 𝓤 H A (T.the-row .own h vh)) (Begin 𝓤 H A at-mem run .pre to-begin)
+  goes-in : Is T.the-row h (vals h) → n < 2 ^ 32 → ent 𝓤 (sem 𝓤 H A (T.the-row .own h (vals h))) (Begin 𝓤 H A at-mem run .pre to-begin)
   goes-in was fits =
-      qed W (‵ (T.the-row .own h vh) ∷ []) ∵ nothing ! $ owned ! u32 (Is u32) (uint-makes 𝓤 H A W w32) n _ (refl, fits) $ fjoin ! $ move ! (1 ∷ 0 ∷ []) $ fjoin ! $
+      qed W (‵ (T.the-row .own h (vals h)) ∷ []) ∵ nothing ! $ owned ! u32 (Is u32) (uint-makes 𝓤 H A W w32) n _ (refl, fits) $ fjoin ! $ move ! (1 ∷ 0 ∷ []) $ fjoin ! $
       nothing ! $ join ! $ frame ! $ done !
 
   said : (r : Begun) → ent 𝓤 (ensured 𝓤 H A begin.ended (begin.clauses 𝓤 H A at-mem run) tt (h, (n, tt)) tt r) (fact 𝓤 (r ≡ beginOf h n))
@@ -112,24 +98,24 @@ module _ {M : Type 1} (𝓤 : URA M) (H : Heap 𝓤) (A : Atoms 𝓤) (W : Given
       → ent 𝓤 (sep 𝓤 (A .obs γ (T.the-row .coded .code (r .window))) (sep 𝓤 (A .bor κ (Body (mem T.the-row) b o γ)) (A .lft κ q))) (Post (told (r .number)))
   exits r e fits is =
       qed W (‵ (fobs γ (T.the-row .coded .code (r .window))) ∷ ‵ (fbor κ (Body (mem T.the-row) b o γ)) ∷ ‵ (flft κ q) ∷ []) ∵
-      suffices ! _ (ends-at 𝓤 H A f.ended stayed (f.clauses 𝓤 H A at-mem run) W (((κ, tt), (q, tt), tt, x, at), tt) (told (r .number)) (r .number) (r .window, (tt, tt)) (tt, (tt, tt))) $
+      suffices ! _ (ends-at 𝓤 H A f.ended stayed (f.clauses 𝓤 H A at-mem run) W (((κ, tt), (q, tt), tt, given b o γ h n, at b o n), tt) (told (r .number)) (r .number) (r .window, (tt, tt)) (tt, (tt, tt))) $
       says ! (ap (λ (y : Begun). y .number) e, ap (λ (y : Begun). y .window) e) $ nothing ! $ move ! (3 ∷ 0 ∷ []) $ join ! $
       frame ! $ feqI ! (List Val) (vptr b o ∷ []) (vptr b o ∷ []) refl $ fjoin3 ! $ nothing ! $ owned ! u32 (Is u32) (uint-makes 𝓤 H A W w32) n _ (refl, fits) $ fjoin ! $ move ! (1 ∷ 0 ∷ []) $ fjoin ! $
       owned ! u32 (Is u32) (uint-makes 𝓤 H A W w32) (r .number) _ is $ move ! (1 ∷ 0 ∷ []) $ frame ! $ done !
 
   module _ (C : Calls 𝓤 H) (Λ : Loops 𝓤 H) (fm : FmC 𝓤 H (W .laws) C) (known : Triple 𝓤 (C #window·begin·begin) (Begin 𝓤 H A at-mem run)) where
-    walk : ent 𝓤 (onEntry 𝓤 H A f.signature (κ, tt) (q, tt) x at) (WpFn 𝓤 H C Λ code.function (vptr b o ∷ vint w32 n ∷ []) Post)
+    walk : ent 𝓤 (onEntry 𝓤 H A f.signature (κ, tt) (q, tt) (given b o γ h n) (at b o n)) (WpFn 𝓤 H C Λ code.function (vptr b o ∷ vint w32 n ∷ []) Post)
     walk =
-        qed W ((‵ (flft κ q) ⊛ ‵ ftrue) ∷ ‵ (owns (MutRef (named 0) κ T.the-row ∷ u32 ∷ []) x at) ∷ []) ∵ split ! $ move ! (2 ∷ []) $ fsplit ! $ move ! (1 ∷ []) $ fsplit ! $
+        qed W ((‵ (flft κ q) ⊛ ‵ ftrue) ∷ ‵ (owns (MutRef (named 0) κ T.the-row ∷ u32 ∷ []) (given b o γ h n) (at b o n)) ∷ []) ∵ split ! $ move ! (2 ∷ []) $ fsplit ! $ move ! (1 ∷ []) $ fsplit ! $
         peeks ! u32 (Is u32) (shows 𝓤 H A u32) n (vint w32 n ∷ []) (λ gn. move ! (2 ∷ []) $ fsplit3 ! $ drop ! $ move ! (0 ∷ 1 ∷ 4 ∷ []) $
         -- [obs; the borrow; the token; what reading owns; true; true]
         enter ! C Λ code.function (vptr b o ∷ vint w32 n ∷ []) _ $
         alloc1 ! (λ l₀. alloc1 ! (λ l₁. alloc1 ! (λ l₂. alloc1 ! (λ l₃. alloc1 ! (λ l₄. alloc0 ! $ params1 ! $ pass1 ! (init ! 6 refl (tt, tt)) $ pass1 ! (init ! 4 refl (tt, record { fits = gn .1 })) $ pass0 ! $
         move ! (10 ∷ 11 ∷ 12 ∷ []) $ opens ! tt T.the-row {h = h} b o (λ vs. spelt ! T.the-row (Is T.the-row) (shows 𝓤 H A T.the-row) (LL.vals T.the-type T′.the-laws) (LL.tells T.the-type T′.the-laws) fullShare h vs b o $
         use1 W (‵ (fat fullShare T′.mir b o (mach h))) (W .laws .raw-at fullShare T′.mir b o (mach h)) $
-        move ! (1 ∷ []) $ peeks ! T.the-row (Is T.the-row) (shows 𝓤 H A T.the-row) h vh (λ was. move ! (1 ∷ 0 ∷ []) $
+        move ! (1 ∷ []) $ peeks ! T.the-row (Is T.the-row) (shows 𝓤 H A T.the-row) h (vals h) (λ was. move ! (1 ∷ 0 ∷ []) $
         -- [the state's cell; what it owns; the open borrow; obs; auth; _4; …; _3; …; _2; …; _1; …; room for _0; …]
-        assigns ! (of-opd ! (load ! (from ! (hop ! (look ! 11 refl) (stop !))) (look ! 0 refl))) (from ! (stop !)) (init ! 5 refl (LL.lawful T.the-type T′.the-laws 𝓤 H A W .typed h vh was .0)) $
+        assigns ! (of-opd ! (load ! (from ! (hop ! (look ! 11 refl) (stop !))) (look ! 0 refl))) (from ! (stop !)) (init ! 5 refl (LL.lawful T.the-type T′.the-laws 𝓤 H A W .typed h (vals h) was .0)) $
         move ! (1 ∷ []) $ use1 W (raw (Begin 𝓤 H A at-mem run .pre to-begin)) (goes-in was (gn .1)) $
         -- [what `begin` asks; the state's cell; the open borrow; obs; auth; _4; …; _3; …; _2; …; _1; …; room for _0; …]
         calls-at ! fm (Begin 𝓤 H A at-mem run) known to-begin (and-then ! (load ! (from ! (stop !)) (look ! 5 refl)) (and-then ! (load ! (from ! (stop !)) (look ! 9 refl)) (no-more !))) (λ u.
