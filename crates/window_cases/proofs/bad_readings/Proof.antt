@@ -1,0 +1,68 @@
+-- `window_cases::bad_readings` is safe and ends. Assumes nothing.
+use borrow.Author.Needs.{needs}
+use mathlib.Core.Path.{_≡_}
+use Prim.Native.Nat.{_-_}
+use lib.ListN.{length}
+use Rattle.window_cases.proofs.bad_readings.Statement.{statement}
+use Rattle.window_cases.proofs.bad_readings.Tie as tie
+
+abbrev Inv-loop : tie.InvT-loop
+Inv-loop book₀ present₀ t3 book present = length book ≡ length book₀
+
+abbrev μ-loop : tie.MeasureT-loop
+μ-loop book₀ present₀ t3 book present = 65 - present
+
+loop-holds : tie.Need-loop-holds Inv-loop μ-loop
+loop-holds c = search needs
+
+state-requires : tie.Need-state-requires Inv-loop μ-loop
+state-requires c κs = search needs
+
+try-places-requires : tie.Need-try-places-requires Inv-loop μ-loop
+try-places-requires c κs = search needs
+
+state-requires-2 : tie.Need-state-requires-2 Inv-loop μ-loop
+state-requires-2 c κs = search needs
+
+try-places-requires-2 : tie.Need-try-places-requires-2 Inv-loop μ-loop
+try-places-requires-2 c κs = search needs
+
+add-present : tie.Need-add-present Inv-loop μ-loop
+add-present c = search needs
+
+loop-less : tie.Need-loop-less Inv-loop μ-loop
+loop-less c = search needs
+
+loop-again : tie.Need-loop-again Inv-loop μ-loop
+loop-again c = search needs
+
+slice-aggregate-end-case : tie.Need-slice-aggregate-end-case Inv-loop μ-loop
+slice-aggregate-end-case c = search needs
+
+end-case-requires : tie.Need-end-case-requires Inv-loop μ-loop
+end-case-requires c κs = search needs
+
+same-length : tie.Need-same-length Inv-loop μ-loop
+same-length c = search needs
+
+returns : tie.Need-returns Inv-loop μ-loop
+returns c = search needs
+
+pub bad-readings-spec : {M : Type 1} → statement M
+bad-readings-spec =
+    tie.close
+    (tie.spec
+    Inv-loop
+    μ-loop
+    loop-holds
+    state-requires
+    try-places-requires
+    state-requires-2
+    try-places-requires-2
+    add-present
+    loop-less
+    loop-again
+    slice-aggregate-end-case
+    end-case-requires
+    same-length
+    returns)
