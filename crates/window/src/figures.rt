@@ -3,11 +3,11 @@ use crate::window::Window;
 use crate::window::place;
 ghost use mathlib.Core.Path.{_≡_};
 ghost use mathlib.Core.Bool.{true};
-ghost use Prim.Native.Nat.{_≤_, min, max};
+ghost use Prim.Native.Nat.{_*_, _≤_, min, max};
 ghost use Rattle.window.specs.Figures.{meanOf, figuresOf, refusedWith};
-ghost use Rattle.window.specs.Window.{isSound, presentIn};
+ghost use Rattle.window.specs.Window.{longest, wettest, isSound, presentIn};
 
-// 0, or the number of a refusal and then zeros; and the four figures, in 0.01 %.
+// A number, 0 or that of a refusal, and the four figures in 0.01 %, which are 0 with a refusal.
 #[repr(C)]
 pub struct Figures {
     pub number: u32,
@@ -33,7 +33,7 @@ fn greater(a: u32, b: u32) -> u32
 
 // The mean of n readings, rounded half up.
 fn mean_of(sum: u32, n: u32) -> u32
-    requires { ⌜ (1 ≤ n) × (n ≤ 64) × (sum ≤ 640000) ⌝ }
+    requires { ⌜ (1 ≤ n) × (n ≤ longest) × (sum ≤ wettest * longest) ⌝ }
     ensures { λ r. ⌜ r ≡ meanOf sum n ⌝ }
 {
     (2 * sum + n) / (2 * n)

@@ -1,4 +1,4 @@
-// "The window's state is lent to the call and brought up to date there": the calls for programs in C too.
+// "The window's state is lent to the call and brought up to date there." A program in C makes these calls too.
 use crate::begin::begin;
 use crate::figures::Figures;
 use crate::update::update;
