@@ -9,13 +9,14 @@ use mathlib.Core.Bool.{Bool, true, false, cond}
 use mathlib.Core.List.{List, [], _∷_, _++_}
 use lib.ListN.{length}
 use Rattle.claims.specs.Definitions.{asked, firstNo, Window, longest, wettest, lengthIn, readingIn, isSound, tailOf, meanOf, figuresOf, refusedWith, IsMean, Told}
-use Rattle.claims.specs.Definitions.{beginOf, refusedOf, updateOf, WindowEvent, stateAfter, Log, newLog, logAfter, LeftByReadings, isSteady, Steady}
+use Rattle.claims.specs.Definitions.{beginOf, refusedOf, updateOf, WindowEvent, reading, stateAfter, Log, newLog, logAfter, LeftByReadings, isSteady, Steady}
 use Rattle.window.proofs.BeginLaws
 use Rattle.window.proofs.UpdateLaws
 use Rattle.window.proofs.MeanLaws
 use Rattle.window.proofs.LogLaws
 use Rattle.window.proofs.RefusedLaws
 use Rattle.window.proofs.SteadyLaws
+use Rattle.window.proofs.Cases
 
 -- ---- "Refused: 18 for a window length out of range or a state no readings could leave, and 19 for a reading out of range, 18 first."
 
@@ -72,6 +73,10 @@ module _ (w : Window) (n : ℕ) (begun : beginOf w n .number ≡ 0) (evs : List 
   pub window-run : updateOf (stateAfter (beginOf w n .window) evs) x .figures ≡ cond (readingIn x) (figuresOf (tailOf (log .length) (log .accepted ++ (x ∷ [])))) (refusedWith 19)
   window-run = LogLaws.window-run w n begun evs x
 
+  -- so a reading gets 0 or 19 there, and never 18
+  pub never-18 : updateOf (stateAfter (beginOf w n .window) evs) x .figures .number ≡ cond (readingIn x) 0 19
+  never-18 = LogLaws.run-number w n begun evs x
+
   -- what it gives, in words
   pub window-told : readingIn x ≡ true → Told (log .length) (log .accepted ++ (x ∷ [])) (updateOf (stateAfter (beginOf w n .window) evs) x .figures)
   window-told = LogLaws.window-told w n begun evs x
@@ -89,6 +94,10 @@ mean-only = MeanLaws.mean-only
 -- the mean of an accepted reading is a moisture that a record may have: at most 10,000
 pub mean-moisture : (w : Window) → length (w .readings) ≡ longest → (x : ℕ) → updateOf w x .figures .number ≡ 0 → updateOf w x .figures .mean ≤ wettest
 mean-moisture = UpdateLaws.mean-moisture
+
+-- "the mean rounded half up": of 1 and 2 it is 2, in a window of two that was in whatever state
+pub mean-of-1-and-2 : (w : Window) → updateOf (stateAfter (beginOf w 2 .window) (reading 1 ∷ [])) 2 .figures ≡ record { number = 0; sum = 3; least = 1; greatest = 2; mean = 2 }
+mean-of-1-and-2 = Cases.half-up
 
 -- ---- "its moisture must be steady"
 

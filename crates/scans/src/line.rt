@@ -58,7 +58,7 @@ fn after_digit(line: Line, digit: u8) -> Line {
     }
 }
 
-// Something other comes than a digit or a separator.
+// A byte comes that is neither a digit nor a separator.
 fn after_letter(line: Line, letter: u8) -> Line {
     match line {
         Line::Blank => spelled(0, letter),

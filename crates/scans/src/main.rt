@@ -110,7 +110,7 @@ fn with_line_end(scan: Scanning) -> Scanning {
     next
 }
 
-// One byte of the input. A comment is a separator. Once a line could not be written nothing is taken.
+// One byte of the input; those of a comment only separate. Nothing is taken once a line could not be written.
 fn with_byte(scan: Scanning, byte: u8) -> Scanning {
     if !scan.written {
         return scan;

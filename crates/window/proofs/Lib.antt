@@ -19,3 +19,5 @@ pub mod RefusedLaws
 pub mod SteadyLaws
 -- the state lent by `&mut`
 pub mod LentLaws
+-- examples, by computation
+pub mod Cases

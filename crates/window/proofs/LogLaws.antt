@@ -132,7 +132,16 @@ module _ (w : Window) (n : ℕ) (begun : beginOf w n .number ≡ 0) (evs : List 
       by-test true = refl
       by-test false = refl
 
-  -- the same in words, for a reading that is accepted
+  -- so 18 is never met: a reading gets 0 or 19
+  pub run-number : (x : ℕ) → updateOf (stateAfter (beginOf w n .window) evs) x .figures .number ≡ cond (readingIn x) 0 19
+  unfolding figuresOf
+  run-number x = ap (λ (f : Figures). f .number) (window-run x) ∙ by-test (readingIn x)
+    where
+      by-test : (fits : Bool) → cond fits (figuresOf (tailOf (logged .length) (logged .accepted ++ (x ∷ [])))) (refusedWith 19) .number ≡ cond fits 0 19
+      by-test true = refl
+      by-test false = refl
+
+  -- and what an accepted reading tells, in words
   pub window-told : (x : ℕ) → readingIn x ≡ true → Told (logged .length) (logged .accepted ++ (x ∷ [])) (updateOf (stateAfter (beginOf w n .window) evs) x .figures)
   window-told x fits =
       let run : List ℕ = logged .accepted ++ (x ∷ []) in

@@ -1,4 +1,4 @@
--- `scans::run` is safe and ends: each turn is one of those that it counts down. Assumes nothing.
+-- `scans::run` is safe and ends: it counts its turns down. Assumes nothing.
 use borrow.Author.Needs.{needs}
 use Rattle.scans.proofs.run.Statement.{statement}
 use Rattle.scans.proofs.run.Tie as tie
