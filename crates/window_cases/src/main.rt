@@ -108,29 +108,32 @@ fn more_present(book: &mut [u64]) {
     end_case(book, b"states with more readings present than the length: ");
 }
 
-// A number at each place from one up to another.
-fn try_places(book: &mut [u64], window: Window, start: u32, end: u32, number: u32) {
-    for place in start..end {
+// A number at a place, where it is one of the readings present, or one behind them.
+fn try_place(book: &mut [u64], window: Window, behind: bool, number: u32, place: u32) {
+    if (place < window.present) != behind {
         try_bad(book, with_number(window, place, number));
     }
 }
 
-// At each place of the readings present 10,001, in a full window and in the longest.
-fn bad_readings(book: &mut [u64]) {
-    for present in 1..65u32 {
-        try_places(book, state(present, present), 0, present, 10001);
-        try_places(book, state(64, present), 0, present, 10001);
+// The same at each such place.
+fn try_places(book: &mut [u64], window: Window, behind: bool, number: u32) {
+    for place in 0..64u32 {
+        try_place(book, window, behind, number, place);
     }
-    end_case(book, b"states with a reading of 10,001, at each place: ");
 }
 
-// At each place behind the readings present 1, in a window with room for one more and in the longest.
-fn numbers_behind(book: &mut [u64]) {
-    for present in 0..64u32 {
-        try_places(book, state(present + 1, present), present, 64, 1);
-        try_places(book, state(64, present), present, 64, 1);
+// The shortest window in which so many readings are present.
+fn shortest(present: u32) -> u32 {
+    if present == 0 { 1 } else { present }
+}
+
+// In the shortest window and in the longest, with each number of readings present.
+fn bad_places(book: &mut [u64], behind: bool, number: u32, name: &[u8]) {
+    for present in 0..65u32 {
+        try_places(book, state(shortest(present), present), behind, number);
+        try_places(book, state(64, present), behind, number);
     }
-    end_case(book, b"states with a number behind, at each place: ");
+    end_case(book, name);
 }
 
 // Whether a window is steady.
@@ -176,8 +179,18 @@ fn main() {
     history(&mut book, &mut list, 64, b"length 64, beside a list: ");
     bad_lengths(&mut book);
     more_present(&mut book);
-    bad_readings(&mut book);
-    numbers_behind(&mut book);
+    bad_places(
+        &mut book,
+        false,
+        10001,
+        b"states with a reading of 10,001, at each place: ",
+    );
+    bad_places(
+        &mut book,
+        true,
+        1,
+        b"states with a number behind, at each place: ",
+    );
     spreads(&mut book);
     tally::end(&book);
 }

@@ -7,19 +7,16 @@ use Rattle.window_cases.proofs.try_places.Statement.{statement}
 use Rattle.window_cases.proofs.try_places.Tie as tie
 
 abbrev Inv-loop : tie.InvT-loop
-Inv-loop book₀ window start end number place₀ book place = length book ≡ length book₀
+Inv-loop book₀ window behind number place₀ book place = length book ≡ length book₀
 
 abbrev μ-loop : tie.MeasureT-loop
-μ-loop book₀ window start end number place₀ book place = end - place
+μ-loop book₀ window behind number place₀ book place = 64 - place
 
 loop-holds : tie.Need-loop-holds Inv-loop μ-loop
 loop-holds c = search needs
 
-with-number-requires : tie.Need-with-number-requires Inv-loop μ-loop
-with-number-requires c κs = search needs
-
-try-bad-requires : tie.Need-try-bad-requires Inv-loop μ-loop
-try-bad-requires c κs = search needs
+try-place-requires : tie.Need-try-place-requires Inv-loop μ-loop
+try-place-requires c κs = search needs
 
 add-place : tie.Need-add-place Inv-loop μ-loop
 add-place c = search needs
@@ -43,8 +40,7 @@ try-places-spec =
     Inv-loop
     μ-loop
     loop-holds
-    with-number-requires
-    try-bad-requires
+    try-place-requires
     add-place
     loop-less
     loop-again

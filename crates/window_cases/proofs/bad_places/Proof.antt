@@ -1,19 +1,22 @@
--- `window_cases::bad_readings` is safe and ends. Assumes nothing.
+-- `window_cases::bad_places` is safe and ends. Assumes nothing.
 use borrow.Author.Needs.{needs}
 use mathlib.Core.Path.{_≡_}
 use Prim.Native.Nat.{_-_}
 use lib.ListN.{length}
-use Rattle.window_cases.proofs.bad_readings.Statement.{statement}
-use Rattle.window_cases.proofs.bad_readings.Tie as tie
+use Rattle.window_cases.proofs.bad_places.Statement.{statement}
+use Rattle.window_cases.proofs.bad_places.Tie as tie
 
 abbrev Inv-loop : tie.InvT-loop
-Inv-loop book₀ present₀ t3 book present = length book ≡ length book₀
+Inv-loop book₀ behind number name present₀ book present = length book ≡ length book₀
 
 abbrev μ-loop : tie.MeasureT-loop
-μ-loop book₀ present₀ t3 book present = 65 - present
+μ-loop book₀ behind number name present₀ book present = 65 - present
 
 loop-holds : tie.Need-loop-holds Inv-loop μ-loop
 loop-holds c = search needs
+
+shortest-requires : tie.Need-shortest-requires Inv-loop μ-loop
+shortest-requires c κs = search needs
 
 state-requires : tie.Need-state-requires Inv-loop μ-loop
 state-requires c κs = search needs
@@ -36,9 +39,6 @@ loop-less c = search needs
 loop-again : tie.Need-loop-again Inv-loop μ-loop
 loop-again c = search needs
 
-slice-aggregate-end-case : tie.Need-slice-aggregate-end-case Inv-loop μ-loop
-slice-aggregate-end-case c = search needs
-
 end-case-requires : tie.Need-end-case-requires Inv-loop μ-loop
 end-case-requires c κs = search needs
 
@@ -48,13 +48,14 @@ same-length c = search needs
 returns : tie.Need-returns Inv-loop μ-loop
 returns c = search needs
 
-pub bad-readings-spec : {M : Type 1} → statement M
-bad-readings-spec =
+pub bad-places-spec : {M : Type 1} → statement M
+bad-places-spec =
     tie.close
     (tie.spec
     Inv-loop
     μ-loop
     loop-holds
+    shortest-requires
     state-requires
     try-places-requires
     state-requires-2
@@ -62,7 +63,6 @@ bad-readings-spec =
     add-present
     loop-less
     loop-again
-    slice-aggregate-end-case
     end-case-requires
     same-length
     returns)
