@@ -64,7 +64,7 @@ module _ (words : List ℕ) (t : Table) (s i : ℕ) (c : Call) (o : Option Answe
       let n : wordIndex .take (stepOf words s .words) s .number ≡ 12 = related-agrees h r .accepted s ∙ take-busy t s i c o l q in
       rw (e, n)
 
-  ends-answered : stepOf words s .number ≡ 0 → Related (stepOf words s .words) (finished t s c o) → answered wordIndex words (singleStep s) ≡ true
+  pub ends-answered : stepOf words s .number ≡ 0 → Related (stepOf words s .words) (finished t s c o) → answered wordIndex words (singleStep s) ≡ true
   unfolding answered
   ends-answered e r =
       let w = finished-waits t s c o in
@@ -130,8 +130,8 @@ module _ {words : List ℕ} {t : Table} (s : ℕ) (h : Sound t) (k : Settled t) 
   still-matches (waiting b) l q a = refusal s 10 (step-quiet s r l (quiet-state s l (waiting b) q tt r)) r (still-quiet t s l (waiting b) q tt)
   still-matches (unfinished i c o) l q a = go (step-outcome s i (4 * t .places) c o h k l q (most-left s i c o l q r))
     where
-      go : Outcome t s c o (4 * t .places) (stepOf words s) → Matches wordIndex Related (wordIndex .step words s) (still t s)
-      go (goesOn e m f w) = rw (still-busy t s i c o l q) (record { number = e; given = refl; next = w .related })
+      go : Outcome (most-left s i c o l q r .related) s c o (4 * t .places) (stepOf words s) → Matches wordIndex Related (wordIndex .step words s) (still t s)
+      go (goesOn e m f w d) = rw (still-busy t s i c o l q) (record { number = e; given = refl; next = w .related })
       go (ends e w) = absurd (true≢false (sym (ends-answered words t s i c o h l q e w) ∙ a))
 
   pub stills : answered wordIndex words (singleStep s) ≡ false → Matches wordIndex Related (wordIndex .step words s) (still t s)
@@ -146,8 +146,8 @@ module _ {words : List ℕ} {t : Table} (s : ℕ) (h : Sound t) (k : Settled t) 
   answer-matches (waiting b) l q a = absurd (refused-unanswered s 9 (step-quiet s r l (quiet-state s l (waiting b) q tt r)) a)
   answer-matches (unfinished i c o) l q a = go (step-outcome s i (4 * t .places) c o h k l q (most-left s i c o l q r))
     where
-      go : Outcome t s c o (4 * t .places) (stepOf words s) → Finishes wordIndex Related words t s
-      go (goesOn e m f w) = absurd (true≢false (sym a ∙ goes-unanswered words t s i c o h l q e (w .related)))
+      go : Outcome (most-left s i c o l q r .related) s c o (4 * t .places) (stepOf words s) → Finishes wordIndex Related words t s
+      go (goesOn e m f w d) = absurd (true≢false (sym a ∙ goes-unanswered words t s i c o h l q e (w .related)))
       go (ends e w) = record { station = l; identity = i; call = c; set = o; is = q; matches = record { number = e; given = refl; next = w } }
 
   pub answers : answered wordIndex words (singleStep s) ≡ true → Finishes wordIndex Related words t s

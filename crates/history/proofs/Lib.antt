@@ -82,3 +82,7 @@ pub mod TouchUnlink
 pub mod TouchWalk
 pub mod TouchSearch
 pub mod Touch
+pub mod Spelled
+pub mod MovesLeft
+pub mod Reseated
+pub mod Somebody

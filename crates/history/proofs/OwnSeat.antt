@@ -1,6 +1,6 @@
 -- The seat of the station that steps: its answer waits there (`related-answered`), or its walk goes on with fewer moves left (`left-walks`). What is
 -- released stays the same where removals and since words do (`least-same`).
-use Prim.Native.Nat.{ℕ, _≤_, _<_}
+use Prim.Native.Nat.{ℕ, _*_, _≤_, _<_}
 use mathlib.Core.Path.{_≡_, refl, sym, _∙_}
 use mathlib.Core.Logic.{_≢_, inr}
 use mathlib.Core.Bool.{true, false, true≢false}
@@ -22,7 +22,7 @@ use Rattle.table.specs.Table.{unfinished, waiting, Table, put, withStations}
 use Rattle.table.proofs.Stations.{put-same, put-other}
 use Rattle.trees.specs.Tree.{Tree}
 use Rattle.trees.specs.Queue.{Free}
-use Rattle.trees.specs.Route.{OnRoute, standsAt}
+use Rattle.trees.specs.Route.{OnRoute}
 use Rattle.trees.specs.Measure.{walkLeft}
 use Rattle.moves.specs.Answer.{answeredWords}
 use Rattle.history.specs.Index.{answerOf}
@@ -32,9 +32,9 @@ use Rattle.history.proofs.BusyLaws.{busy-on}
 use Rattle.history.proofs.Effects.{answer-written, answer-rows, walk-written, walk-rows}
 use Rattle.history.proofs.Readings.{nearest-search}
 use Rattle.history.proofs.LeastLaws.{least-up}
-use Rattle.history.proofs.SaysLaws.{seat-put-same, related-written}
+use Rattle.history.proofs.SaysLaws.{seat-put-same, seat-put-other, related-written}
 use Rattle.history.proofs.SeatLaws.{related-seat}
-use Rattle.history.proofs.Outcome.{LeftSays, Left}
+use Rattle.history.proofs.Outcome.{walkMoves, LeftSays, Left, Aside}
 
 -- ---- what is released
 
@@ -54,7 +54,7 @@ least-same v w e f =
 -- ---- a walk on another row
 
 -- what is left to a walk is the leaves below the row where it stands
-pub left-walk : (t : Table) (tree : Option Tree) (queue : List Free) (seat : Seat) (i : ℕ) (c : Call) (n : ℕ) → isSearch c ≡ false → walkLeft tree (standsAt tree (seat .place .cursor)) ≤ n
+pub left-walk : (t : Table) (tree : Option Tree) (queue : List Free) (seat : Seat) (i : ℕ) (c : Call) (n : ℕ) → isSearch c ≡ false → walkMoves tree seat ≤ n
     → LeftSays t tree queue seat (unfinished i c none) n
 left-walk t tree queue seat i (add p c) n e l = l
 left-walk t tree queue seat i (remove p) n e l = l
@@ -62,7 +62,7 @@ left-walk t tree queue seat i (contains p) n e l = l
 left-walk t tree queue seat i (nearest p) n e l = absurd (true≢false (sym (nearest-search p) ∙ e))
 
 pub left-tells : (t : Table) (tree : Option Tree) (queue : List Free) (seat : Seat) (i : ℕ) (c : Call) (n : ℕ) → isSearch c ≡ false → LeftSays t tree queue seat (unfinished i c none) n
-    → walkLeft tree (standsAt tree (seat .place .cursor)) ≤ n
+    → walkMoves tree seat ≤ n
 left-tells t tree queue seat i (add p c) n e l = l
 left-tells t tree queue seat i (remove p) n e l = l
 left-tells t tree queue seat i (contains p) n e l = l
@@ -103,7 +103,7 @@ module _ {words : List ℕ} {t : Table} (s : ℕ) (l : s < 8) (r : Related words
         rw q (busy-on b (walkSeat .place) (b .asof) (omega arith) (works-walk t (r .tree) (r .queue) (seatAt words s) i c to e o (b .works)))
 
     -- a walk of station s goes on to a row on the way of its point
-    pub left-walks : (n : ℕ) → to ≢ NONE → walkLeft (r .tree) to ≤ n → Left (putPlace words s to 0) t s n
+    pub left-walks : (n : ℕ) → to ≢ NONE → 2 * walkLeft (r .tree) to ≤ n → Left (putPlace words s to 0) t s n
     unfolding related-seat related-written
     left-walks n there few = record {
       related = next;
@@ -116,3 +116,12 @@ module _ {words : List ℕ} {t : Table} (s : ℕ) (l : s < 8) (r : Related words
 
         seated : seatAt (putPlace words s to 0) s ≡ walkSeat
         seated = walk-written words (t .places) (t .limit) (r .opened) s l to .seated s l ∙ seat-put-same (λ u. seatAt words u) s walkSeat
+
+    -- and nothing else moves
+    pub aside-walks : (n : ℕ) (there : to ≢ NONE) (few : 2 * walkLeft (r .tree) to ≤ n) → Aside r (left-walks n there few .related) s
+    unfolding left-walks related-seat related-written
+    aside-walks n there few = record {
+      tree = refl;
+      queue = refl;
+      others = λ u k d. walk-written words (t .places) (t .limit) (r .opened) s l to .seated u k ∙ seat-put-other (λ z. seatAt words z) s u walkSeat d;
+    }

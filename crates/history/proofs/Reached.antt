@@ -114,7 +114,7 @@ module _ {places limit : ℕ} where
       let m = answers s (w .sound) k (w .related) e in
       moved t (finished t s (m .call) (m .set)) (finished-sound t s (m .identity) (m .call) (m .set) (w .sound) (m .station) (m .is)) (m .matches .next) (finished-alike t s (m .call) (m .set)) (w .places-same) (w .limit-same)
 
-  event-stands : {words : List ℕ} (ev : Event) → Stands words places limit → Stands (reply wordIndex words ev .next) places limit
+  pub event-stands : {words : List ℕ} (ev : Event) → Stands words places limit → Stands (reply wordIndex words ev .next) places limit
   unfolding reply
   event-stands {words} (submission s kind p c) w =
       let t = w .table in

@@ -1,10 +1,11 @@
--- The work of one step of a nearest call over words: no row is refused, and the invariant of the search is kept (`seek-words`).
-use Prim.Native.Nat.{ℕ, suc, _*_, _≤_, _<_}
-use mathlib.Core.Path.{_≡_, sym, _∙_, subst}
+-- The work of one step of a nearest call over words: no row is refused, and the invariant of the search is kept (`seek-keeps`), and a step
+-- that does not finish leaves two fewer (`seek-two`).
+use Prim.Native.Nat.{ℕ, _+_, _*_, _≤_, _<_}
+use mathlib.Core.Path.{_≡_, sym, ap, _∙_, subst}
 use mathlib.Core.Logic.{_≢_, _⊎_, inl, inr}
-use mathlib.Core.Bool.{false, false≢true}
+use mathlib.Core.Bool.{true, false, true≢false, false≢true}
 use mathlib.Core.List.{List, [], _∷_}
-use mathlib.Core.Option.{Option, none, some}
+use mathlib.Core.Option.{Option, some}
 use native.Mathlib.Omega.{arith}
 use native.Mathlib.Decide.{ℕ-discrete}
 use borrow.Author.Tests.{eq-eqb}
@@ -58,6 +59,10 @@ module _ {places : ℕ} {h : Heap} {t : Option Tree} {q : List Free} {changes re
     abbrev Here : WordProgress → ℕ → Type 0
     Here p most = Seeks call since Then t q changes removals p most
 
+    -- so many fewer than these
+    abbrev Fewer : ℕ → ℕ → WordProgress → Type 0
+    Fewer by most p = (m : ℕ) × (by + m ≤ most) × Here p m
+
     -- a look leaves no more, and less where a row was missed
     look-shows : (p : WordProgress) (most : ℕ) → Fit p → (v : Search (choiceOf (call .point)) (call .asof) since Then t q changes removals (viewOf p))
         → searchLeft (search-look st (viewOf p) v .search) ≤ most → Here (lookWord words (2 * places) call p) most
@@ -69,42 +74,73 @@ module _ {places : ℕ} {h : Heap} {t : Option Tree} {q : List Free} {changes re
     look-seeks : (p : WordProgress) (most : ℕ) → Here p most → Here (lookWord words (2 * places) call p) most
     look-seeks p most g = look-shows p most (g .fit) (g .search) (omega (arith, search-look st (viewOf p) (g .search) .fewer, g .left))
 
-    look-less : (p : WordProgress) (most : ℕ) → p .missed ≢ NONE → Here p (suc most) → Here (lookWord words (2 * places) call p) most
-    look-less p most n g = look-shows p most (g .fit) (g .search) (omega (arith, search-look st (viewOf p) (g .search) .less n, g .left))
+    look-less : (p : WordProgress) (most : ℕ) → p .missed ≢ NONE → Here p most → Fewer 2 most (lookWord words (2 * places) call p)
+    look-less p most n g =
+        let a = search-look st (viewOf p) (g .search) in
+        (searchLeft (a .search), omega (arith, a .less n, g .left), look-shows p (searchLeft (a .search)) (g .fit) (g .search) (omega arith))
 
     -- a tour likewise, less where the cursor is a row
     tour-shows : (p : WordProgress) (most : ℕ) → Fit p → (v : Search (choiceOf (call .point)) (call .asof) since Then t q changes removals (viewOf p))
-        → searchLeft (search-tour t st (viewOf p) v .search) ≤ most → Here (tourWord words (2 * places) call p) most
+        → searchLeft (search-tour t st (viewOf p) v .goes .search) ≤ most → Here (tourWord words (2 * places) call p) most
     tour-shows p most f v l =
-        let a = search-tour t st (viewOf p) v in
+        let a = search-tour t st (viewOf p) v .goes in
         shown (tourWord words (2 * places) call p) (tour (choiceOf (call .point)) (call .asof) h (viewOf p)) (a .to)
         (tour-words words (2 * places) h reads call p f (standing-row (p .cursor) (v .stands))) (a .is) (a .search) l
 
     tour-seeks : (p : WordProgress) (most : ℕ) → Here p most → Here (tourWord words (2 * places) call p) most
-    tour-seeks p most g = tour-shows p most (g .fit) (g .search) (omega (arith, search-tour t st (viewOf p) (g .search) .fewer, g .left))
+    tour-seeks p most g = tour-shows p most (g .fit) (g .search) (omega (arith, search-tour t st (viewOf p) (g .search) .goes .fewer, g .left))
 
-    tour-less : (p : WordProgress) (most : ℕ) → p .cursor ≢ NONE → Here p (suc most) → Here (tourWord words (2 * places) call p) most
-    tour-less p most n g = tour-shows p most (g .fit) (g .search) (omega (arith, search-tour t st (viewOf p) (g .search) .less n, g .left))
+    tour-less : (p : WordProgress) (most : ℕ) → p .cursor ≢ NONE → Here p most → Fewer 1 most (tourWord words (2 * places) call p)
+    tour-less p most n g =
+        let a = search-tour t st (viewOf p) (g .search) .goes in
+        (searchLeft (a .search), omega (arith, a .less n, g .left), tour-shows p (searchLeft (a .search)) (g .fit) (g .search) (omega arith))
+
+    -- and what was missed stays
+    tour-missed : (p : WordProgress) (most : ℕ) → Here p most → tourWord words (2 * places) call p .missed ≡ p .missed
+    tour-missed p most g =
+        let a = search-tour t st (viewOf p) (g .search) in
+        let w = tour-words words (2 * places) h reads call p (g .fit) (standing-row (p .cursor) (g .search .stands)) (a .goes .to) (a .goes .is) in
+        ap (λ (x : Progress). x .missed) (w .is) ∙ a .missed
 
     -- where nothing is missed a look changes nothing
     look-none : (p : WordProgress) → p .missed ≡ NONE → lookWord words (2 * places) call p ≡ p
     unfolding lookWord
     look-none p e = rw (eq-eqb (p .missed) NONE e)
 
-    -- `look`, `tour`, `tour`: of a search that is not finished less is left
-    pub seek-words : (p : WordProgress) (most : ℕ) → isFinished p ≡ false → Here p (suc most) → Here (seekWord words (2 * places) call p) most
+    -- nor does a tour where the cursor is none
+    tour-none : (p : WordProgress) → p .cursor ≡ NONE → tourWord words (2 * places) call p ≡ p
+    unfolding tourWord
+    tour-none p e = rw (eq-eqb (p .cursor) NONE e)
+
+    -- the second tour, where nothing is missed: it takes one more, or the search has come to its end
+    tour-twice : (p : WordProgress) (most : ℕ) → p .missed ≡ NONE → isFinished (tourWord words (2 * places) call (tourWord words (2 * places) call p)) ≡ false → p .cursor ≢ NONE → Here p most
+        → Fewer 2 most (tourWord words (2 * places) call (tourWord words (2 * places) call p))
+    tour-twice p most e f n g = go (tour-less p most n g) (ℕ-discrete (once .cursor) NONE)
+      where
+        once : WordProgress
+        once = tourWord words (2 * places) call p
+
+        go : Fewer 1 most once → Dec (once .cursor ≡ NONE) → Fewer 2 most (tourWord words (2 * places) call once)
+        go x (no d) = let y = tour-less once (x .0) d (x .2) in (y .0, omega (arith, y .1, x .1), y .2)
+        go x (yes d) =
+            let m : once .missed ≡ NONE = tour-missed p most g ∙ e in
+            let ended : isFinished (tourWord words (2 * places) call once) ≡ true = ap isFinished (tour-none once d) ∙ and-i (eq-eqb (once .cursor) NONE d) (eq-eqb (once .missed) NONE m) in
+            absurd (true≢false (sym ended ∙ f))
+
+    -- `look`, `tour`, `tour`: two fewer are left, unless the search was finished or is
+    pub seek-two : (p : WordProgress) (most : ℕ) → isFinished p ≡ false → isFinished (seekWord words (2 * places) call p) ≡ false → Here p most → Fewer 2 most (seekWord words (2 * places) call p)
     unfolding seekWord
-    seek-words p most f g = go (ℕ-discrete (p .missed) NONE) (ℕ-discrete (p .cursor) NONE)
+    seek-two p most f e g = go (ℕ-discrete (p .missed) NONE) (ℕ-discrete (p .cursor) NONE)
       where
         looked : WordProgress
         looked = lookWord words (2 * places) call p
 
-        go : Dec (p .missed ≡ NONE) → Dec (p .cursor ≡ NONE) → Here (tourWord words (2 * places) call (tourWord words (2 * places) call looked)) most
-        go (no n) d = tour-seeks (tourWord words (2 * places) call looked) most (tour-seeks looked most (look-less p most n g))
-        go (yes e) (no n) =
-            let same : looked ≡ p = look-none p e in
-            tour-seeks (tourWord words (2 * places) call looked) most (tour-less looked most (rw same n) (rw same g))
-        go (yes e) (yes d) = absurd (false≢true (sym f ∙ and-i (eq-eqb (p .cursor) NONE d) (eq-eqb (p .missed) NONE e)))
+        go : Dec (p .missed ≡ NONE) → Dec (p .cursor ≡ NONE) → Fewer 2 most (tourWord words (2 * places) call (tourWord words (2 * places) call looked))
+        go (no n) d =
+            let x = look-less p most n g in
+            (x .0, x .1, tour-seeks (tourWord words (2 * places) call looked) (x .0) (tour-seeks looked (x .0) (x .2)))
+        go (yes m) (no n) = let same : looked ≡ p = look-none p m in tour-twice looked most (rw same m) e (rw same n) (rw same g)
+        go (yes m) (yes d) = absurd (false≢true (sym f ∙ and-i (eq-eqb (p .cursor) NONE d) (eq-eqb (p .missed) NONE m)))
 
     -- of any search no more is left
     pub seek-keeps : (p : WordProgress) (most : ℕ) → Here p most → Here (seekWord words (2 * places) call p) most

@@ -33,7 +33,7 @@ after-within zero words s w = (w .0, inl (w .1))
 after-within (suc n) words s w = (w .0, inr (after-within n (stepOf words s .words) s (w .2)))
 
 -- a station that is not one of the eight has no state
-outside-state : (words : List ℕ) (s : ℕ) → 8 ≤ s → isUnfinished (stateAt words s) ≡ false
+pub outside-state : (words : List ℕ) (s : ℕ) → 8 ≤ s → isUnfinished (stateAt words s) ≡ false
 outside-state words s g = rw (stateAt-absent words s (go (hasStation words s) refl))
   where
     go : (b : Bool) → hasStation words s ≡ b → hasStation words s ≡ false

@@ -147,7 +147,7 @@ module _ {words : List ℕ} {t : Table} {s i : ℕ} {p : Point} {c : ℕ} (sound
 
   -- once the record is inserted the answer waits
   inserted-outcome : {n : ℕ} (at : ℕ) (room : Room) → roomAt words (2 * t .places) at ≡ room → roomSound room ≡ true → Related (insertWords words room p c) (addedTable t p c)
-      → Outcome t s (add p c) none n (insertOf words (2 * t .places) s (callAt words s) at)
+      → Outcome r s (add p c) none n (insertOf words (2 * t .places) s (callAt words s) at)
   unfolding insertOf seatAt
   inserted-outcome at room e ok v =
       rw (e, ok, busy .point, busy .curve)
@@ -174,7 +174,7 @@ module _ {words : List ℕ} {t : Table} {s i : ℕ} {p : Point} {c : ℕ} (sound
   few = omega (arith, related-room r sound place-left, related-is-open r .places-most)
 
   -- into the empty tree
-  alone-outcome : {n : ℕ} → r .tree ≡ none → Outcome t s (add p c) none n (insertOf words (2 * t .places) s (callAt words s) NONE)
+  alone-outcome : {n : ℕ} → r .tree ≡ none → Outcome r s (add p c) none n (insertOf words (2 * t .places) s (callAt words s) NONE)
   unfolding countsAt rootAfter headAfter
   alone-outcome e =
       let h : Heap = r .heap in
@@ -189,7 +189,7 @@ module _ {words : List ℕ} {t : Table} {s i : ℕ} {p : Point} {c : ℕ} (sound
 
   -- beside a leaf
   beside-outcome : {n : ℕ} (leaf : Leaf) → OnRoute (r .tree) p (leaf .row) → r .heap (leaf .row) ≡ leafRow (leaf .parent) (leaf .entry) → ¬ (p ≡ leaf .entry .point)
-      → Outcome t s (add p c) none n (insertOf words (2 * t .places) s (callAt words s) (leaf .row))
+      → Outcome r s (add p c) none n (insertOf words (2 * t .places) s (callAt words s) (leaf .row))
   unfolding countsAt rootAfter headAfter
   beside-outcome leaf on reads other =
       let h : Heap = r .heap in
@@ -212,6 +212,6 @@ module _ {words : List ℕ} {t : Table} {s i : ℕ} {p : Point} {c : ℕ} (sound
 
   -- The record is inserted where the walk of its point ended.
   pub insert-outcome : {n : ℕ} (place : Option Leaf) → Ends (r .heap) (r .tree) p place → OtherPoint p place
-      → Outcome t s (add p c) none n (insertOf words (2 * t .places) s (callAt words s) (leafOf place))
+      → Outcome r s (add p c) none n (insertOf words (2 * t .places) s (callAt words s) (leafOf place))
   insert-outcome none e o = alone-outcome e
   insert-outcome (some leaf) e o = beside-outcome leaf (e .0) (e .1) o

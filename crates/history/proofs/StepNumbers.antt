@@ -1,11 +1,13 @@
--- The numbers of steps after a history (`step-numbers`): 0, 5 or 10. Question 11 is never met (`step-never-11`).
-use Prim.Native.Nat.{ℕ}
+-- The numbers of steps after a history (`step-numbers`): 0, 5 or 10. Question 11 is never met (`step-never-11`), and a step is accepted exactly if its
+-- station has an unfinished call (`step-accepted`).
+use Prim.Native.Nat.{ℕ, zero, suc}
 use mathlib.Core.Path.{_≡_, refl}
-use mathlib.Core.Logic.{_⊎_, inl, inr}
+use mathlib.Core.Logic.{_≢_, _↔_, _⊎_, inl, inr}
 use mathlib.Core.Bool.{Bool, true, false}
 use mathlib.Core.List.{List}
 use native.Mathlib.Omega.{arith}
 use lib.Dec.{ltb}
+use Rattle.rows.specs.Station.{isUnfinished, stateAt}
 use Rattle.table.specs.Table.{Station, idle, unfinished, waiting, Table}
 use Rattle.table.specs.Event.{Event, singleStep}
 use Rattle.table.specs.History.{answered}
@@ -16,8 +18,12 @@ use Rattle.steps.specs.Open.{openOf}
 use Rattle.steps.specs.Step.{stepOf}
 use Rattle.history.specs.Index.{wordIndex}
 use Rattle.history.specs.After.{after}
+use Rattle.history.specs.Alone.{AnsweredAfter}
+use Rattle.history.specs.Related.{Related}
+use Rattle.history.proofs.RelatedLaws.{related-passes}
 use Rattle.history.proofs.Demand3.{accepted, stills, answers}
 use Rattle.history.proofs.Reached.{Stands, settled-stands, history-related}
+use Rattle.history.proofs.Solo.{solo-steps}
 
 -- accepted, or refused by question 5 or 10
 abbrev pub StepNumber : ℕ → Type 0
@@ -56,3 +62,31 @@ step-never-11 words places limit e evs s n = go (step-numbers words places limit
     go (inl q) = omega arith
     go (inr (inl q)) = omega arith
     go (inr (inr q)) = omega arith
+
+-- a step of a station without an unfinished call is refused
+pub quiet-refused : {words : List ℕ} {t : Table} (s : ℕ) → Related words t → isUnfinished (stateAt words s) ≡ false → stepOf words s .number ≢ 0
+unfolding stepOf
+quiet-refused {words} s r u z = go (ltb s 8) refl
+  where
+    go : (b : Bool) → ltb s 8 ≡ b → ⊥
+    go true e = let y : _≡_ {A = ℕ} 10 0 = rw (related-passes r, e, u) at z in omega arith
+    go false e = let y : _≡_ {A = ℕ} 5 0 = rw (related-passes r, e) at z in omega arith
+
+-- After every history a step is accepted exactly if its station has an unfinished call.
+pub step-accepted : (words : List ℕ) (places limit : ℕ) → openOf words places limit .number ≡ 0 → (evs : List Event) (s : ℕ)
+    → (stepOf (after evs (openOf words places limit .words)) s .number ≡ 0) ↔ (isUnfinished (stateAt (after evs (openOf words places limit .words)) s) ≡ true)
+step-accepted words places limit e evs s = (λ z. told (isUnfinished (stateAt v s)) refl z, λ u. let w = solo-steps words places limit e evs s u in first (w .0) (w .2))
+  where
+    v : List ℕ
+    v = after evs (openOf words places limit .words)
+
+    stands : Stands v places limit
+    stands = let a = accepted words places limit e in rw (a .opens) (history-related words places limit a evs)
+
+    told : (b : Bool) → isUnfinished (stateAt v s) ≡ b → stepOf v s .number ≡ 0 → b ≡ true
+    told true u z = refl
+    told false u z = absurd (quiet-refused s (stands .related) u z)
+
+    first : (n : ℕ) → AnsweredAfter n v s → stepOf v s .number ≡ 0
+    first zero a = a .0
+    first (suc n) a = a .0

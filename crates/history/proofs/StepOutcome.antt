@@ -8,8 +8,7 @@ use native.Mathlib.Omega.{arith}
 use borrow.Author.Tests.{eq-eqb, ne-eqb}
 use Rattle.rows.specs.Call.{callAt}
 use Rattle.table.specs.Call.{Call, add, remove, contains, nearest, isSearch, Answer}
-use Rattle.table.specs.Table.{Station, unfinished, Table}
-use Rattle.table.specs.Event.{Reply}
+use Rattle.table.specs.Table.{unfinished, Table}
 use Rattle.table.proofs.Sound.{Sound}
 use Rattle.table.proofs.Eager.{Settled, fresh}
 use Rattle.steps.specs.Step.{workOf, stepOf}
@@ -19,7 +18,7 @@ use Rattle.history.specs.View.{seatAt}
 use Rattle.history.specs.Related.{Related, Busy}
 use Rattle.trees.specs.Route.{standsAt}
 use Rattle.trees.proofs.MeasureLaws.{walk-bound, search-bound}
-use Rattle.history.proofs.Outcome.{Left, Outcome, ends}
+use Rattle.history.proofs.Outcome.{LeftSays, Left, Outcome}
 use Rattle.history.proofs.StepReply.{step-work}
 use Rattle.history.proofs.StepSearch.{search-outcome}
 use Rattle.history.proofs.StepWalk.{walk-outcome}
@@ -44,14 +43,14 @@ module _ (words : List ℕ) (rows s : ℕ) where
 
 -- an add, a remove or a contains
 walks : {words : List ℕ} {t : Table} (s i m : ℕ) (c : Call) (o : Option Answer) → Sound t → Settled t → s < 8 → t .stations s ≡ unfinished i c o → isSearch c ≡ false → o ≡ none
-    → ¬ (callAt words s .kind ≡ 4) → Left words t s m → Outcome t s c o m (stepOf words s)
+    → ¬ (callAt words s .kind ≡ 4) → (r : Left words t s m) → Outcome (r .related) s c o m (stepOf words s)
 walks {words} {t} s i m c o h k l q e u n r =
     let p : t .stations s ≡ unfinished i c none = q ∙ ap (unfinished i c) u in
     rw (u, step-work h l q (r .related), work-walk words (2 * t .places) s n) (walk-outcome h k l p e r)
 
 -- a step of an unfinished call goes on with less left, or ends; it is never refused
-pub step-outcome : {words : List ℕ} {t : Table} (s i m : ℕ) (c : Call) (o : Option Answer) → Sound t → Settled t → s < 8 → t .stations s ≡ unfinished i c o → Left words t s m
-    → Outcome t s c o m (stepOf words s)
+pub step-outcome : {words : List ℕ} {t : Table} (s i m : ℕ) (c : Call) (o : Option Answer) → Sound t → Settled t → s < 8 → t .stations s ≡ unfinished i c o → (r : Left words t s m)
+    → Outcome (r .related) s c o m (stepOf words s)
 unfolding isSearch seatAt
 step-outcome {words} {t} s i m (add p d) o h k l q r =
     let b = busy s i (add p d) o l q (r .related) in
@@ -67,11 +66,13 @@ step-outcome {words} {t} s i m (nearest p) (some a) h k l q r =
     let b = busy s i (nearest p) (some a) l q (r .related) in
     rw (step-work h l q (r .related), work-search words (2 * t .places) s (b .kind)) (search-outcome h l q r)
 
--- at most 4 × places moves are ever left
+-- at most 4 × places are ever left
+pub left-most : {words : List ℕ} {t : Table} (s i : ℕ) (c : Call) (o : Option Answer) → s < 8 → t .stations s ≡ unfinished i c o → (r : Related words t)
+    → LeftSays t (r .tree) (r .queue) (seatAt words s) (unfinished i c o) (4 * t .places)
+left-most {words} s i (add p d) o l q r = omega (arith, walk-bound (r .tree) (standsAt (r .tree) (seatAt words s .place .cursor)) (r .store))
+left-most {words} s i (remove p) o l q r = omega (arith, walk-bound (r .tree) (standsAt (r .tree) (seatAt words s .place .cursor)) (r .store))
+left-most {words} s i (contains p) o l q r = omega (arith, walk-bound (r .tree) (standsAt (r .tree) (seatAt words s .place .cursor)) (r .store))
+left-most {words} s i (nearest p) o l q r = let b = busy s i (nearest p) o l q r in (b .works, search-bound (r .tree) (r .store) (b .works .search))
+
 pub most-left : {words : List ℕ} {t : Table} (s i : ℕ) (c : Call) (o : Option Answer) → s < 8 → t .stations s ≡ unfinished i c o → Related words t → Left words t s (4 * t .places)
-most-left {words} {t} s i (add p d) o l q r = record { related = r; left = rw q (omega (arith, walk-bound (r .tree) (standsAt (r .tree) (seatAt words s .place .cursor)) (r .store))) }
-most-left {words} {t} s i (remove p) o l q r = record { related = r; left = rw q (omega (arith, walk-bound (r .tree) (standsAt (r .tree) (seatAt words s .place .cursor)) (r .store))) }
-most-left {words} {t} s i (contains p) o l q r = record { related = r; left = rw q (omega (arith, walk-bound (r .tree) (standsAt (r .tree) (seatAt words s .place .cursor)) (r .store))) }
-most-left {words} {t} s i (nearest p) o l q r =
-    let b = busy s i (nearest p) o l q r in
-    record { related = r; left = rw q (b .works, search-bound (r .tree) (r .store) (b .works .search)) }
+most-left s i c o l q r = record { related = r; left = rw q (left-most s i c o l q r) }

@@ -1,19 +1,17 @@
 -- A step of a nearest call: it goes on, or it ends with the answer that was set down for it (`search-outcome`).
-use Prim.Native.Nat.{ℕ, suc, pred, _*_, _≤_, _<_}
+use Prim.Native.Nat.{ℕ, _+_, _*_, _≤_, _<_}
 use mathlib.Core.Path.{_≡_, refl, sym, _∙_, ap, subst}
 use mathlib.Core.Logic.{_⊎_, inl, inr}
 use mathlib.Core.Bool.{Bool, true, false, false≢true}
 use mathlib.Core.List.{List, map, List·Memᴰ}
-use mathlib.Core.Option.{Option, some}
+use mathlib.Core.Option.{some}
 use native.Mathlib.Omega.{arith}
-use native.Mathlib.Decide.{ℕ-discrete}
 use lib.Dec.{eqb}
 use lib.ListN.{length}
-use borrow.Author.Tests.{eq-eqb}
 use Rattle.points.specs.declared.point.Point.{Point}
 use Rattle.points.specs.Point.{inRange}
 use Rattle.points.specs.Word.{NONE}
-use Rattle.points.proofs.Tests.{and-l, and-r, and-i}
+use Rattle.points.proofs.Tests.{and-l, and-r}
 use Rattle.rows.specs.declared.call.Call.{Call}
 use Rattle.rows.specs.declared.answer.Answer.{Answer as WordAnswer}
 use Rattle.rows.specs.Layout.{atSince}
@@ -29,28 +27,24 @@ use Rattle.table.specs.Table.{Station, unfinished, waiting, Table, put}
 use Rattle.table.proofs.Sound.{Sound, removals-changes}
 use Rattle.table.proofs.Stations.{put-same, put-other}
 use Rattle.table.proofs.Simulation.{finished}
-use Rattle.trees.specs.Row.{Entry, Heap}
-use Rattle.trees.specs.Tree.{Tree}
-use Rattle.trees.specs.Queue.{Free}
-use Rattle.trees.specs.Store.{Store}
-use Rattle.trees.specs.Choice.{Choice}
-use Rattle.trees.specs.Tour.{Progress, finished as finishedTree}
+use Rattle.trees.specs.Row.{Entry}
+use Rattle.trees.specs.Tour.{Progress}
 use Rattle.trees.specs.Search.{Search, Nearest}
 use Rattle.trees.specs.Measure.{searchLeft}
 use Rattle.trees.proofs.ChoiceOf.{choiceOf}
-use Rattle.trees.proofs.SearchLaws.{search-seek, search-finish}
+use Rattle.trees.proofs.SearchLaws.{search-finish}
 use Rattle.moves.specs.declared.search.Progress.{Progress as WordProgress}
 use Rattle.moves.specs.Answer.{answeredWords}
 use Rattle.moves.specs.Reply.{done, ask}
 use Rattle.moves.specs.Search.{look, tour, seek, progressAt, isFinished, foundAnswer, keptWords, pickWords, searchWords, searchTo, searchOf}
 use Rattle.history.specs.Index.{answerOf}
-use Rattle.history.specs.View.{Seat, countsAt, placeAt, seatAt, seatPut, progressOf, noPlace}
+use Rattle.history.specs.View.{Seat, countsAt, placeAt, seatAt, progressOf, noPlace}
 use Rattle.history.specs.Related.{recordOf, Busy, Searching, Waits, Says, Related}
 use Rattle.history.proofs.Effects.{answer-written, answer-rows, kept-written, kept-rows}
-use Rattle.history.proofs.Outcome.{LeftSays, Left, Outcome, goesOn, ends}
+use Rattle.history.proofs.Outcome.{LeftSays, Left, Aside, Outcome, goesOn, ends}
 use Rattle.history.proofs.ProgressWords.{viewOf}
-use Rattle.history.proofs.SeekLaws.{Seeks, seek-words, seek-keeps}
-use Rattle.history.proofs.SaysLaws.{seat-put-same, related-written}
+use Rattle.history.proofs.SeekLaws.{Seeks, seek-two, seek-keeps}
+use Rattle.history.proofs.SaysLaws.{seat-put-same, seat-put-other, related-written}
 use Rattle.history.proofs.SeatLaws.{related-seat}
 use Rattle.history.proofs.FoundAnswer.{found-is, found-sound}
 
@@ -136,6 +130,15 @@ module _ {words : List ℕ} {t : Table} {s i : ℕ} {p : Point} {a : Answer} (h 
           (subst (λ (z : Seat). LeftSays t (r .tree) (r .queue) z (unfinished i (nearest p) (some a)) m) (sym kept-seat) (kept-works, sighted .1));
     }
 
+    -- and nothing else moves
+    kept-aside : Aside r (kept-left .related) s
+    unfolding kept-related kept-left related-seat related-written seatAt placeAt
+    kept-aside = record {
+      tree = refl;
+      queue = refl;
+      others = λ u k n. kept-written words (t .places) (t .limit) (r .opened) s l g (v .fit .best) .seated u k ∙ seat-put-other (λ z. seatAt words z) s u (keptSeat (seatAt words s) g) n;
+    }
+
     -- it ends
     module _ (f : isFinished g ≡ true) where
       nearest-found : Nearest (choiceOf (callAt words s .point)) (λ e. List·Memᴰ e entries) (viewOf g .best)
@@ -174,44 +177,39 @@ module _ {words : List ℕ} {t : Table} {s i : ℕ} {p : Point} {a : Answer} (h 
           (subst (λ (y : Station). Says t (r .tree) (r .queue) (endedSeat (seatAt words s) x) y) (sym (put-same (t .stations) s (waiting a))) ended-waits)
 
     -- what the step writes after its moves
-    outcome-of : (n : ℕ) → (m < n) ⊎ (isFinished g ≡ true) → Outcome t s (nearest p) (some a) n (searchTo words s (callAt words s) g)
+    outcome-of : (n : ℕ) → (2 + m ≤ n) ⊎ (isFinished g ≡ true) → Outcome r s (nearest p) (some a) n (searchTo words s (callAt words s) g)
     unfolding searchWords
     outcome-of n d =
-        subst (λ (b : Bool). Outcome t s (nearest p) (some a) n (ask b 11 words (done (searchWords words s (callAt words s) g)))) (sym (v .fit .sound)) (go (isFinished g) refl d)
+        subst (λ (b : Bool). Outcome r s (nearest p) (some a) n (ask b 11 words (done (searchWords words s (callAt words s) g)))) (sym (v .fit .sound)) (go (isFinished g) refl d)
       where
-        go : (b : Bool) → isFinished g ≡ b → (m < n) ⊎ (isFinished g ≡ true)
-            → Outcome t s (nearest p) (some a) n (done (pickWords b (answeredWords words s (foundAnswer (callAt words s) (g .best))) (keptWords words s g)))
+        go : (b : Bool) → isFinished g ≡ b → (2 + m ≤ n) ⊎ (isFinished g ≡ true)
+            → Outcome r s (nearest p) (some a) n (done (pickWords b (answeredWords words s (foundAnswer (callAt words s) (g .best))) (keptWords words s g)))
         go true f d = ends refl (ended-related f)
-        go false f (inl k) = goesOn refl m k kept-left
+        go false f (inl k) = goesOn refl m k kept-left kept-aside
         go false f (inr e) = absurd (false≢true (sym f ∙ e))
 
--- a search with nothing left to look at stays where it is
-seek-finished : (words : List ℕ) (rows : ℕ) (call : Call) (g : WordProgress) → isFinished g ≡ true → isFinished (seek words rows call g) ≡ true
+-- a search that is not finished was not finished before: one with nothing left to look at stays where it is
+seek-unfinished : (words : List ℕ) (rows : ℕ) (call : Call) (g : WordProgress) → isFinished (seek words rows call g) ≡ false → isFinished g ≡ false
 unfolding seek look tour
-seek-finished words rows call g f =
-    let c : eqb (g .cursor) NONE ≡ true = and-l (eqb (g .cursor) NONE) (eqb (g .missed) NONE) f in
-    let m : eqb (g .missed) NONE ≡ true = and-r (eqb (g .cursor) NONE) (eqb (g .missed) NONE) f in
-    rw (m, c, c, c, m)
-
--- a search that is not finished has something left
-search-left : {places : ℕ} {h : Heap} {q : List Free} {changes removals released asOf since : ℕ} {c : Choice} {Then : Entry → Type 0} (t : Option Tree) → Store places h t q changes removals released
-    → (g : Progress) (v : Search c asOf since Then t q changes removals g) → finishedTree g ≡ false → 1 ≤ searchLeft v
-search-left t st g v f = go (ℕ-discrete (g .stand .cursor) NONE) (ℕ-discrete (g .missed) NONE)
+seek-unfinished words rows call g e = go (isFinished g) refl
   where
-    go : Dec (g .stand .cursor ≡ NONE) → Dec (g .missed ≡ NONE) → 1 ≤ searchLeft v
-    go (no n) d = omega (arith, search-seek t st g v .less (inl n))
-    go (yes e) (no n) = omega (arith, search-seek t st g v .less (inr n))
-    go (yes e) (yes d) = absurd (false≢true (sym f ∙ and-i (eq-eqb (g .stand .cursor) NONE e) (eq-eqb (g .missed) NONE d)))
+    go : (b : Bool) → isFinished g ≡ b → b ≡ false
+    go false f = refl
+    go true f =
+        let c : eqb (g .cursor) NONE ≡ true = and-l (eqb (g .cursor) NONE) (eqb (g .missed) NONE) f in
+        let m : eqb (g .missed) NONE ≡ true = and-r (eqb (g .cursor) NONE) (eqb (g .missed) NONE) f in
+        let z : isFinished (seek words rows call g) ≡ true = rw (m, c, c, c, m) in
+        sym z ∙ e
 
 -- The step of an unfinished nearest call whose answer is set down: its moves, and then it is kept for the next step with less left, or ends with
 -- that answer.
-pub search-outcome : {words : List ℕ} {t : Table} {s i n : ℕ} {p : Point} {a : Answer} → Sound t → s < 8 → t .stations s ≡ unfinished i (nearest p) (some a) → Left words t s n
-    → Outcome t s (nearest p) (some a) n (searchOf words (2 * t .places) s (callAt words s))
+pub search-outcome : {words : List ℕ} {t : Table} {s i n : ℕ} {p : Point} {a : Answer} → Sound t → s < 8 → t .stations s ≡ unfinished i (nearest p) (some a) → (r : Left words t s n)
+    → Outcome (r .related) s (nearest p) (some a) n (searchOf words (2 * t .places) s (callAt words s))
 unfolding searchOf seatAt placeAt progressAt
 search-outcome {words} {t} {s} {i} {n} {p} {a} h l q r =
     let z : LeftSays t (r .related .tree) (r .related .queue) (seatAt words s) (unfinished i (nearest p) (some a)) n =
     subst (λ (x : Station). LeftSays t (r .related .tree) (r .related .queue) (seatAt words s) x n) q (r .left) in
-    go (z .0) (z .1) (isFinished start) refl
+    go (z .0) (z .1) (isFinished sought) refl
   where
     start : WordProgress
     start = progressAt words s (callAt words s)
@@ -219,15 +217,11 @@ search-outcome {words} {t} {s} {i} {n} {p} {a} h l q r =
     sought : WordProgress
     sought = seek words (2 * t .places) (callAt words s) start
 
-    unfinished-view : isFinished start ≡ false → finishedTree (progressOf (seatAt words s)) ≡ false
-    unfinished-view f = f
-
-    go : (work : Searching t (r .related .tree) (r .related .queue) (seatAt words s) i p (some a)) → searchLeft (work .search) ≤ n → (b : Bool) → isFinished start ≡ b
-        → Outcome t s (nearest p) (some a) n (searchTo words s (callAt words s) sought)
-    go work few true f =
-        outcome-of h l q (r .related) work sought n (seek-keeps (r .related .store) words (r .related .reads) (callAt words s) (get words (atSince s)) (λ e. List·Memᴰ e (work .entries)) start n (begins h l q (r .related) work n few)) n
-        (inr (seek-finished words (2 * t .places) (callAt words s) start f))
-    go work few false f =
-        let e : suc (pred n) ≡ n = omega (arith, search-left (r .related .tree) (r .related .store) (progressOf (seatAt words s)) (work .search) (unfinished-view f)) in
-        outcome-of h l q (r .related) work sought (pred n)
-        (seek-words (r .related .store) words (r .related .reads) (callAt words s) (get words (atSince s)) (λ e. List·Memᴰ e (work .entries)) start (pred n) f (begins h l q (r .related) work (suc (pred n)) (omega arith))) n (inl (omega arith))
+    go : (work : Searching t (r .related .tree) (r .related .queue) (seatAt words s) i p (some a)) → searchLeft (work .search) ≤ n → (b : Bool) → isFinished sought ≡ b
+        → Outcome (r .related) s (nearest p) (some a) n (searchTo words s (callAt words s) sought)
+    go work few true e =
+        outcome-of h l q (r .related) work sought n (seek-keeps (r .related .store) words (r .related .reads) (callAt words s) (get words (atSince s)) (λ e. List·Memᴰ e (work .entries)) start n (begins h l q (r .related) work n few)) n (inr e)
+    go work few false e =
+        let f : isFinished start ≡ false = seek-unfinished words (2 * t .places) (callAt words s) start e in
+        let x = seek-two (r .related .store) words (r .related .reads) (callAt words s) (get words (atSince s)) (λ e. List·Memᴰ e (work .entries)) start n f e (begins h l q (r .related) work n few) in
+        outcome-of h l q (r .related) work sought (x .0) (x .2) n (inl (x .1))

@@ -257,11 +257,11 @@ module _ (words : List ℕ) (t : Table) (s i : ℕ) (p : Point) (at parent : ℕ
   unfolding unlinkOf unlinkWords
   reply-is = rw (gathered, passes, asked) refl
 
-  outcome : (n : ℕ) → Outcome t s (remove p) none n (unlinkOf words rows s (callAt words s) at)
+  outcome : (n : ℕ) → Outcome R s (remove p) none n (unlinkOf words rows s (callAt words s) at)
   outcome n = rw reply-is (ends refl (rw finished-is related))
 
 -- A remove that stands at the leaf of its point, with changes left, ends there with code 5.
 pub unlink-outcome : {words : List ℕ} {t : Table} {s i : ℕ} {p : Point} (at parent : ℕ) (e : Entry) → Sound t → Settled t → s < 8 → t .stations s ≡ unfinished i (remove p) none → (R : Related words t)
     → OnRoute (R .tree) p at → R .heap at ≡ leafRow parent e → e .point ≡ p → ¬ (t .changes ≡ t .limit)
-    → (n : ℕ) → Outcome t s (remove p) none n (unlinkOf words (2 * t .places) s (callAt words s) at)
+    → (n : ℕ) → Outcome R s (remove p) none n (unlinkOf words (2 * t .places) s (callAt words s) at)
 unlink-outcome {words} {t} {s} {i} {p} at parent e sound settled below is R route reads same left = outcome words t s i p at parent e sound settled below is R route reads same left

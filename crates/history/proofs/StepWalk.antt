@@ -37,7 +37,7 @@ use Rattle.history.specs.Related.{pointOf, Works, Busy, Related}
 use Rattle.history.proofs.RelatedLaws.{related-busy}
 use Rattle.history.proofs.Outcome.{Left, Outcome, goesOn}
 use Rattle.history.proofs.Readings.{nearest-search, down-row}
-use Rattle.history.proofs.OwnSeat.{left-tells, left-walks}
+use Rattle.history.proofs.OwnSeat.{left-tells, left-walks, aside-walks}
 use Rattle.history.proofs.StepInsert.{insert-outcome}
 use Rattle.history.proofs.StepUnlink.{unlink-outcome}
 use Rattle.history.proofs.Decision.{decided-empty, decided-leaf, add-decides, remove-decides, contains-decides}
@@ -101,7 +101,7 @@ module _ {words : List ℕ} {t : Table} (r : Related words t) (p : Point) where
 
 -- in the empty tree
 at-empty : {words : List ℕ} {t : Table} {s i n : ℕ} (c : Call) → Sound t → Settled t → s < 8 → t .stations s ≡ unfinished i c none → isSearch c ≡ false → (r : Related words t) → r .tree ≡ none
-    → Outcome t s c none n (conclude words (2 * t .places) s (callAt words s) NONE Bad)
+    → Outcome r s c none n (conclude words (2 * t .places) s (callAt words s) NONE Bad)
 at-empty (add p v) sound settled l q e r f = add-decides NONE Bad sound l q r (decided-empty sound r p f) (λ h a d g. insert-outcome sound settled l q r a d g none f tt)
 at-empty (remove p) sound settled l q e r f = remove-decides NONE Bad sound l q r (decided-empty sound r p f) (λ h d. absurd (false≢true h))
 at-empty (contains p) sound settled l q e r f = contains-decides NONE Bad sound l q r (decided-empty sound r p f)
@@ -110,7 +110,7 @@ at-empty (nearest p) sound settled l q e r f = absurd (true≢false (sym (neares
 -- at a leaf on the way
 at-leaf : {words : List ℕ} {t : Table} {s i n : ℕ} (c : Call) → Sound t → Settled t → s < 8 → t .stations s ≡ unfinished i c none → isSearch c ≡ false → (r : Related words t)
     → (x parent : ℕ) (d : Entry) → OnRoute (r .tree) (pointOf c) x → r .heap x ≡ leafRow parent d
-    → Outcome t s c none n (conclude words (2 * t .places) s (callAt words s) x (wordRow (leafRow parent d)))
+    → Outcome r s c none n (conclude words (2 * t .places) s (callAt words s) x (wordRow (leafRow parent d)))
 at-leaf (add p v) sound settled l q e r x parent d o reads =
     add-decides x (wordRow (leafRow parent d)) sound l q r (decided-leaf sound r p x parent d o reads)
     (λ h a g f. insert-outcome sound settled l q r a g f (some (record { row = x; parent = parent; entry = d })) (o, reads) (λ y. same-point-false (d .point) p h (sym y)))
@@ -140,7 +140,7 @@ module _ {words : List ℕ} {t : Table} {s i n : ℕ} {c : Call} (sound : Sound 
 
   -- the step from row x
   abbrev From : ℕ → Type 0
-  From x = Outcome t s c none n (walkFrom words (2 * t .places) s (callAt words s) x (rowAt words (2 * t .places) x))
+  From x = Outcome r s c none n (walkFrom words (2 * t .places) s (callAt words s) x (rowAt words (2 * t .places) x))
 
   from-none : r .tree ≡ none → From NONE
   from-none f = rw (rowAt-outside words (2 * t .places) NONE (r .store .fits)) (at-empty c sound settled l q e r f)
@@ -150,16 +150,17 @@ module _ {words : List ℕ} {t : Table} {s i n : ℕ} {c : Call} (sound : Sound 
       rw (r .reads x (r .store .inside x (on-route-has (r .tree) (pointOf c) x o)), a .reads, or-right (eqb x NONE) {b = true} refl)
       (at-leaf c sound settled l q e r x (a .parent) (a .entry) o (a .reads))
 
-  from-cut : (x : ℕ) → OnRoute (r .tree) (pointOf c) x → walkLeft (r .tree) x ≤ n → CutAt (r .heap) (r .tree) x → From x
+  from-cut : (x : ℕ) → OnRoute (r .tree) (pointOf c) x → 2 * walkLeft (r .tree) x ≤ n → CutAt (r .heap) (r .tree) x → From x
   unfolding seatAt
   from-cut x o few a =
       let to : ℕ = sixDown words (2 * t .places) (pointOf c) x in
       let d = six-down r (pointOf c) x o (a .reads) in
       let there : to ≢ NONE = λ y. omega (arith, y, r .store .inside to (on-route-has (r .tree) (pointOf c) to (d .0)), r .store .fits) in
       rw (r .reads x (r .store .inside x (on-route-has (r .tree) (pointOf c) x o)), a .reads, busy .point, ne-eqb to NONE there)
-      (goesOn refl (walkLeft (r .tree) to) (omega (arith, d .1)) (left-walks s l r to q e (d .0) (walkLeft (r .tree) to) there (omega arith)))
+      (goesOn refl (2 * walkLeft (r .tree) to) (omega (arith, d .1)) (left-walks s l r to q e (d .0) (2 * walkLeft (r .tree) to) there (omega arith))
+      (aside-walks s l r to q e (d .0) (2 * walkLeft (r .tree) to) there (omega arith)))
 
-  from-row : (x : ℕ) → OnRoute (r .tree) (pointOf c) x → walkLeft (r .tree) x ≤ n → From x
+  from-row : (x : ℕ) → OnRoute (r .tree) (pointOf c) x → 2 * walkLeft (r .tree) x ≤ n → From x
   from-row x o few = elim (read-row (r .tree) (r .store) (on-route-has (r .tree) (pointOf c) x o)) [ inl a ↦ from-leaf x o a | inr a ↦ from-cut x o few a ]
 
   -- the row where the walk stands, in the words
@@ -174,9 +175,9 @@ module _ {words : List ℕ} {t : Table} {s i n : ℕ} {c : Call} (sound : Sound 
   ]
 
 -- The step of an unfinished add, remove or contains: it goes on with less left, or ends as the table says.
-pub walk-outcome : {words : List ℕ} {t : Table} {s i n : ℕ} {c : Call} → Sound t → Settled t → s < 8 → t .stations s ≡ unfinished i c none → isSearch c ≡ false → Left words t s n
-    → Outcome t s c none n (walkOf words (2 * t .places) s (callAt words s))
+pub walk-outcome : {words : List ℕ} {t : Table} {s i n : ℕ} {c : Call} → Sound t → Settled t → s < 8 → t .stations s ≡ unfinished i c none → isSearch c ≡ false → (z : Left words t s n)
+    → Outcome (z .related) s c none n (walkOf words (2 * t .places) s (callAt words s))
 unfolding walkOf
 walk-outcome {words} {t} {s} {i} {n} {c} sound settled l q e z =
-    subst (λ (x : ℕ). Outcome t s c none n (walkFrom words (2 * t .places) s (callAt words s) x (rowAt words (2 * t .places) x))) (sym (stands-word sound settled l q e z))
+    subst (λ (x : ℕ). Outcome (z .related) s c none n (walkFrom words (2 * t .places) s (callAt words s) x (rowAt words (2 * t .places) x))) (sym (stands-word sound settled l q e z))
     (from-cursor sound settled l q e z)

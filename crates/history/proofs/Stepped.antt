@@ -40,18 +40,18 @@ module _ (t : Table) (s i : ℕ) (c : Call) (o : Option Answer) (h : Sound t) (k
       related-agrees (finished-sound t s i c o h l q) r .accepted s ∙ take-waits (finished t s c o) s (w .0) l (w .1)
 
   -- one step, with what is left shown for fewer moves
-  one-step : (words : List ℕ) (n : ℕ) → Outcome t s c o n (stepOf words s) → ((m : ℕ) → m < n → Left (stepOf words s .words) t s m → Stepped (stepOf words s .words) t s c o m)
+  one-step : (words : List ℕ) (n : ℕ) (z : Left words t s n) → Outcome (z .related) s c o n (stepOf words s) → ((m : ℕ) → m < n → Left (stepOf words s .words) t s m → Stepped (stepOf words s .words) t s c o m)
       → Stepped words t s c o n
   unfolding stepped
-  one-step words n (ends e r) f = record { before = 0; few = omega arith; answered = (e, is-answered (stepOf words s .words) r); related = r }
-  one-step words n (goesOn e m g w) f =
-      let v = f m g w in
+  one-step words n z (ends e r) f = record { before = 0; few = omega arith; answered = (e, is-answered (stepOf words s .words) r); related = r }
+  one-step words n z (goesOn e m g w a) f =
+      let v = f m (omega arith) w in
       record { before = suc (v .before); few = omega (arith, v .few); answered = (e, not-answered (stepOf words s .words) (w .related), v .answered); related = v .related }
 
   -- `most` bounds the moves left
   steps : (most n : ℕ) → n ≤ most → (words : List ℕ) → Left words t s n → Stepped words t s c o n
-  steps zero n b words r = one-step words n (step-outcome s i n c o h k l q r) (λ m g. absurd (omega arith))
-  steps (suc most) n b words r = one-step words n (step-outcome s i n c o h k l q r) (λ m g. steps most m (omega arith) (stepOf words s .words))
+  steps zero n b words r = one-step words n r (step-outcome s i n c o h k l q r) (λ m g. absurd (omega arith))
+  steps (suc most) n b words r = one-step words n r (step-outcome s i n c o h k l q r) (λ m g. steps most m (omega arith) (stepOf words s .words))
 
   -- with at most n moves left at most n steps do not answer
   pub stepped-ends : (words : List ℕ) (n : ℕ) → Left words t s n → Stepped words t s c o n

@@ -6,3 +6,4 @@ pub mod Alone
 pub mod Audited
 pub mod Questions
 pub mod Touch
+pub mod Somebody

@@ -1,0 +1,108 @@
+-- What a submission and a taking leave alone: they are refused, or nothing changes but the seat of their station, which had no unfinished call
+-- (`submit-reseats`, `take-reseats`).
+use Prim.Native.Nat.{ℕ, _*_, _<_}
+use mathlib.Core.Path.{_≡_, refl, _∙_}
+use mathlib.Core.Logic.{_≢_, _⊎_, inl, inr}
+use mathlib.Core.Bool.{Bool, true, false, cond}
+use mathlib.Core.List.{List}
+use native.Mathlib.Omega.{arith}
+use lib.Dec.{ltb}
+use borrow.Author.Tests.{ltb-true, eqb-true}
+use Rattle.points.specs.declared.point.Point.{Point}
+use Rattle.points.specs.Point.{inRange}
+use Rattle.rows.specs.declared.common.Opening.the-variants.{Opened}
+use Rattle.rows.specs.declared.answer.Answer.{Answer}
+use Rattle.rows.specs.declared.answer.Waiting.{Waiting}
+use Rattle.rows.specs.declared.answer.Waiting.the-variants.{Nothing, Given}
+use Rattle.rows.specs.Common.{openedIn}
+use Rattle.rows.specs.Station.{isIdle, isWaiting, stateAt}
+use Rattle.rows.specs.Answer.{waitingAt}
+use Rattle.rows.proofs.WaitingLaws.{waiting-tells}
+use Rattle.moves.specs.Reply.{Reply, ask, isOpened}
+use Rattle.steps.specs.declared.take.Taking.{Taking}
+use Rattle.steps.specs.declared.take.Taking.the-variants.{Refused as Refusal, Given as Taken}
+use Rattle.steps.specs.Submit.{kindIn, curveFits, submittedWords, submitOf}
+use Rattle.steps.specs.Take.{takingOf, takeOf, takenWords, takeWords}
+use Rattle.history.specs.View.{countsAt, seatAt, SameRows}
+use Rattle.history.proofs.Effects.{submit-written, submit-rows, take-written, take-rows}
+use Rattle.history.proofs.SaysLaws.{seat-put-other}
+
+-- nothing changes but the seat of station s, which had no unfinished call
+pub record Reseated (words words′ : List ℕ) (rows s : ℕ) : Type 0 where
+  pub station : s < 8
+  pub rests : seatAt words s .state ≢ 1
+  pub same : SameRows words words′ rows
+  pub counts : countsAt words′ ≡ countsAt words
+  pub others : (u : ℕ) → u < 8 → u ≢ s → seatAt words′ u ≡ seatAt words u
+
+-- or nothing at all
+abbrev pub Reseats : List ℕ → List ℕ → ℕ → ℕ → Type 0
+Reseats words words′ rows s = (words′ ≡ words) ⊎ Reseated words words′ rows s
+
+-- the words after a question: as they were where it is answered no
+ask-reseats : (words : List ℕ) (rows s : ℕ) (b : Bool) (n : ℕ) (r : Reply) → (b ≡ true → Reseats words (r .words) rows s) → Reseats words (ask b n words r .words) rows s
+ask-reseats words rows s true n r f = f refl
+ask-reseats words rows s false n r f = inl refl
+
+-- a station that is idle, or where an answer waits, has no unfinished call
+idle-rests : (words : List ℕ) (s : ℕ) → isIdle (stateAt words s) ≡ true → seatAt words s .state ≢ 1
+unfolding seatAt
+idle-rests words s e z = let y : stateAt words s .word ≡ 0 = eqb-true (stateAt words s .word) 0 e in omega arith
+
+waiting-rests : (words : List ℕ) (s : ℕ) → isWaiting (stateAt words s) ≡ true → seatAt words s .state ≢ 1
+unfolding seatAt
+waiting-rests words s e z = let y : stateAt words s .word ≡ 2 = eqb-true (stateAt words s .word) 2 e in omega arith
+
+-- a taking that gives an answer
+record Gives (words : List ℕ) (s : ℕ) : Type 0 where
+  station : s < 8
+  waits : isWaiting (stateAt words s) ≡ true
+
+taken-gives : (words : List ℕ) (s : ℕ) (a : Answer) → takeOf words s ≡ Taken a → Gives words s
+unfolding takeOf
+taken-gives words s a e = go (isOpened (openedIn words)) (ltb s 8) refl (waitingAt words s) refl e
+  where
+    go : (o b : Bool) → ltb s 8 ≡ b → (x : Waiting) → waitingAt words s ≡ x → cond o (cond b (takingOf x) (Refusal 5)) (Refusal 4) ≡ Taken a → Gives words s
+    go true true l (Given y) f e = record { station = ltb-true s 8 l; waits = waiting-tells words s y f .waiting }
+    go true true l Nothing f e = let z : _≡_ {A = ℕ} 0 1 = cc in absurd (omega arith)
+    go true false l x f e = let z : _≡_ {A = ℕ} 0 1 = cc in absurd (omega arith)
+    go false b l x f e = let z : _≡_ {A = ℕ} 0 1 = cc in absurd (omega arith)
+
+module _ (words : List ℕ) (places limit : ℕ) (o : openedIn words ≡ Opened places limit) (s : ℕ) where
+  pub submit-reseats : (kind : ℕ) (p : Point) (c : ℕ) → Reseats words (submitOf words s kind p c .words) (2 * places) s
+  unfolding submitOf
+  submit-reseats kind p c =
+      ask-reseats words (2 * places) s (isOpened (openedIn words)) 4 _
+      (λ a. ask-reseats words (2 * places) s (ltb s 8) 5 _
+      (λ l. ask-reseats words (2 * places) s (isIdle (stateAt words s)) 6 _
+      (λ i. ask-reseats words (2 * places) s (kindIn kind) 7 _
+      (λ k. ask-reseats words (2 * places) s (inRange p) 8 _
+      (λ ranged. ask-reseats words (2 * places) s (curveFits kind c) 9 _ (λ f. inr (begun (ltb-true s 8 l) i ranged)))))))
+    where
+      begun : s < 8 → isIdle (stateAt words s) ≡ true → inRange p ≡ true → Reseated words (submittedWords words s kind p c) (2 * places) s
+      begun l i ranged =
+          let w = submit-written words places limit o s l kind p c ranged in
+          record {
+            station = l;
+            rests = idle-rests words s i;
+            same = submit-rows words places limit o s l kind p c;
+            counts = w .counted;
+            others = λ u k n. w .seated u k ∙ seat-put-other (λ v. seatAt words v) s u _ n;
+          }
+
+  pub take-reseats : Reseats words (takeWords words s) (2 * places) s
+  unfolding takeWords
+  take-reseats = go (takeOf words s) refl
+    where
+      go : (x : Taking) → takeOf words s ≡ x → Reseats words (takenWords words s x) (2 * places) s
+      go (Refusal n) e = inl refl
+      go (Taken a) e =
+          let g = taken-gives words s a e in
+          let w = take-written words places limit o s (g .station) in
+          inr (record {
+            station = g .station;
+            rests = waiting-rests words s (g .waits);
+            same = take-rows words places limit o s (g .station);
+            counts = w .counted;
+            others = λ u k n. w .seated u k ∙ seat-put-other (λ v. seatAt words v) s u _ n;
+          })

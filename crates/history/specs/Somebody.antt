@@ -1,0 +1,38 @@
+-- Somebody always finishes (request 2026-11): the steps among some events that are dealt to stations with an unfinished call, and that one of the
+-- events answers a call.
+use Prim.Native.Nat.{ℕ, _+_, _*_}
+use mathlib.Core.Path.{_≡_}
+use mathlib.Core.Logic.{_⊎_}
+use mathlib.Core.Bool.{true, cond}
+use mathlib.Core.List.{List, [], _∷_}
+use Rattle.rows.specs.Station.{isUnfinished, stateAt}
+use Rattle.table.specs.Event.{Event, submission, singleStep, taking}
+use Rattle.table.specs.History.{reply, answered}
+use Rattle.history.specs.Index.{wordIndex}
+
+-- the most such steps that may come one after another and answer nobody
+abbrev pub mostUnanswered : ℕ → ℕ
+mostUnanswered places = 16 * places
+
+-- 1 for a step "given to a station that has an unfinished call", 0 for any other event
+abbrev pub dealtStep : List ℕ → Event → ℕ
+dealtStep words (submission s kind p c) = 0
+dealtStep words (singleStep s) = cond (isUnfinished (stateAt words s)) 1 0
+dealtStep words (taking s) = 0
+
+-- how many of the events are such steps
+unfoldable pub dealtSteps : List ℕ → List Event → ℕ
+dealtSteps words [] = 0
+dealtSteps words (ev ∷ evs) = dealtStep words ev + dealtSteps (reply wordIndex words ev .next) evs
+
+-- "neither withdrawal nor packing falls inside it": every submission, step and taking may
+abbrev pub Undisturbed : List Event → Type 0
+Undisturbed [] = Unit {0}
+Undisturbed (submission s kind p c ∷ evs) = Undisturbed evs
+Undisturbed (singleStep s ∷ evs) = Undisturbed evs
+Undisturbed (taking s ∷ evs) = Undisturbed evs
+
+-- "at least one call is answered"
+abbrev pub SomeAnswered : List ℕ → List Event → Type 0
+SomeAnswered words [] = ⊥
+SomeAnswered words (ev ∷ evs) = (answered wordIndex words ev ≡ true) ⊎ SomeAnswered (reply wordIndex words ev .next) evs
