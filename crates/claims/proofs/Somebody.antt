@@ -1,0 +1,100 @@
+-- Request 2026-11, somebody always finishes: "Dispatchers need a figure for the busy case. In every run of 8 × 32 × (16 × places + 64) steps, each given to a
+-- station that has an unfinished call, at least one call is answered. The premise: the run is part of a history, and neither withdrawal nor packing falls
+-- inside it."
+-- For a dispatcher: deal out steps to any stations in any order, submit, take, and name stations that have nothing to do. Count the steps that are not
+-- refused. Of any 16 × places + 1 of them one has answered a call (`somebody`); the figure of the request is more than 256 times that (`somebody-finishes`).
+-- Whose call it is, is not said: `solo` of Demand3.antt is about one station, and asks that the others stand still.
+use Prim.Native.Nat.{ℕ, _+_, _*_, _≤_, _<_}
+use mathlib.Core.Path.{_≡_, refl, ap}
+use mathlib.Core.Logic.{_↔_, inl, inr}
+use mathlib.Core.Bool.{true, false≢true}
+use mathlib.Core.List.{List, [], _∷_, _++_, map}
+use native.Mathlib.Omega.{arith}
+use lib.Dec.{eqb}
+use lib.ListN.{length}
+use borrow.Author.Tests.{eqb-true}
+use Rattle.points.proofs.Tests.{and-l, and-r}
+use Rattle.claims.specs.Definitions.{isUnfinished, stateAt, Event, submission, singleStep, taking, reply, answered, openOf, stepOf, takeOf, numberOf, wordIndex, after}
+use Rattle.claims.specs.Definitions.{dealtSteps, Undisturbed}
+use Rattle.history.specs.Somebody.{SomeAnswered}
+use Rattle.history.proofs.Somebody as Finishes
+use Rattle.history.proofs.StepNumbers.{step-accepted}
+
+-- ---- what is said
+
+-- "at least one call is answered": a step of the run is accepted, and a taking by its station would be accepted next
+pub record OneAnswers (words : List ℕ) (run : List Event) : Type 0 where
+  pub before : List Event
+  pub station : ℕ
+  pub rest : List Event
+  pub splits : before ++ (singleStep station ∷ rest) ≡ run
+  pub accepted : stepOf (after before words) station .number ≡ 0
+  pub answers : numberOf (takeOf (stepOf (after before words) station .words) station) ≡ 0
+
+-- the event before the others answers nobody, or is no step
+later : {words : List ℕ} {run : List Event} (ev : Event) → OneAnswers (reply wordIndex words ev .next) run → OneAnswers words (ev ∷ run)
+unfolding after
+later ev x = record { before = ev ∷ x .before; station = x .station; rest = x .rest; splits = ap (λ (l : List Event). ev ∷ l) (x .splits); accepted = x .accepted; answers = x .answers }
+
+one-answers : (words : List ℕ) (run : List Event) → SomeAnswered words run → OneAnswers words run
+unfolding reply answered after
+one-answers words [] x = absurd x
+one-answers words (submission s kind p c ∷ run) (inl e) = absurd (false≢true e)
+one-answers words (submission s kind p c ∷ run) (inr x) = later (submission s kind p c) (one-answers (reply wordIndex words (submission s kind p c) .next) run x)
+one-answers words (taking s ∷ run) (inl e) = absurd (false≢true e)
+one-answers words (taking s ∷ run) (inr x) = later (taking s) (one-answers (reply wordIndex words (taking s) .next) run x)
+one-answers words (singleStep s ∷ run) (inr x) = later (singleStep s) (one-answers (stepOf words s .words) run x)
+one-answers words (singleStep s ∷ run) (inl e) =
+    let a = eqb (stepOf words s .number) 0 in
+    let b = eqb (numberOf (takeOf (stepOf words s .words) s)) 0 in
+    record { before = []; station = s; rest = run; splits = refl; accepted = eqb-true (stepOf words s .number) 0 (and-l a b e); answers = eqb-true (numberOf (takeOf (stepOf words s .words) s)) 0 (and-r a b e) }
+
+-- ---- the claims
+
+-- A history from an accepted opening, and the words after it.
+module _ (words : List ℕ) (places limit : ℕ) (e : openOf words places limit .number ≡ 0) (evs : List Event) where
+  abbrev pub reached : List ℕ
+  reached = after evs (openOf words places limit .words)
+
+  -- `dealtSteps` counts the steps "given to a station that has an unfinished call": they are the steps that are not refused
+  pub dealt-accepted : (s : ℕ) → (stepOf reached s .number ≡ 0) ↔ (isUnfinished (stateAt reached s) ≡ true)
+  dealt-accepted s = step-accepted words places limit e evs s
+
+  -- whatever submissions, takings and refused events fall between them, of more than 16 × places such steps one answers
+  pub somebody : (run : List Event) → Undisturbed run → 16 * places < dealtSteps reached run → OneAnswers reached run
+  somebody run d l = one-answers reached run (Finishes.somebody words places limit e evs run d l)
+
+  -- the request, by its own figure
+  pub somebody-finishes : (run : List Event) → Undisturbed run → 8 * 32 * (16 * places + 64) ≤ dealtSteps reached run → OneAnswers reached run
+  somebody-finishes run d l = one-answers reached run (Finishes.somebody-finishes words places limit e evs run d l)
+
+-- A run of nothing but steps, each for the next of some stations, which has an unfinished call then.
+abbrev pub EachDealt : List ℕ → List ℕ → Type 0
+EachDealt words stations = (before : List ℕ) (s : ℕ) (rest : List ℕ) → before ++ (s ∷ rest) ≡ stations → isUnfinished (stateAt (after (map singleStep before) words) s) ≡ true
+
+-- all its steps count
+each-counts : (words : List ℕ) (stations : List ℕ) → EachDealt words stations → dealtSteps words (map singleStep stations) ≡ length stations
+unfolding dealtSteps reply after
+each-counts words [] f = refl
+each-counts words (s ∷ stations) f =
+    let rest : EachDealt (stepOf words s .words) stations = λ before u later q. f (s ∷ before) u later (ap (λ (l : List ℕ). s ∷ l) q) in
+    rw (f [] s stations refl) (omega (arith, each-counts (stepOf words s .words) stations rest))
+
+-- a step disturbs nobody
+steps-undisturbed : (stations : List ℕ) → Undisturbed (map singleStep stations)
+steps-undisturbed [] = tt
+steps-undisturbed (s ∷ stations) = steps-undisturbed stations
+
+-- "In every run of 8 × 32 × (16 × places + 64) steps, each given to a station that has an unfinished call, at least one call is answered."
+pub somebody-steps : (words : List ℕ) (places limit : ℕ) (e : openOf words places limit .number ≡ 0) (evs : List Event) (stations : List ℕ)
+    → EachDealt (reached words places limit e evs) stations → length stations ≡ 8 * 32 * (16 * places + 64) → OneAnswers (reached words places limit e evs) (map singleStep stations)
+somebody-steps words places limit e evs stations f l =
+    let v = reached words places limit e evs in
+    somebody-finishes words places limit e evs (map singleStep stations) (steps-undisturbed stations) (omega (arith, each-counts v stations f, l))
+
+-- Of the events that there are today none is a withdrawal or a packing, so that every run is undisturbed.
+pub always-undisturbed : (run : List Event) → Undisturbed run
+always-undisturbed [] = tt
+always-undisturbed (submission s kind p c ∷ run) = always-undisturbed run
+always-undisturbed (singleStep s ∷ run) = always-undisturbed run
+always-undisturbed (taking s ∷ run) = always-undisturbed run
