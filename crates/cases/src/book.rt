@@ -35,6 +35,11 @@ pub const AT_WRONG_CASES: usize = 10;
 // How many calls each of two actors has made, and of which.
 pub const AT_ACTORS: usize = 11;
 
+// Steps dealt to stations with an unfinished call since the last answer, and the most of them in the case under way.
+pub const AT_STRETCH: usize = 13;
+
+pub const AT_LONGEST: usize = 14;
+
 // A place that no book has.
 pub const NOWHERE: usize = 1000000;
 

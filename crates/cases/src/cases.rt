@@ -289,6 +289,17 @@ pub fn short_histories(words: &mut [u32], spare: &mut [u32], book: &mut [u64]) {
     );
 }
 
+// The busy case at its longest: eight searches of a grade that has no record exclude no side of a cut, and go through a whole stair in step.
+pub fn busy_stations(words: &mut [u32], spare: &mut [u32], book: &mut [u64]) {
+    run_case(
+        words,
+        spare,
+        book,
+        b"eight searches in turn on a stair of 4,096 records|steps without an answer, of 65536 at most|
+        x 0; e 0 4 13 500 10; a 66000; l;",
+    );
+}
+
 // Long random histories, and the deepest trees with calls and a random history on them.
 pub fn long_histories(words: &mut [u32], spare: &mut [u32], book: &mut [u64]) {
     run_case(

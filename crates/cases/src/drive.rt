@@ -5,6 +5,7 @@ use crate::book::as_due;
 use crate::book::at_code;
 use crate::book::point_of;
 use crate::reference;
+use crate::stretch;
 use crate::tally::judge;
 use rows::answer::Waiting;
 use rows::answer::read_waiting;
@@ -25,6 +26,7 @@ fn most_steps(book: &[u64]) -> u64 {
 pub fn open(words: &mut [u32], book: &mut [u64], places: u32, limit: u32) {
     let number = steps::open::open(words, places, limit);
     reference::begin(book, places, limit);
+    stretch::begin(book);
     judge(book, number == 0);
 }
 
@@ -44,12 +46,14 @@ fn waits(words: &[u32], s: u32) -> bool {
     }
 }
 
-// A step. The table is told whether it answered.
+// A step. The table is told whether it answered, and so is the stretch of steps that answer nobody.
 pub fn step(words: &mut [u32], book: &mut [u64], s: u32) -> u32 {
+    let dealt = reference::state(book, s) == reference::UNFINISHED;
     let number = steps::step::step(words, s);
     let answered = (number == 0) & waits(words, s);
     let due = reference::step(book, s, answered);
-    judge(book, number == due);
+    stretch::pass(book, dealt, answered);
+    judge(book, (number == due) & stretch::is_bounded(book));
     number
 }
 

@@ -12,6 +12,7 @@ mod reference;
 mod removals;
 mod script;
 mod stairs;
+mod stretch;
 mod tally;
 mod text;
 
@@ -42,6 +43,7 @@ fn cases_of_stations(words: &mut [u32], spare: &mut [u32], book: &mut [u64]) {
 
 // Random histories.
 fn cases_of_histories(words: &mut [u32], spare: &mut [u32], book: &mut [u64]) {
+    cases::busy_stations(words, spare, book);
     cases::short_histories(words, spare, book);
     cases::long_histories(words, spare, book);
 }

@@ -6,6 +6,7 @@ use crate::orders::every_order;
 use crate::raw;
 use crate::script;
 use crate::stairs::build;
+use crate::stretch;
 use crate::tally::begin_case;
 use crate::tally::end_case;
 use crate::tally::tried;
@@ -19,8 +20,8 @@ fn busy(words: &mut [u32], spare: &mut [u32], book: &mut [u64], n: [u32; 9]) {
     events(words, spare, book, plan_of(n));
 }
 
-// What a row asks for: h random histories of a plan, b one on the index as it is, x a stair, y every axis at its ends; a capital letter for a
-// call on the index alone, and any other for an event on the index and on the plain table.
+// What a row asks for: h random histories of a plan, b one on the index as it is, x a stair, y every axis at its ends, l the longest stretch; a
+// capital letter for a call on the index alone, and any other for an event on the index and on the plain table.
 fn perform(words: &mut [u32], spare: &mut [u32], book: &mut [u64], row: Row) {
     let n = row.n;
     let letter = row.letter;
@@ -29,6 +30,7 @@ fn perform(words: &mut [u32], spare: &mut [u32], book: &mut [u64], row: Row) {
         b'b' => busy(words, spare, book, n),
         b'x' => build(words, book, n[0] == 1),
         b'y' => raw::ends(words, spare, book),
+        b'l' => stretch::tell(book),
         b'A'..=b'Z' => raw::judged(words, spare, book, row),
         _ => counted(words, book, row),
     }

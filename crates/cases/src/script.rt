@@ -59,14 +59,24 @@ fn turn(words: &mut [u32], book: &mut [u64], s: u32) {
     }
 }
 
-// Sixty turns of each station, and what is asked after each; then every station is idle.
-fn rounds(words: &mut [u32], book: &mut [u64]) {
-    for n in 0..480u32 {
+// The turns of a row: sixty of each station where it names no number.
+fn turns_of(n: u32) -> u32 {
+    if n == 0 { 480 } else { n }
+}
+
+// Whether this is the last turn of a station.
+fn is_last(n: u32, turns: u32) -> bool {
+    (turns as u64) <= 8 + (n as u64)
+}
+
+// So many turns, each station's after the other's, and what is asked after each; then every station is idle.
+fn rounds(words: &mut [u32], book: &mut [u64], turns: u32) {
+    for n in 0..turns {
         turn(words, book, n % 8);
         drive::judge_event(words, book);
         judge(
             book,
-            (n < 472) | (reference::state(book, n % 8) == reference::IDLE),
+            !is_last(n, turns) | (reference::state(book, n % 8) == reference::IDLE),
         );
     }
 }
@@ -83,7 +93,7 @@ fn single_step(words: &mut [u32], book: &mut [u64], s: u32) {
 }
 
 // The event of a row: o an opening with its places and limit, c a whole call, s a submission, t a step, r a run, k a taking, n the places
-// taken, e eight calls at once, and any other letter rounds of all stations.
+// taken, e eight calls at once, and any other letter turns of all stations.
 fn perform(words: &mut [u32], book: &mut [u64], row: Row) {
     let n = row.n;
     let letter = row.letter;
@@ -96,7 +106,7 @@ fn perform(words: &mut [u32], book: &mut [u64], row: Row) {
         b'k' => take(words, book, n),
         b'n' => judge_taken(words, book, n[0]),
         b'e' => eight(words, book, n),
-        _ => rounds(words, book),
+        _ => rounds(words, book, turns_of(n[0])),
     }
 }
 

@@ -1,6 +1,7 @@
 // Checks are counted, and each case ends with a line.
 use crate::book::AT_CASES;
 use crate::book::AT_CHECKS;
+use crate::book::AT_LONGEST;
 use crate::book::AT_TRIED;
 use crate::book::AT_WRONG;
 use crate::book::AT_WRONG_CASES;
@@ -34,6 +35,7 @@ pub fn begin_case(book: &mut [u64]) {
     put(book, AT_TRIED, 0);
     put(book, AT_CHECKS, 0);
     put(book, AT_WRONG, 0);
+    put(book, AT_LONGEST, 0);
     for code in 0..10u32 {
         put(book, at_code(code), 0);
     }

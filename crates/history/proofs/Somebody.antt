@@ -3,7 +3,7 @@
 -- stations together.
 use Prim.Native.Nat.{ℕ, _+_, _*_, _≤_, _<_}
 use mathlib.Core.Path.{_≡_, refl, sym, _∙_, subst}
-use mathlib.Core.Logic.{_≢_, inl, inr}
+use mathlib.Core.Logic.{inl, inr}
 use mathlib.Core.Bool.{Bool, true, false, true≢false}
 use mathlib.Core.List.{List, [], _∷_}
 use mathlib.Core.Option.{Option}
@@ -117,17 +117,17 @@ step-falls {words} {places} {limit} {n} s w still = go (isUnfinished (stateAt wo
 
 -- ---- the run
 
--- more such steps than twice what is left to all stations together: one answers
-run-answers : (run : List Event) {words : List ℕ} {places limit n : ℕ} → Within words places limit n → Undisturbed run → n < 2 * dealtSteps words run → SomeAnswered words run
+-- where twice the number of such steps is more than what is left to all stations together, one answers
+dealt-answers : (run : List Event) {words : List ℕ} {places limit n : ℕ} → Within words places limit n → Undisturbed run → n < 2 * dealtSteps words run → SomeAnswered words run
 unfolding dealtSteps reply
-run-answers [] w d l = absurd (omega arith)
-run-answers (submission s kind p c ∷ run) {words} w d l =
+dealt-answers [] w d l = absurd (omega arith)
+dealt-answers (submission s kind p c ∷ run) {words} w d l =
     let a = w .stands in
-    inr (run-answers run (reseats-within w (event-stands (submission s kind p c) a) s (submit-reseats words (a .table .places) (a .table .limit) (a .related .opened) s kind p c)) d (omega arith))
-run-answers (taking s ∷ run) {words} w d l =
+    inr (dealt-answers run (reseats-within w (event-stands (submission s kind p c) a) s (submit-reseats words (a .table .places) (a .table .limit) (a .related .opened) s kind p c)) d (omega arith))
+dealt-answers (taking s ∷ run) {words} w d l =
     let a = w .stands in
-    inr (run-answers run (reseats-within w (event-stands (taking s) a) s (take-reseats words (a .table .places) (a .table .limit) (a .related .opened) s)) d (omega arith))
-run-answers (singleStep s ∷ run) {words} {places} {limit} {n} w d l = go (λ k v j. run-answers run v d j) (answered wordIndex words (singleStep s)) refl
+    inr (dealt-answers run (reseats-within w (event-stands (taking s) a) s (take-reseats words (a .table .places) (a .table .limit) (a .related .opened) s)) d (omega arith))
+dealt-answers (singleStep s ∷ run) {words} {places} {limit} {n} w d l = go (λ k v j. dealt-answers run v d j) (answered wordIndex words (singleStep s)) refl
   where
     go : ((k : ℕ) → Within (stepOf words s .words) places limit k → k < 2 * dealtSteps (stepOf words s .words) run → SomeAnswered (stepOf words s .words) run)
         → (b : Bool) → answered wordIndex words (singleStep s) ≡ b → SomeAnswered words (singleStep s ∷ run)
@@ -141,7 +141,7 @@ pub somebody : (words : List ℕ) (places limit : ℕ) → openOf words places l
 somebody words places limit e evs run d l =
     let a = accepted words places limit e in
     let v : Stands (after evs (openOf words places limit .words)) places limit = rw (a .opens) (history-related words places limit a evs) in
-    run-answers run {n = 32 * places} (record { stands = v; few = omega (arith, potential-most (v .related), v .places-same) }) d (omega arith)
+    dealt-answers run {n = 32 * places} (record { stands = v; few = omega (arith, potential-most (v .related), v .places-same) }) d (omega arith)
 
 -- Request 2026-11, by its own figure.
 pub somebody-finishes : (words : List ℕ) (places limit : ℕ) → openOf words places limit .number ≡ 0 → (evs run : List Event) → Undisturbed run

@@ -6,10 +6,10 @@ use lib.ListN.{length}
 use Prim.Native.Nat.{_-_}
 
 abbrev Inv-loop : tie.InvT-loop
-Inv-loop words₀ book₀ n₀ words book n = (length words ≡ length words₀) × (length book ≡ length book₀)
+Inv-loop words₀ book₀ turns n₀ words book n = (length words ≡ length words₀) × (length book ≡ length book₀)
 
 abbrev μ-loop : tie.MeasureT-loop
-μ-loop words₀ book₀ n₀ words book n = 480 - n
+μ-loop words₀ book₀ turns n₀ words book n = turns - n
 
 loop-holds : tie.Need-loop-holds Inv-loop μ-loop
 loop-holds c = search needs
@@ -19,6 +19,9 @@ turn-requires c κs = search needs
 
 judge-event-requires : tie.Need-judge-event-requires Inv-loop μ-loop
 judge-event-requires c κs = search needs
+
+is-last-requires : tie.Need-is-last-requires Inv-loop μ-loop
+is-last-requires c κs = search needs
 
 state-requires : tie.Need-state-requires Inv-loop μ-loop
 state-requires c κs = search needs
@@ -53,6 +56,7 @@ rounds-spec =
     loop-holds
     turn-requires
     judge-event-requires
+    is-last-requires
     state-requires
     judge-requires
     add-n

@@ -20,14 +20,17 @@ put-requires-2 c κs = search needs
 put-requires-3 : tie.Need-put-requires-3 Inv-loop μ-loop
 put-requires-3 c κs = search needs
 
+put-requires-4 : tie.Need-put-requires-4 Inv-loop μ-loop
+put-requires-4 c κs = search needs
+
 loop-holds : tie.Need-loop-holds Inv-loop μ-loop
 loop-holds c = search needs
 
 at-code-requires : tie.Need-at-code-requires Inv-loop μ-loop
 at-code-requires c κs = search needs
 
-put-requires-4 : tie.Need-put-requires-4 Inv-loop μ-loop
-put-requires-4 c κs = search needs
+put-requires-5 : tie.Need-put-requires-5 Inv-loop μ-loop
+put-requires-5 c κs = search needs
 
 add-code : tie.Need-add-code Inv-loop μ-loop
 add-code c = search needs
@@ -53,9 +56,10 @@ begin-case-spec =
     put-requires
     put-requires-2
     put-requires-3
+    put-requires-4
     loop-holds
     at-code-requires
-    put-requires-4
+    put-requires-5
     add-code
     loop-less
     loop-again
