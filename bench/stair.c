@@ -74,6 +74,49 @@ static double audit_time(struct index index)
     return best;
 }
 
+// A search for a grade that has no record: it excludes no side of a cut, and goes through the whole tree.
+static void search_none(struct index index, uint32_t s)
+{
+    struct call call = call_at(NEAREST, 1);
+    call.record.point.axis[0] = GRADE + 1;
+    submit(index, s, call);
+}
+
+// A step of each station in turn: how many there are up to the first answer.
+static uint32_t steps_in_turn(struct index index)
+{
+    uint32_t steps = 0;
+    do
+        step(index, steps % STATIONS);
+    while (unfinished(index, steps++ % STATIONS));
+    return steps;
+}
+
+// What is left of a call, and its taking.
+static void end_call(struct index index, uint32_t s)
+{
+    while (unfinished(index, s))
+        step(index, s);
+    take(index, s);
+}
+
+// Such a search at every station, a step of each in turn; the least time up to the first answer counts.
+static void busy_case(struct index index, uint32_t records, struct stair *stair)
+{
+    stair->busy_ns = 1e18;
+    for (int round = 0; round < ROUNDS; round++) {
+        for (uint32_t s = 0; s < STATIONS; s++)
+            search_none(index, s);
+        double begin = clock_ns();
+        stair->busy_steps = steps_in_turn(index);
+        double took = clock_ns() - begin;
+        must(stair->busy_steps <= 16 * records + 1, "nobody was answered in 16 steps for each place and one more");
+        for (uint32_t s = 0; s < STATIONS; s++)
+            end_call(index, s);
+        stair->busy_ns = took < stair->busy_ns ? took : stair->busy_ns;
+    }
+}
+
 // One call of some station: a submission, a taking, a report, a run now and then, and mostly steps.
 static void some_call(struct index index, uint32_t records)
 {
@@ -128,6 +171,7 @@ struct stair measure_stair(struct index index, uint32_t records, enum order orde
     build(index, records, order);
     stair.audit_ns = audit_time(index);
     must(painted_audit(index), "the audit of a stair says no");
+    busy_case(index, records, &stair);
     for (int n = 0; n < EVENTS; n++)
         some_call(index, records);
     must(painted_audit(index), "the audit after a history says no");

@@ -1,5 +1,5 @@
-// The time of an audit, and the stack of every call: on records of one grade that differ in weight alone, added in order of weight, which makes
-// the deepest tree there is (a stair), or in a random order.
+// The time of an audit, the busy case, and the stack of every call: on records of one grade that differ in weight alone, added in order of weight,
+// which makes the deepest tree there is (a stair), or in a random order.
 #ifndef STAIR_H
 #define STAIR_H
 
@@ -7,12 +7,15 @@
 
 struct stair {
     double audit_ns;
+    uint32_t busy_steps;
+    double busy_ns;
     size_t used[ENTRIES];
 };
 
 enum order { BY_WEIGHT, SHUFFLED };
 
-// So many records in an index of as many places, audited; then calls of eight stations on it, and calls on words changed at random.
+// So many records in an index of as many places, audited; then eight searches of it in turn, calls of eight stations on it, and calls on words
+// changed at random.
 struct stair measure_stair(struct index index, uint32_t records, enum order order);
 
 #endif
