@@ -1,8 +1,8 @@
 -- Request 2026-11, somebody always finishes: "Dispatchers need a figure for the busy case. In every run of 8 × 32 × (16 × places + 64) steps, each given to a
 -- station that has an unfinished call, at least one call is answered. The premise: the run is part of a history, and neither withdrawal nor packing falls
 -- inside it."
--- For a dispatcher: deal out steps to any stations in any order, submit, take, and name stations that have nothing to do. Count the steps that are not
--- refused. Of any 16 × places + 1 of them one has answered a call (`somebody`); the figure of the request is more than 256 times that (`somebody-finishes`).
+-- For a dispatcher: deal out steps to any stations in any order, submit, take, and name stations that have nothing to do. From any moment on, count the steps
+-- that are not refused: one of the first 16 × places + 1 answers a call (`somebody`). The figure of the request is more than 256 times that (`somebody-finishes`).
 -- Whose call it is, is not said: `solo` of Demand3.antt is about one station, and asks that the others stand still.
 use Prim.Native.Nat.{ℕ, _+_, _*_, _≤_, _<_}
 use mathlib.Core.Path.{_≡_, refl, ap}
@@ -60,7 +60,7 @@ module _ (words : List ℕ) (places limit : ℕ) (e : openOf words places limit 
   pub dealt-accepted : (s : ℕ) → (stepOf reached s .number ≡ 0) ↔ (isUnfinished (stateAt reached s) ≡ true)
   dealt-accepted s = step-accepted words places limit e evs s
 
-  -- whatever submissions, takings and refused events fall between them, of more than 16 × places such steps one answers
+  -- among more than 16 × places such steps, whatever submissions, takings and refused events fall between them, one answers
   pub somebody : (run : List Event) → Undisturbed run → 16 * places < dealtSteps reached run → OneAnswers reached run
   somebody run d l = one-answers reached run (Finishes.somebody words places limit e evs run d l)
 
@@ -68,7 +68,9 @@ module _ (words : List ℕ) (places limit : ℕ) (e : openOf words places limit 
   pub somebody-finishes : (run : List Event) → Undisturbed run → 8 * 32 * (16 * places + 64) ≤ dealtSteps reached run → OneAnswers reached run
   somebody-finishes run d l = one-answers reached run (Finishes.somebody-finishes words places limit e evs run d l)
 
--- A run of nothing but steps, each for the next of some stations, which has an unfinished call then.
+-- ---- steps alone
+
+-- a run of nothing but steps, each for the next of some stations, which has an unfinished call then
 abbrev pub EachDealt : List ℕ → List ℕ → Type 0
 EachDealt words stations = (before : List ℕ) (s : ℕ) (rest : List ℕ) → before ++ (s ∷ rest) ≡ stations → isUnfinished (stateAt (after (map singleStep before) words) s) ≡ true
 
@@ -85,12 +87,15 @@ steps-undisturbed : (stations : List ℕ) → Undisturbed (map singleStep statio
 steps-undisturbed [] = tt
 steps-undisturbed (s ∷ stations) = steps-undisturbed stations
 
--- "In every run of 8 × 32 × (16 × places + 64) steps, each given to a station that has an unfinished call, at least one call is answered."
+-- Among more than 16 × places steps, each given to a station that has an unfinished call, one answers. The figure of the request is no case of its own here: eight calls are
+-- all answered before so many steps, and without a submission there is no ninth.
 pub somebody-steps : (words : List ℕ) (places limit : ℕ) (e : openOf words places limit .number ≡ 0) (evs : List Event) (stations : List ℕ)
-    → EachDealt (reached words places limit e evs) stations → length stations ≡ 8 * 32 * (16 * places + 64) → OneAnswers (reached words places limit e evs) (map singleStep stations)
+    → EachDealt (reached words places limit e evs) stations → 16 * places < length stations → OneAnswers (reached words places limit e evs) (map singleStep stations)
 somebody-steps words places limit e evs stations f l =
     let v = reached words places limit e evs in
-    somebody-finishes words places limit e evs (map singleStep stations) (steps-undisturbed stations) (omega (arith, each-counts v stations f, l))
+    somebody words places limit e evs (map singleStep stations) (steps-undisturbed stations) (omega (arith, each-counts v stations f, l))
+
+-- ---- the premise
 
 -- Of the events that there are today none is a withdrawal or a packing, so that every run is undisturbed.
 pub always-undisturbed : (run : List Event) → Undisturbed run
