@@ -3,7 +3,8 @@
 -- inside it."
 -- For a dispatcher: deal out steps to any stations in any order, submit, take, and name stations that have nothing to do. From any moment on, count the steps
 -- that are not refused: one of the first 16 × places + 1 answers a call (`somebody`). The figure of the request is more than 256 times that (`somebody-finishes`).
--- Whose call it is, is not said: `solo` of Demand3.antt is about one station, and asks that the others stand still.
+-- Whose call it is, is not said: `solo` of Demand3.antt is about one station, and asks that the others stand still. Where nobody submits anew, all eight are answered
+-- within eight times as many (`everybody`).
 use Prim.Native.Nat.{ℕ, _+_, _*_, _≤_, _<_}
 use mathlib.Core.Path.{_≡_, refl, ap}
 use mathlib.Core.Logic.{_↔_, inl, inr}
@@ -15,9 +16,10 @@ use lib.ListN.{length}
 use borrow.Author.Tests.{eqb-true}
 use Rattle.points.proofs.Tests.{and-l, and-r}
 use Rattle.claims.specs.Definitions.{isUnfinished, stateAt, Event, submission, singleStep, taking, reply, answered, openOf, stepOf, takeOf, numberOf, wordIndex, after}
-use Rattle.claims.specs.Definitions.{dealtSteps, Undisturbed}
+use Rattle.claims.specs.Definitions.{dealtSteps, Undisturbed, NobodySubmits}
 use Rattle.history.specs.Somebody.{SomeAnswered}
 use Rattle.history.proofs.Somebody as Finishes
+use Rattle.history.proofs.Everybody
 use Rattle.history.proofs.StepNumbers.{step-accepted}
 
 -- ---- what is said
@@ -68,6 +70,10 @@ module _ (words : List ℕ) (places limit : ℕ) (e : openOf words places limit 
   pub somebody-finishes : (run : List Event) → Undisturbed run → 8 * 32 * (16 * places + 64) ≤ dealtSteps reached run → OneAnswers reached run
   somebody-finishes run d l = one-answers reached run (Finishes.somebody-finishes words places limit e evs run d l)
 
+  -- where no submission is accepted, at most 8 × (16 × places + 1) steps find a call unfinished: then every call is answered
+  pub everybody : (run : List Event) → Undisturbed run → NobodySubmits reached run → dealtSteps reached run ≤ 8 * (16 * places + 1)
+  everybody run d f = Everybody.everybody words places limit e evs run d f
+
 -- ---- steps alone
 
 -- a run of nothing but steps, each for the next of some stations, which has an unfinished call then
@@ -87,8 +93,7 @@ steps-undisturbed : (stations : List ℕ) → Undisturbed (map singleStep statio
 steps-undisturbed [] = tt
 steps-undisturbed (s ∷ stations) = steps-undisturbed stations
 
--- Among more than 16 × places steps, each given to a station that has an unfinished call, one answers. The figure of the request is no case of its own here: eight calls are
--- all answered before so many steps, and without a submission there is no ninth.
+-- Among more than 16 × places steps, each given to a station that has an unfinished call, one answers. By `everybody` no run of steps alone is as long as the request's figure.
 pub somebody-steps : (words : List ℕ) (places limit : ℕ) (e : openOf words places limit .number ≡ 0) (evs : List Event) (stations : List ℕ)
     → EachDealt (reached words places limit e evs) stations → 16 * places < length stations → OneAnswers (reached words places limit e evs) (map singleStep stations)
 somebody-steps words places limit e evs stations f l =

@@ -60,9 +60,9 @@ pub use Rattle.steps.specs.Held.{heldIn}
 pub use Rattle.history.specs.Index.{recordOf, givenBy, wordIndex}
 unfoldable pub use Rattle.history.specs.After.{after}
 pub use Rattle.history.specs.Alone.{stepped}
--- the steps among some events that are dealt to stations with an unfinished call; no withdrawal and no packing is among them
+-- the steps among some events that are dealt to stations with an unfinished call; no withdrawal and no packing is among them; no submission is accepted
 unfoldable pub use Rattle.history.specs.Somebody.{dealtSteps}
-pub use Rattle.history.specs.Somebody.{Undisturbed}
+pub use Rattle.history.specs.Somebody.{Undisturbed, NobodySubmits}
 -- questions in their order, and the number of the first that is answered no
 pub use Rattle.history.specs.Questions.{asked}
 unfoldable pub use Rattle.history.specs.Questions.{firstNo}

@@ -86,3 +86,4 @@ pub mod Spelled
 pub mod MovesLeft
 pub mod Reseated
 pub mod Somebody
+pub mod Everybody

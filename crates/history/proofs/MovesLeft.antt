@@ -76,17 +76,17 @@ module _ {words : List ℕ} {t : Table} (r : Related words t) (s : ℕ) (l : s <
 
 -- ---- all eight
 
-unfoldable sumTo : ℕ → (ℕ → ℕ) → ℕ
+unfoldable pub sumTo : ℕ → (ℕ → ℕ) → ℕ
 sumTo zero f = 0
 sumTo (suc n) f = sumTo n f + f n
 
-sum-le : (n : ℕ) (f g : ℕ → ℕ) → ((u : ℕ) → u < n → g u ≤ f u) → sumTo n g ≤ sumTo n f
+pub sum-le : (n : ℕ) (f g : ℕ → ℕ) → ((u : ℕ) → u < n → g u ≤ f u) → sumTo n g ≤ sumTo n f
 unfolding sumTo
 sum-le zero f g h = omega arith
 sum-le (suc n) f g h = omega (arith, sum-le n f g (λ u l. h u (omega arith)), h n (omega arith))
 
 -- what one of them is less by, the sum is less by
-sum-less : (n s by : ℕ) (f g : ℕ → ℕ) → s < n → ((u : ℕ) → u < n → g u ≤ f u) → by + g s ≤ f s → by + sumTo n g ≤ sumTo n f
+pub sum-less : (n s by : ℕ) (f g : ℕ → ℕ) → s < n → ((u : ℕ) → u < n → g u ≤ f u) → by + g s ≤ f s → by + sumTo n g ≤ sumTo n f
 unfolding sumTo
 sum-less zero s by f g l h k = absurd (omega arith)
 sum-less (suc n) s by f g l h k = go (λ m. sum-less n s by f g m (λ u m. h u (omega arith)) k) (ℕ-discrete s n)
@@ -95,7 +95,7 @@ sum-less (suc n) s by f g l h k = go (λ m. sum-less n s by f g m (λ u m. h u (
     go ih (yes e) = let j : by + g n ≤ f n = subst (λ (x : ℕ). by + g x ≤ f x) e k in omega (arith, sum-le n f g (λ u m. h u (omega arith)))
     go ih (no d) = omega (arith, ih (omega arith), h n (omega arith))
 
-sum-most : (n m : ℕ) (f : ℕ → ℕ) → ((u : ℕ) → u < n → f u ≤ m) → sumTo n f ≤ n * m
+pub sum-most : (n m : ℕ) (f : ℕ → ℕ) → ((u : ℕ) → u < n → f u ≤ m) → sumTo n f ≤ n * m
 unfolding sumTo
 sum-most zero m f h = omega arith
 sum-most (suc n) m f h = omega (arith, sum-most n m f (λ u l. h u (omega arith)), h n (omega arith))

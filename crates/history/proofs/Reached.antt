@@ -76,7 +76,7 @@ unfolding finished
 finished-alike t s c (some a) = (refl, refl)
 finished-alike t s c none = changed-alike (isChange (answerOf t c)) t c
 
-still-alike : (t : Table) (s : ℕ) → still t s .next ≡ t
+pub still-alike : (t : Table) (s : ℕ) → still t s .next ≡ t
 unfolding still stillAt
 still-alike t s = ask-all (λ r. r .next ≡ t) (ltb s 8) 5 t _ refl (λ a. go (t .stations s))
   where

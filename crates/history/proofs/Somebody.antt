@@ -34,9 +34,9 @@ use Rattle.history.proofs.Reseated.{Reseats, submit-reseats, take-resea
 use Rattle.history.proofs.MovesLeft.{movesLeft, left-same, rest-here, most-here, potential, potential-most, potential-less, potential-kept}
 
 -- the words stand, with at most n left to all stations together
-record Within (words : List ℕ) (places limit n : ℕ) : Type 0 where
-  stands : Stands words places limit
-  few : potential (stands .related) ≤ n
+pub record Within (words : List ℕ) (places limit n : ℕ) : Type 0 where
+  pub stands : Stands words places limit
+  pub few : potential (stands .related) ≤ n
 
 -- the same words, however they are related: so the first moments of nearest calls leave as much
 same-within : {words : List ℕ} {places limit n : ℕ} → Within words places limit n → Stands words places limit → Within words places limit n
@@ -48,7 +48,7 @@ same-within w b =
     record { stands = b; few = omega (arith, potential-kept (a .related) (b .related) p tree queue (λ x l. refl), w .few) }
 
 -- a submission or a taking leaves as much
-reseats-within : {words words′ : List ℕ} {places limit n : ℕ} (w : Within words places limit n) → Stands words′ places limit → (s : ℕ) → Reseats words words′ (2 * w .stands .table .places) s
+pub reseats-within : {words words′ : List ℕ} {places limit n : ℕ} (w : Within words places limit n) → Stands words′ places limit → (s : ℕ) → Reseats words words′ (2 * w .stands .table .places) s
     → Within words′ places limit n
 reseats-within {words} {words′} {places} {limit} {n} w b s (inl e) = subst (λ (x : List ℕ). Within x places limit n) (sym e) w
 reseats-within {words} {words′} w b s (inr c) =
@@ -63,10 +63,10 @@ reseats-within {words} {words′} w b s (inr c) =
     record { stands = b; few = omega (arith, potential-less (a .related) (b .related) p tree queue s 0 (c .station) (c .others) (omega (arith, own)), w .few) }
 
 -- a step that does not answer: two less are left where it was dealt to a station with an unfinished call
-record Fallen (words : List ℕ) (places limit n s : ℕ) : Type 0 where
-  fewer : ℕ
-  within : Within (stepOf words s .words) places limit fewer
-  counted : 2 * dealtStep words (singleStep s) + fewer ≤ n
+pub record Fallen (words : List ℕ) (places limit n s : ℕ) : Type 0 where
+  pub fewer : ℕ
+  pub within : Within (stepOf words s .words) places limit fewer
+  pub counted : 2 * dealtStep words (singleStep s) + fewer ≤ n
 
 module _ {words : List ℕ} {places limit n : ℕ} (s : ℕ) (l : s < 8) (w : Within words places limit n) (settled : Settled (w .stands .table))
     (still : answered wordIndex words (singleStep s) ≡ false) where
@@ -99,7 +99,7 @@ module _ {words : List ℕ} {places limit n : ℕ} (s : ℕ) (l : s < 8) (w : Wi
       go (unfinished i c o) q =
           goes-on i c o q (step-outcome s i here c o (w .stands .sound) settled l q (record { related = r; left = rw q (left-same r s l c q here .0 (omega arith)) }))
 
-step-falls : {words : List ℕ} {places limit n : ℕ} (s : ℕ) → Within words places limit n → answered wordIndex words (singleStep s) ≡ false → Fallen words places limit n s
+pub step-falls : {words : List ℕ} {places limit n : ℕ} (s : ℕ) → Within words places limit n → answered wordIndex words (singleStep s) ≡ false → Fallen words places limit n s
 unfolding same-within
 step-falls {words} {places} {limit} {n} s w still = go (isUnfinished (stateAt words s)) refl (decLt s 8)
   where

@@ -1,10 +1,11 @@
--- Somebody always finishes (request 2026-11): the steps among some events that are dealt to stations with an unfinished call, and that one of the
--- events answers a call.
+-- Somebody always finishes (request 2026-11): the steps among some events that are dealt to stations with an unfinished call, that one of the events
+-- answers a call, and that nobody submits meanwhile.
 use Prim.Native.Nat.{ℕ, _+_, _*_}
 use mathlib.Core.Path.{_≡_}
 use mathlib.Core.Logic.{_⊎_}
 use mathlib.Core.Bool.{true, cond}
 use mathlib.Core.List.{List, [], _∷_}
+use Rattle.steps.specs.Submit.{submitOf}
 use Rattle.rows.specs.Station.{isUnfinished, stateAt}
 use Rattle.table.specs.Event.{Event, submission, singleStep, taking}
 use Rattle.table.specs.History.{reply, answered}
@@ -36,3 +37,14 @@ Undisturbed (taking s ∷ evs) = Undisturbed evs
 abbrev pub SomeAnswered : List ℕ → List Event → Type 0
 SomeAnswered words [] = ⊥
 SomeAnswered words (ev ∷ evs) = (answered wordIndex words ev ≡ true) ⊎ SomeAnswered (reply wordIndex words ev .next) evs
+
+-- the event is no submission that is accepted
+abbrev pub NotSubmitted : List ℕ → Event → Type 0
+NotSubmitted words (submission s kind p c) = ¬ (submitOf words s kind p c .number ≡ 0)
+NotSubmitted words (singleStep s) = Unit {0}
+NotSubmitted words (taking s) = Unit {0}
+
+-- none of the events is
+abbrev pub NobodySubmits : List ℕ → List Event → Type 0
+NobodySubmits words [] = Unit {0}
+NobodySubmits words (ev ∷ evs) = NotSubmitted words ev × NobodySubmits (reply wordIndex words ev .next) evs

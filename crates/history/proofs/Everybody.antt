@@ -1,0 +1,182 @@
+-- Everybody finishes where nobody submits (`everybody`): no more than 8 × (16 × places + 1) steps are dealt to stations with an unfinished call. Each stretch
+-- of more than 16 × places answers one of the eight, and no other call becomes unfinished.
+use Prim.Native.Nat.{ℕ, zero, suc, _+_, _*_, _≤_, _<_}
+use mathlib.Core.Path.{_≡_, refl, sym, ap, _∙_}
+use mathlib.Core.Bool.{Bool, true, false, true≢false, false≢true, cond}
+use mathlib.Core.List.{List, [], _∷_}
+use native.Mathlib.Omega.{arith}
+use native.Mathlib.Decide.{decLt}
+use borrow.Author.Tests.{eq-eqb, ne-eqb}
+use Rattle.rows.specs.Station.{isUnfinished, stateAt}
+use Rattle.table.specs.Table.{Station, idle, unfinished, waiting, Table}
+use Rattle.table.specs.Event.{Event, submission, singleStep, taking, accept}
+use Rattle.table.specs.History.{reply, answered}
+use Rattle.table.proofs.Eager.{own}
+use Rattle.table.proofs.Settled.{busy, take-busy, answer-busy}
+use Rattle.table.proofs.Simulation.{finished, answer-step}
+use Rattle.steps.specs.Open.{openOf}
+use Rattle.steps.specs.Step.{stepOf}
+use Rattle.history.specs.Index.{wordIndex}
+use Rattle.history.specs.View.{seatAt}
+use Rattle.history.specs.Related.{Related}
+use Rattle.history.specs.After.{after}
+use Rattle.history.specs.Somebody.{dealtStep, dealtSteps, Undisturbed, NobodySubmits}
+use Rattle.history.proofs.RelatedLaws.{related-idle, related-busy, related-waits}
+use Rattle.history.proofs.RelatedTake.{related-takes}
+use Rattle.history.proofs.Refused.{submit-refused}
+use Rattle.history.proofs.Demand3.{accepted, stills, answers}
+use Rattle.history.proofs.Reached.{Stands, settled-stands, event-stands, history-related, still-alike}
+use Rattle.history.proofs.Solo.{outside-state}
+use Rattle.history.proofs.Reseated.{take-reseats}
+use Rattle.history.proofs.MovesLeft.{sumTo, sum-le, sum-less, sum-most, potential-most}
+use Rattle.history.proofs.Somebody.{Within, Fallen, reseats-within, step-falls}
+
+-- ---- the stations with an unfinished call
+
+-- the words say that a station's call is unfinished exactly if the table does
+unfinished-same : {words : List ℕ} {t : Table} → Related words t → (s : ℕ) → s < 8 → isUnfinished (stateAt words s) ≡ busy (t .stations s)
+unfolding busy seatAt
+unfinished-same {words} {t} r s l = go (t .stations s) refl
+  where
+    go : (x : Station) → t .stations s ≡ x → isUnfinished (stateAt words s) ≡ busy x
+    go idle e = ne-eqb (stateAt words s .word) 1 (λ z. let y = related-idle r l e .state in omega arith)
+    go (waiting a) e = ne-eqb (stateAt words s .word) 1 (λ z. let y = related-waits r l e .state in omega arith)
+    go (unfinished i c o) e = eq-eqb (stateAt words s .word) 1 (related-busy r l e .state)
+
+-- how many there are
+unfoldable unfinishedCount : List ℕ → ℕ
+unfolding sumTo
+unfinishedCount words = sumTo 8 (λ u. dealtStep words (singleStep u))
+
+at-most-one : (words : List ℕ) (s : ℕ) → dealtStep words (singleStep s) ≤ 1
+at-most-one words s = go (isUnfinished (stateAt words s))
+  where
+    go : (b : Bool) → cond b 1 0 ≤ 1
+    go true = omega arith
+    go false = omega arith
+
+count-most : (words : List ℕ) → unfinishedCount words ≤ 8
+unfolding unfinishedCount
+count-most words = sum-most 8 1 (λ u. dealtStep words (singleStep u)) (λ u l. at-most-one words u)
+
+-- where there are none no step counts
+count-none : (words : List ℕ) (s : ℕ) → unfinishedCount words ≡ 0 → isUnfinished (stateAt words s) ≡ false
+unfolding unfinishedCount
+count-none words s z = go (decLt s 8) (isUnfinished (stateAt words s)) refl
+  where
+    go : Dec (s < 8) → (b : Bool) → isUnfinished (stateAt words s) ≡ b → b ≡ false
+    go d false u = refl
+    go (no g) true u = absurd (true≢false (sym u ∙ outside-state words s (omega arith)))
+    go (yes l) true u =
+        let one : 1 + 0 ≤ dealtStep words (singleStep s) = rw u (omega arith) in
+        let all = sum-less 8 s 1 (λ u. dealtStep words (singleStep u)) (λ u. 0) l (λ u k. omega arith) one in
+        absurd (omega (arith, all, z))
+
+module _ {v w : List ℕ} {t u : Table} (a : Related v t) (b : Related w u) (fewer : (x : ℕ) → busy (u .stations x) ≡ true → busy (t .stations x) ≡ true) where
+  -- a station that is busy now was busy before
+  each-le : (x : ℕ) → x < 8 → dealtStep w (singleStep x) ≤ dealtStep v (singleStep x)
+  each-le x l = rw (unfinished-same a x l, unfinished-same b x l) (go (busy (u .stations x)) (busy (t .stations x)) (fewer x))
+    where
+      go : (p q : Bool) → (p ≡ true → q ≡ true) → cond p 1 0 ≤ cond q 1 0
+      go true true f = omega arith
+      go true false f = absurd (false≢true (f refl))
+      go false q f = omega arith
+
+  count-le : unfinishedCount w ≤ unfinishedCount v
+  unfolding unfinishedCount
+  count-le = sum-le 8 (λ x. dealtStep v (singleStep x)) (λ x. dealtStep w (singleStep x)) each-le
+
+  -- and one of them no longer is
+  count-less : (s : ℕ) → s < 8 → busy (t .stations s) ≡ true → busy (u .stations s) ≡ false → 1 + unfinishedCount w ≤ unfinishedCount v
+  unfolding unfinishedCount
+  count-less s l p q =
+      sum-less 8 s 1 (λ x. dealtStep v (singleStep x)) (λ x. dealtStep w (singleStep x)) l each-le (rw (unfinished-same a s l, unfinished-same b s l, p, q) (omega arith))
+
+-- ---- what each event does to their number
+
+module _ {words : List ℕ} {places limit : ℕ} (w : Stands words places limit) (s : ℕ) where
+  take-count : unfinishedCount (reply wordIndex words (taking s) .next) ≤ unfinishedCount words
+  unfolding reply
+  take-count = count-le (w .related) (related-takes s (w .sound) (w .related) .next) (λ x. take-busy (w .table) s x)
+
+  still-count : answered wordIndex words (singleStep s) ≡ false → unfinishedCount (stepOf words s .words) ≤ unfinishedCount words
+  still-count e =
+      let v = settled-stands w in
+      let t = v .0 .table in
+      let next : Related (stepOf words s .words) t = rw (still-alike t s) at (stills s (v .0 .sound) (v .1) (v .0 .related) e .next) in
+      count-le (v .0 .related) next (λ x f. f)
+
+  answer-count : answered wordIndex words (singleStep s) ≡ true → 1 + unfinishedCount (stepOf words s .words) ≤ unfinishedCount words
+  unfolding busy
+  answer-count e =
+      let v = settled-stands w in
+      let t = v .0 .table in
+      let m = answers s (v .0 .sound) (v .1) (v .0 .related) e in
+      let f : Table = finished t s (m .call) (m .set) in
+      let step = answer-step t s (m .identity) (m .call) (m .set) (m .station) (m .is) in
+      let left = answer-busy t (own t (singleStep s) true) s (accept f) step refl in
+      count-less (v .0 .related) (m .matches .next) (λ x g. left x g .0) s (m .station) (ap busy (m .is)) (rests (busy (f .stations s)) (left s))
+    where
+      rests : (b : Bool) → {A : Type 0} → (b ≡ true → A × (¬ (s ≡ s))) → b ≡ false
+      rests false g = refl
+      rests true g = absurd (g refl .1 refl)
+
+-- ---- the run
+
+-- the steps, twice, that answer the calls of so many stations one after the other
+unfoldable drained : ℕ → ℕ → ℕ
+drained places zero = 0
+drained places (suc k) = 2 + 32 * places + drained places k
+
+-- with n left to the first of them
+abbrev drainedFrom : ℕ → ℕ → ℕ → ℕ
+drainedFrom places n zero = 0
+drainedFrom places n (suc k) = 2 + n + drained places k
+
+all-drained : (places k : ℕ) → drainedFrom places (32 * places) k ≡ drained places k
+unfolding drained
+all-drained places zero = refl
+all-drained places (suc k) = refl
+
+-- a step that does not answer, before others
+still-few : {words : List ℕ} {places limit n : ℕ} (s k rest : ℕ) → unfinishedCount words ≤ k → (f : Fallen words places limit n s) → 2 * rest ≤ drainedFrom places (f .fewer) k
+    → 2 * (dealtStep words (singleStep s) + rest) ≤ drainedFrom places n k
+still-few {words} s zero rest l f h = rw (count-none words s (omega (arith, l))) (omega (arith, h))
+still-few s (suc k) rest l f h = omega (arith, h, f .counted)
+
+-- the calls of k stations
+dealt-few : (run : List Event) {words : List ℕ} {places limit n : ℕ} → Within words places limit n → Undisturbed run → NobodySubmits words run → (k : ℕ) → unfinishedCount words ≤ k
+    → 2 * dealtSteps words run ≤ drainedFrom places n k
+unfolding dealtSteps reply
+dealt-few [] w d f k l = omega arith
+dealt-few (submission s kind p c ∷ run) {words} w d f k l =
+    let same = submit-refused words s kind p c (f .0) in
+    let rest : NobodySubmits words run = rw same at (f .1) in
+    rw same (omega (arith, dealt-few run w d rest k l))
+dealt-few (taking s ∷ run) {words} w d f k l =
+    let a = w .stands in
+    let v = reseats-within w (event-stands (taking s) a) s (take-reseats words (a .table .places) (a .table .limit) (a .related .opened) s) in
+    omega (arith, dealt-few run v d (f .1) k (omega (arith, take-count a s, l)))
+dealt-few (singleStep s ∷ run) {words} {places} {limit} {n} w d f k l = go (λ m v j. dealt-few run v d (f .1) j) (answered wordIndex words (singleStep s)) refl k l
+  where
+    go : ((m : ℕ) → Within (stepOf words s .words) places limit m → (j : ℕ) → unfinishedCount (stepOf words s .words) ≤ j → 2 * dealtSteps (stepOf words s .words) run ≤ drainedFrom places m j)
+        → (b : Bool) → answered wordIndex words (singleStep s) ≡ b → (k : ℕ) → unfinishedCount words ≤ k
+        → 2 * (dealtStep words (singleStep s) + dealtSteps (stepOf words s .words) run) ≤ drainedFrom places n k
+    go rest false e k l =
+        let x = step-falls s w e in
+        still-few s k (dealtSteps (stepOf words s .words) run) l x (rest (x .fewer) (x .within) k (omega (arith, still-count (w .stands) s e, l)))
+    go rest true e zero l = absurd (omega (arith, answer-count (w .stands) s e, l))
+    go rest true e (suc k) l =
+        let a : Stands (stepOf words s .words) places limit = event-stands (singleStep s) (w .stands) in
+        let x : Within (stepOf words s .words) places limit (32 * places) = record { stands = a; few = omega (arith, potential-most (a .related), a .places-same) } in
+        omega (arith, rest (32 * places) x k (omega (arith, answer-count (w .stands) s e, l)), all-drained places k, at-most-one words s)
+
+-- After every history, where nobody submits, at most 8 × (16 × places + 1) steps are dealt to stations with an unfinished call.
+pub everybody : (words : List ℕ) (places limit : ℕ) → openOf words places limit .number ≡ 0 → (evs run : List Event) → Undisturbed run
+    → NobodySubmits (after evs (openOf words places limit .words)) run → dealtSteps (after evs (openOf words places limit .words)) run ≤ 8 * (16 * places + 1)
+unfolding drained
+everybody words places limit e evs run d f =
+    let a = accepted words places limit e in
+    let v : Stands (after evs (openOf words places limit .words)) places limit = rw (a .opens) (history-related words places limit a evs) in
+    let w : Within (after evs (openOf words places limit .words)) places limit (32 * places) = record { stands = v; few = omega (arith, potential-most (v .related), v .places-same) } in
+    omega (arith, dealt-few run w d f 8 (count-most (after evs (openOf words places limit .words))))
