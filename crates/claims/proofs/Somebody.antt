@@ -49,7 +49,9 @@ one-answers words (singleStep s ∷ run) (inr x) = later (singleStep s) (one-ans
 one-answers words (singleStep s ∷ run) (inl e) =
     let a = eqb (stepOf words s .number) 0 in
     let b = eqb (numberOf (takeOf (stepOf words s .words) s)) 0 in
-    record { before = []; station = s; rest = run; splits = refl; accepted = eqb-true (stepOf words s .number) 0 (and-l a b e); answers = eqb-true (numberOf (takeOf (stepOf words s .words) s)) 0 (and-r a b e) }
+    let accepted = eqb-true (stepOf words s .number) 0 (and-l a b e) in
+    let answers = eqb-true (numberOf (takeOf (stepOf words s .words) s)) 0 (and-r a b e) in
+    record { before = []; station = s; rest = run; splits = refl; accepted = accepted; answers = answers }
 
 -- ---- the claims
 

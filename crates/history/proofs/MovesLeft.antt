@@ -108,28 +108,28 @@ pub potential-most : {words : List ℕ} {t : Table} (r : Related words t) → po
 unfolding potential
 potential-most {words} {t} r = omega (arith, sum-most 8 (4 * t .places) (λ u. movesLeft (t .places) (r .tree) (r .queue) (seatAt words u)) (λ u l. most-here r u l))
 
--- over one tree and one queue
+-- what is left over one tree and one queue, before an event and next
 module _ {v w : List ℕ} {t u : Table} (a : Related v t) (b : Related w u) (places : u .places ≡ t .places) (tree : b .tree ≡ a .tree) (queue : b .queue ≡ a .queue) where
   abbrev before : ℕ → ℕ
   before x = movesLeft (t .places) (a .tree) (a .queue) (seatAt v x)
 
-  abbrev since : ℕ → ℕ
-  since x = movesLeft (u .places) (b .tree) (b .queue) (seatAt w x)
+  abbrev next : ℕ → ℕ
+  next x = movesLeft (u .places) (b .tree) (b .queue) (seatAt w x)
 
   -- to a seat that stays as it was as much is left
-  pub seat-kept : (x : ℕ) → seatAt w x ≡ seatAt v x → since x ≡ before x
+  pub seat-kept : (x : ℕ) → seatAt w x ≡ seatAt v x → next x ≡ before x
   seat-kept x e = rw (places, tree, queue, e) refl
 
   -- where the other seats stay, all together have less by what one station has less
-  pub potential-less : (s by : ℕ) → s < 8 → ((x : ℕ) → x < 8 → x ≢ s → seatAt w x ≡ seatAt v x) → by + since s ≤ before s → by + potential b ≤ potential a
+  pub potential-less : (s by : ℕ) → s < 8 → ((x : ℕ) → x < 8 → x ≢ s → seatAt w x ≡ seatAt v x) → by + next s ≤ before s → by + potential b ≤ potential a
   unfolding potential
-  potential-less s by l others own = sum-less 8 s by before since l (λ x k. each x k (ℕ-discrete x s)) own
+  potential-less s by l others own = sum-less 8 s by before next l (λ x k. each x k (ℕ-discrete x s)) own
     where
-      each : (x : ℕ) → x < 8 → Dec (x ≡ s) → since x ≤ before x
-      each x k (yes e) = subst (λ (y : ℕ). since y ≤ before y) (sym e) (omega (arith, own))
+      each : (x : ℕ) → x < 8 → Dec (x ≡ s) → next x ≤ before x
+      each x k (yes e) = subst (λ (y : ℕ). next y ≤ before y) (sym e) (omega (arith, own))
       each x k (no d) = omega (arith, seat-kept x (others x k d))
 
   -- where every seat stays, as much is left
   pub potential-kept : ((x : ℕ) → x < 8 → seatAt w x ≡ seatAt v x) → potential b ≤ potential a
   unfolding potential
-  potential-kept same = sum-le 8 before since (λ x l. omega (arith, seat-kept x (same x l)))
+  potential-kept same = sum-le 8 before next (λ x l. omega (arith, seat-kept x (same x l)))

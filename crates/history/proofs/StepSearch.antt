@@ -220,8 +220,11 @@ search-outcome {words} {t} {s} {i} {n} {p} {a} h l q r =
     go : (work : Searching t (r .related .tree) (r .related .queue) (seatAt words s) i p (some a)) → searchLeft (work .search) ≤ n → (b : Bool) → isFinished sought ≡ b
         → Outcome (r .related) s (nearest p) (some a) n (searchTo words s (callAt words s) sought)
     go work few true e =
-        outcome-of h l q (r .related) work sought n (seek-keeps (r .related .store) words (r .related .reads) (callAt words s) (get words (atSince s)) (λ e. List·Memᴰ e (work .entries)) start n (begins h l q (r .related) work n few)) n (inr e)
+        let held : Entry → Type 0 = (λ d. List·Memᴰ d (work .entries)) in
+        let v = seek-keeps (r .related .store) words (r .related .reads) (callAt words s) (get words (atSince s)) held start n (begins h l q (r .related) work n few) in
+        outcome-of h l q (r .related) work sought n v n (inr e)
     go work few false e =
+        let held : Entry → Type 0 = (λ d. List·Memᴰ d (work .entries)) in
         let f : isFinished start ≡ false = seek-unfinished words (2 * t .places) (callAt words s) start e in
-        let x = seek-two (r .related .store) words (r .related .reads) (callAt words s) (get words (atSince s)) (λ e. List·Memᴰ e (work .entries)) start n f e (begins h l q (r .related) work n few) in
+        let x = seek-two (r .related .store) words (r .related .reads) (callAt words s) (get words (atSince s)) held start n f e (begins h l q (r .related) work n few) in
         outcome-of h l q (r .related) work sought (x .0) (x .2) n (inl (x .1))

@@ -11,7 +11,7 @@ use Rattle.table.specs.Event.{Event, submission, singleStep, taking}
 use Rattle.table.specs.History.{reply, answered}
 use Rattle.history.specs.Index.{wordIndex}
 
--- the most such steps that may come one after another and answer nobody
+-- how many steps dealt to stations with an unfinished call may come one after another and answer nobody
 abbrev pub mostUnanswered : ℕ → ℕ
 mostUnanswered places = 16 * places
 
@@ -38,13 +38,13 @@ abbrev pub SomeAnswered : List ℕ → List Event → Type 0
 SomeAnswered words [] = ⊥
 SomeAnswered words (ev ∷ evs) = (answered wordIndex words ev ≡ true) ⊎ SomeAnswered (reply wordIndex words ev .next) evs
 
--- the event is no submission that is accepted
+-- the event is no submission, or one that is refused
 abbrev pub NotSubmitted : List ℕ → Event → Type 0
 NotSubmitted words (submission s kind p c) = ¬ (submitOf words s kind p c .number ≡ 0)
 NotSubmitted words (singleStep s) = Unit {0}
 NotSubmitted words (taking s) = Unit {0}
 
--- none of the events is
+-- no submission among the events is accepted
 abbrev pub NobodySubmits : List ℕ → List Event → Type 0
 NobodySubmits words [] = Unit {0}
 NobodySubmits words (ev ∷ evs) = NotSubmitted words ev × NobodySubmits (reply wordIndex words ev .next) evs
