@@ -1,5 +1,5 @@
--- The work of one step of a nearest call over words: no row is refused, and the invariant of the search is kept (`seek-keeps`), and a step
--- that does not finish leaves two fewer (`seek-two`).
+-- The work of one step of a nearest call over words: no row is refused and the invariant of the search is kept (`seek-keeps`); where the search goes on,
+-- two fewer are left (`seek-two`).
 use Prim.Native.Nat.{ℕ, _+_, _*_, _≤_, _<_}
 use mathlib.Core.Path.{_≡_, sym, ap, _∙_, subst}
 use mathlib.Core.Logic.{_≢_, _⊎_, inl, inr}
@@ -59,7 +59,7 @@ module _ {places : ℕ} {h : Heap} {t : Option Tree} {q : List Free} {changes re
     abbrev Here : WordProgress → ℕ → Type 0
     Here p most = Seeks call since Then t q changes removals p most
 
-    -- so many fewer than these
+    -- what is left is less than `most` by so many
     abbrev Fewer : ℕ → ℕ → WordProgress → Type 0
     Fewer by most p = (m : ℕ) × (by + m ≤ most) × Here p m
 
