@@ -12,9 +12,9 @@ abbrev pub answer : ℕ → Point → ℕ → ℕ → Answer
 answer code point curve square = record { code = code; point = point; curve = curve; square = square }
 
 -- the call of station s stands nowhere
-unfoldable pub withdrawn : List ℕ → ℕ → List ℕ
-withdrawn words s = putMissed (putSince (putPlace words s NONE 0) s NONE) s NONE
+unfoldable pub letGo : List ℕ → ℕ → List ℕ
+letGo words s = putMissed (putSince (putPlace words s NONE 0) s NONE) s NONE
 
 -- the answer waits at station s
 unfoldable pub answeredWords : List ℕ → ℕ → Answer → List ℕ
-answeredWords words s a = withdrawn (putState (putAnswer words s a) s (answered (stateAt words s))) s
+answeredWords words s a = letGo (putState (putAnswer words s a) s (answered (stateAt words s))) s

@@ -8,11 +8,11 @@ use rows::station::write_place;
 use rows::station::write_since;
 use rows::station::write_state;
 ghost use mathlib.Core.Path.{_≡_};
-ghost use Rattle.moves.specs.Answer.{withdrawn, answeredWords};
+ghost use Rattle.moves.specs.Answer.{letGo, answeredWords};
 
 // The call of station s stands nowhere.
-fn withdraw(words: &mut [u32], s: u32)
-    ensures { λ _. ⌜ now (words .exit) ≡ withdrawn (now (words .entry)) s ⌝ }
+fn let_go(words: &mut [u32], s: u32)
+    ensures { λ _. ⌜ now (words .exit) ≡ letGo (now (words .entry)) s ⌝ }
 {
     write_place(words, s, NONE, 0);
     write_since(words, s, NONE);
@@ -20,11 +20,11 @@ fn withdraw(words: &mut [u32], s: u32)
 }
 
 // The answer waits at station s.
-pub(crate) fn write_answered(words: &mut [u32], s: u32, answer: Answer)
+pub fn write_answered(words: &mut [u32], s: u32, answer: Answer)
     ensures { λ _. ⌜ now (words .exit) ≡ answeredWords (now (words .entry)) s answer ⌝ }
 {
     let state = read_state(words, s);
     write_answer(words, s, answer);
     write_state(words, s, state.answered());
-    withdraw(words, s);
+    let_go(words, s);
 }

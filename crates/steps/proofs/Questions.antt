@@ -7,8 +7,10 @@ use lib.Dec.{eqb, ltb}
 use Rattle.points.specs.declared.point.Point.{Point}
 use Rattle.points.specs.Point.{inRange}
 use Rattle.rows.specs.Common.{openedIn}
-use Rattle.rows.specs.Station.{isIdle, stateAt}
-use Rattle.moves.specs.Reply.{Reply, replied, done, ask, pickReply, isOpened}
+use Rattle.rows.specs.Station.{isIdle, isUnfinished, stateAt}
+use Rattle.rows.specs.Call.{callAt}
+use Rattle.moves.specs.Reply.{Reply, replied, done, ask, refused, pickReply, isOpened, rowsIn}
+use Rattle.steps.specs.Step.{recordsSound, fieldsSound, firstFailed, askUnfinished}
 use Rattle.steps.specs.Submit.{kindIn, curveFits, callQuestion, submitQuestion, submittedWords, submitOf}
 
 -- no question failed and the call leaves the words after, or one did and it leaves those before
@@ -35,3 +37,29 @@ submit-settled words s kind point curve =
     go true true true true false f = refl
     go true true true true true false = refl
     go true true true true true true = refl
+
+-- ## The questions about an unfinished call
+
+-- the number of the first that fails, or 0
+abbrev pub failedIn : List ℕ → ℕ → ℕ
+failedIn words s = firstFailed words (rowsIn words) s (callAt words s)
+
+-- asked one after the other, they refuse with that number
+asked : (words : List ℕ) (s : ℕ) (reply : Reply) → askUnfinished words s reply ≡ pickReply (eqb (failedIn words s) 0) reply (refused (failedIn words s) words)
+unfolding recordsSound firstFailed fieldsSound
+asked words s reply = go (isOpened (openedIn words)) (ltb s 8) (isUnfinished (stateAt words s)) (recordsSound words s)
+  where
+    go : (a b d e : Bool)
+        → ask a 4 words (ask b 5 words (ask d 10 words (ask e 11 words reply)))
+        ≡ pickReply (eqb (cond a (cond b (cond d (cond e 0 11) 10) 5) 4) 0) reply (refused (cond a (cond b (cond d (cond e 0 11) 10) 5) 4) words)
+    go true true true true = refl
+    go true true true false = refl
+    go true true false e = refl
+    go true false d e = refl
+    go false b d e = refl
+
+pub passes : (words : List ℕ) (s n : ℕ) (reply : Reply) → failedIn words s ≡ n → n ≡ 0 → reply ≡ askUnfinished words s reply
+passes words s n reply e z = rw (asked words s reply, e, z) refl
+
+pub refuses : (words : List ℕ) (s n : ℕ) (reply : Reply) → failedIn words s ≡ n → eqb n 0 ≡ false → refused n words ≡ askUnfinished words s reply
+refuses words s n reply e z = rw (asked words s reply, e, z) refl

@@ -6,3 +6,4 @@ pub mod Report
 pub mod Run
 pub mod Held
 pub mod Audit
+pub mod Withdraw

@@ -32,8 +32,11 @@ firstFailed words rows s call =
 abbrev pub workOf : List ℕ → ℕ → ℕ → Call → Reply
 workOf words rows s call = pickReply (eqb (call .kind) 4) (searchOf words rows s call) (walkOf words rows s call)
 
-unfoldable pub stepOf : List ℕ → ℕ → Reply
-stepOf words s =
+-- the questions about the unfinished call of station s, and then the reply
+abbrev pub askUnfinished : List ℕ → ℕ → Reply → Reply
+askUnfinished words s reply =
     ask (isOpened (openedIn words)) 4 words
-    (ask (ltb s 8) 5 words
-    (ask (isUnfinished (stateAt words s)) 10 words (ask (recordsSound words s) 11 words (workOf words (rowsIn words) s (callAt words s)))))
+    (ask (ltb s 8) 5 words (ask (isUnfinished (stateAt words s)) 10 words (ask (recordsSound words s) 11 words reply)))
+
+unfoldable pub stepOf : List ℕ → ℕ → Reply
+stepOf words s = askUnfinished words s (workOf words (rowsIn words) s (callAt words s))

@@ -1,4 +1,4 @@
-// The calls on an index: opening, submission, step, run, taking, report and audit, each in a module of its own.
+// The calls on an index: opening, submission, step, run, taking, withdrawal, report and audit, each in a module of its own.
 pub mod audit;
 pub mod open;
 pub mod report;
@@ -6,3 +6,4 @@ pub mod run;
 pub mod step;
 pub mod submit;
 pub mod take;
+pub mod withdraw;

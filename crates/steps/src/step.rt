@@ -24,7 +24,7 @@ fn records_sound(words: &[u32], rows: u32, call: Call) -> bool
 }
 
 // The number of the first question that fails, or 0.
-fn first_failed(words: &[u32], rows: u32, s: u32, call: Call) -> u32
+pub(crate) fn first_failed(words: &[u32], rows: u32, s: u32, call: Call) -> u32
     ensures { λ r. ⌜ r ≡ firstFailed (now (words .entry)) rows s call ⌝ }
 {
     let sound = pick(records_sound(words, rows, call), 0, 11);

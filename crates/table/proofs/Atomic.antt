@@ -10,13 +10,14 @@ use native.Mathlib.Decide.{decLt}
 use lib.Dec.{eqb, ltb}
 use borrow.Author.Tests.{ltb-true}
 use Rattle.points.specs.declared.point.Point.{Point}
-use Rattle.table.specs.Call.{Call, add, remove, contains, nearest, isSearch, Answer}
+use Rattle.table.specs.Call.{Call, add, remove, contains, nearest, isSearch, Answer, withdrawnAnswer}
 use Rattle.table.specs.Table.{Station, idle, unfinished, waiting, Table, eight, opened, put, withStations, searching, taken, answerOf, changedIf}
 use Rattle.table.specs.Event.{singleStep, Reply, ask, refuse, accept, submit, setDown, takeAt, take}
 use Rattle.table.specs.History.{Index, answered, Agree, Linear}
 use Rattle.table.proofs.Stations.{put-cases, put-each, put-same, searches-same}
 use Rattle.table.proofs.Sound.{Sound}
 use Rattle.table.proofs.Trim.{search-quiet}
+use Rattle.table.proofs.Retract.{retract, retract-all}
 use Rattle.table.proofs.Eager.{fresh, Settled}
 use Rattle.table.proofs.Simulation.{stillAt, still, finished, Matches, Finishes, Simulation, simulation-linear}
 
@@ -43,7 +44,7 @@ unfoldable pub stepAtomic : Table → ℕ → Reply Table
 stepAtomic t s = ask (ltb s 8) 5 t (stepAtomicAt t s (t .stations s))
 
 abbrev pub atomic : Index
-atomic = record { State = Table; submit = submitAtomic; step = stepAtomic; take = take; held = λ t. t .held; taken = taken }
+atomic = record { State = Table; submit = submitAtomic; step = stepAtomic; take = take; withdraw = retract; held = λ t. t .held; taken = taken }
 
 -- the index is the table with every search worked out
 abbrev R : Table → Table → Type 0
@@ -181,6 +182,14 @@ module _ (t : Table) (d : (u : ℕ) → fresh (t .stations u) ≡ false) where
       go (unfinished i c o) = same 12
       go (waiting a) = record { number = refl; given = refl; next = settled-worked (withStations t (put (t .stations) s idle)) (put-settled t s idle refl d) }
 
+  retracted : (s : ℕ) → Match (retract t s) (retract t s)
+  unfolding fresh
+  retracted s = retract-all (λ r. Match r r) t s (same 5) (same 10) (λ l i c o q. record {
+    number = refl;
+    given = refl;
+    next = settled-worked (withStations t (put (t .stations) s (waiting (withdrawnAnswer c)))) (put-settled t s (waiting (withdrawnAnswer c)) refl d);
+  })
+
   finished-match : (s : ℕ) (c : Call) (o : Option Answer) → Match (accept (finished t s c o)) (accept (finished t s c o))
   unfolding finished fresh
   finished-match s c (some a) = record { number = refl; given = refl; next = settled-worked (finished t s c (some a)) (put-settled t s (waiting a) refl d) }
@@ -240,6 +249,7 @@ atomic-simulation places limit = record {
   settles = λ {st} {t} {s} {i} {c} k l g e h. h ∙ settles t s i c g e;
   submits = λ {st} {t} s kind p c k d h. rw (is-table st t k d h) (record { number = refl; given = refl; next = refl });
   takes = λ {st} {t} s k d h. rw (is-table st t k d h) (took t (settled-all t k d) s);
+  withdraws = λ {st} {t} s k d h. rw (is-table st t k d h) (retracted t (settled-all t k d) s);
   stills = λ {st} {t} s k d h a. rw (is-table st t k d h) (stills t (settled-all t k d) s (rw (is-table st t k d h) at a));
   answers = λ {st} {t} s k d h a. rw (is-table st t k d h) (answers t (settled-all t k d) s (rw (is-table st t k d h) at a));
 }

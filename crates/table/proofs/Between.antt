@@ -3,7 +3,7 @@
 -- every call as it is that it does not answer (`perform-stays`).
 use mathlib.Core.Path.{_≡_, refl, sym, _∙_, ap}
 use mathlib.Core.Logic.{_⊎_, inl, inr}
-use mathlib.Core.Bool.{Bool, true, false, false≢true}
+use mathlib.Core.Bool.{Bool, true, false, false≢true, true≢false}
 use mathlib.Core.Option.{Option, none, some, Option·none-ne-some, Option·some-injective}
 use mathlib.Core.List.{List, [], _∷_}
 use Prim.Native.Nat.{ℕ}
@@ -14,10 +14,10 @@ use Rattle.points.specs.declared.point.Point.{Point}
 use Rattle.points.specs.Point.{inRange}
 use Rattle.table.specs.Call.{Call, callOf, kindInRange, Answer, isChange}
 use Rattle.table.specs.Table.{Station, idle, unfinished, waiting, Table, put, withStations, answerOf, changedIf}
-use Rattle.table.specs.Event.{Event, submission, singleStep, taking, Reply, accept, refuse, isIdle, curveFits, enter, submit, setDown, ownStep, mayFall, moment, stepAt, step, takeAt, take, perform, moments}
+use Rattle.table.specs.Event.{Event, submission, singleStep, taking, withdrawal, Reply, accept, refuse, isIdle, curveFits, enter, submit, setDown, ownStep, mayFall, moment, stepAt, step, takeAt, take, withdraw, ownWithdrawal, perform, moments}
 use Rattle.table.proofs.Stations.{put-other}
 use Rattle.table.proofs.Moments.{Moment, moment-is, moments-keep, moment-own, moment-other}
-use Rattle.table.proofs.Reached.{ask-all}
+use Rattle.table.proofs.Reached.{ask-all, withdraw-all}
 
 -- the answer set down at a station
 unfoldable setAt : Station → Option Answer
@@ -50,6 +50,7 @@ unfolding ownStep
 own-one (submission v kind p c) s u e f = absurd (false≢true e)
 own-one (singleStep v) s u e f = sym (eqb-true v s e) ∙ eqb-true v u f
 own-one (taking v) s u e f = absurd (false≢true e)
+own-one (withdrawal v) s u e f = absurd (false≢true e)
 
 -- once the own call of a step has its answer set down, the held records stay
 done-held : (ev : Event) (ms : List ℕ) (t u : Table) (s i : ℕ) (c : Call) (a : Answer) → ownStep ev s ≡ true → t .stations s ≡ unfinished i c (some a)
@@ -132,6 +133,7 @@ perform-held t (taking s) answers r e =
     go idle = refl
     go (unfinished i c o) = refl
     go (waiting a) = refl
+perform-held t (withdrawal s) answers r e = withdraw-all (λ q. q .next .held ≡ t .held) t s r refl refl (λ l i c o b q. refl) e
 perform-held t (singleStep s) answers r e = go (ltb s 8) answers (t .stations s) e
   where
     go : (b answers : Bool) (x : Station) → stepAt t s b answers x ≡ some r → r .next .held ≡ t .held
@@ -188,8 +190,9 @@ module _ (t : Table) (s i : ℕ) (c : Call) (o : Option Answer) (e : t .stations
       go true true n (unfinished j k (some a)) d =
           is (accept (withStations t (put (t .stations) v (waiting a)))) (other v (waiting a) (λ z. false≢true (sym (n (eq-eqb v s (sym z)))))) d
 
-  pub perform-stays : (ev : Event) (answers : Bool) (r : Reply Table) → (ownStep ev s ≡ true → answers ≡ false) → perform t ev answers ≡ some r → Stays r
-  unfolding perform
-  perform-stays (submission v kind p d) answers r n q = rw (Option·some-injective _ _ q) at (submit-stays v kind p d)
-  perform-stays (singleStep v) answers r n q = step-stays v answers r n q
-  perform-stays (taking v) answers r n q = rw (Option·some-injective _ _ q) at (take-stays v)
+  pub perform-stays : (ev : Event) (answers : Bool) (r : Reply Table) → (ownStep ev s ≡ true → answers ≡ false) → ownWithdrawal ev s ≡ false → perform t ev answers ≡ some r → Stays r
+  unfolding perform ownWithdrawal
+  perform-stays (submission v kind p d) answers r n m q = rw (Option·some-injective _ _ q) at (submit-stays v kind p d)
+  perform-stays (singleStep v) answers r n m q = step-stays v answers r n q
+  perform-stays (taking v) answers r n m q = rw (Option·some-injective _ _ q) at (take-stays v)
+  perform-stays (withdrawal v) answers r n m q = withdraw-all Stays t v r e e (λ l j d u b w. other v (waiting b) (λ z. true≢false (sym (eq-eqb v s (sym z)) ∙ m))) q

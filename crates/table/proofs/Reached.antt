@@ -12,9 +12,9 @@ use lib.Dec.{ltb}
 use borrow.Author.Tests.{ltb-true}
 use Rattle.points.specs.declared.point.Point.{Point}
 use Rattle.points.specs.Point.{inRange}
-use Rattle.table.specs.Call.{Call, callOf, kindInRange, Answer}
+use Rattle.table.specs.Call.{Call, callOf, kindInRange, Answer, isChange, withdrawnAnswer}
 use Rattle.table.specs.Table.{Station, idle, unfinished, waiting, Table, eight, opened, put, withStations, searching, searches, holding, taken}
-use Rattle.table.specs.Event.{Event, submission, singleStep, taking, Reply, accept, refuse, ask, isIdle, curveFits, enter, submit, stepAt, step, takeAt, take, perform, feed}
+use Rattle.table.specs.Event.{Event, submission, singleStep, taking, withdrawal, Reply, accept, refuse, ask, isIdle, curveFits, enter, submit, stepAt, step, takeAt, take, replyIf, withdrawAt, withdraw, perform, feed}
 use Rattle.table.proofs.Stations.{put-cases, put-each, identityOf, searches-in, searches-out}
 use Rattle.table.proofs.Removals.{since-new, numbered-new, holding-le}
 use Rattle.table.proofs.Moments.{Moment, moments-keep, feed-inv}
@@ -133,11 +133,37 @@ sound-step t s answers r h = go (ltb s 8) refl answers (t .stations s)
     go true l true (unfinished i c none) e = absurd (Option·none-ne-some r e)
     go true l true (unfinished i c (some a)) e = is (accept (withStations t (put (t .stations) s (waiting a)))) (sound-wait t s a (ltb-true s 8 l) h) e
 
+-- what holds of a refusal, and of an answer that waits in the place of an unfinished call, holds of a withdrawal's reply
+pub withdraw-all : (P : Reply Table → Type 0) (t : Table) (s : ℕ) (r : Reply Table) → P (refuse 5 t) → P (refuse 10 t)
+    → (s < 8 → (i : ℕ) (c : Call) (o : Option Answer) (b : Answer) → t .stations s ≡ unfinished i c o → P (accept (withStations t (put (t .stations) s (waiting b)))))
+    → withdraw t s ≡ some r → P r
+unfolding withdraw withdrawAt replyIf
+withdraw-all P t s r five ten waits = go (ltb s 8) refl (t .stations s) refl
+  where
+    is : (q : Reply Table) → P q → _≡_ {A = Option (Reply Table)} (some q) (some r) → P r
+    is q g d = rw (Option·some-injective _ _ d) at g
+
+    only : (b : Bool) (q : Reply Table) → P q → replyIf b q ≡ some r → P r
+    only true q g e = is q g e
+    only false q g e = absurd (Option·none-ne-some r e)
+
+    go : (b : Bool) → ltb s 8 ≡ b → (x : Station) → t .stations s ≡ x → withdrawAt t s b x ≡ some r → P r
+    go false l x q e = is (refuse 5 t) five e
+    go true l idle q e = is (refuse 10 t) ten e
+    go true l (waiting a) q e = is (refuse 10 t) ten e
+    go true l (unfinished i c none) q e =
+        is (accept (withStations t (put (t .stations) s (waiting (withdrawnAnswer c))))) (waits (ltb-true s 8 l) i c none (withdrawnAnswer c) q) e
+    go true l (unfinished i c (some a)) q e = only (isChange a) (accept (withStations t (put (t .stations) s (waiting a)))) (waits (ltb-true s 8 l) i c (some a) a q) e
+
+pub sound-withdraw : (t : Table) (s : ℕ) (r : Reply Table) → Sound t → withdraw t s ≡ some r → Sound (r .next)
+sound-withdraw t s r h = withdraw-all (λ q. Sound (q .next)) t s r h h (λ l i c o b e. sound-wait t s b l h)
+
 pub sound-perform : (t : Table) (ev : Event) (answers : Bool) (r : Reply Table) → Sound t → perform t ev answers ≡ some r → Sound (r .next)
 unfolding perform
 sound-perform t (submission s kind p c) answers r h e = subst (λ (q : Reply Table). Sound (q .next)) (Option·some-injective _ _ e) (sound-submit t s kind p c h)
 sound-perform t (singleStep s) answers r h e = sound-step t s answers r h e
 sound-perform t (taking s) answers r h e = subst (λ (q : Reply Table). Sound (q .next)) (Option·some-injective _ _ e) (sound-take t s h)
+sound-perform t (withdrawal s) answers r h e = sound-withdraw t s r h e
 
 -- ## Moments
 

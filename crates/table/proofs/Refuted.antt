@@ -1,5 +1,6 @@
--- Demand 3 says something: it is not met by an index that refuses everybody, by one that answers always 6, nor by one whose search comes back with a
--- removed record while a nearer one is held throughout. Each is refuted by one short history, whatever the moments.
+-- Demand 3 says something: it is not met by an index that refuses everybody, by one that answers always 6, by one whose search comes back with a removed
+-- record while a nearer one is held throughout, by one that answers a withdrawn search after all, nor by one where a withdrawn search keeps its places. Each
+-- is refuted by one short history, whatever the moments.
 use mathlib.Core.Path.{_≡_, refl, sym, _∙_}
 use mathlib.Core.Bool.{Bool, true, false, not, false≢true}
 use mathlib.Core.Option.{Option, none, some}
@@ -8,10 +9,11 @@ use Prim.Native.Nat.{ℕ}
 use lib.Dec.{eqb}
 use Rattle.points.specs.declared.point.Point.{Point}
 use Rattle.table.specs.Record.{Record, curveAt}
-use Rattle.table.specs.Call.{add, remove, contains, nearest, Answer, answer, nearestAnswer}
-use Rattle.table.specs.Table.{Station, idle, unfinished, waiting, Table, opened, taken}
-use Rattle.table.specs.Event.{Event, submission, singleStep, taking, Reply, submit, take}
+use Rattle.table.specs.Call.{add, remove, contains, nearest, Answer, answer, nearestAnswer, withdrawnAnswer}
+use Rattle.table.specs.Table.{Station, idle, unfinished, waiting, Table, opened, put, withStations, taken}
+use Rattle.table.specs.Event.{Event, submission, singleStep, taking, withdrawal, Reply, submit, take}
 use Rattle.table.specs.History.{Index, reply, answered, Linear}
+use Rattle.table.proofs.Retract.{retract}
 use Rattle.table.proofs.Simulation.{finished}
 use Rattle.table.proofs.Play.{Said}
 use Rattle.table.proofs.Placements.{everyPlay, tell, lastOf, linear-play}
@@ -34,6 +36,7 @@ deaf = record {
   submit = λ st s kind p c. replyWith 6 none tt;
   step = λ st s. replyWith 10 none tt;
   take = λ st s. replyWith 12 none tt;
+  withdraw = λ st s. replyWith 10 none tt;
   held = λ st. [];
   taken = λ st. 0;
 }
@@ -70,19 +73,20 @@ alwaysSix = record {
   submit = λ st s kind p c. replyWith 0 none (asked p);
   step = λ st s. stepSix st;
   take = λ st s. takeSix st;
+  withdraw = λ st s. stepSix st;
   held = λ st. [];
   taken = λ st. 0;
 }
 
--- an answer other than 6
-unfoldable pub otherThanSix : Said → Bool
-otherThanSix (n, none) = false
-otherThanSix (n, some a) = not (eqb (a .code) 6)
+-- an answer of another code
+unfoldable pub otherThan : ℕ → Said → Bool
+otherThan code (n, none) = false
+otherThan code (n, some a) = not (eqb (a .code) code)
 
 -- an add alone
 pub always-six-not-linear : ¬ Linear alwaysSix resting 1 1
-unfolding runEvery tell lastOf reply answered otherThanSix stepSix takeSix
-always-six-not-linear = not-linear alwaysSix resting 1 1 otherThanSix (submission 0 1 p 41 ∷ singleStep 0 ∷ taking 0 ∷ []) (0, some (answer 6 p 0 0)) refl refl refl
+unfolding runEvery tell lastOf reply answered otherThan stepSix takeSix
+always-six-not-linear = not-linear alwaysSix resting 1 1 (otherThan 6) (submission 0 1 p 41 ∷ singleStep 0 ∷ taking 0 ∷ []) (0, some (answer 6 p 0 0)) refl refl refl
 
 -- ## Its search comes back with a removed record
 
@@ -121,6 +125,7 @@ cache = record {
   submit = λ st s kind p c. onCache (st .lost) (submit (st .table) s kind p c);
   step = λ st s. stepCache st s (st .table .stations s);
   take = λ st s. onCache (st .lost) (take (st .table) s);
+  withdraw = λ st s. onCache (st .lost) (retract (st .table) s);
   held = λ st. st .table .held;
   taken = λ st. taken (st .table);
 }
@@ -134,3 +139,59 @@ removedMeanwhile =
 pub cache-not-linear : ¬ Linear cache (record { table = opened 2 10; lost = none }) 2 10
 unfolding runEvery tell lastOf reply answered notM stepCache searched lose finished
 cache-not-linear = not-linear cache (record { table = opened 2 10; lost = none }) 2 10 notM removedMeanwhile (0, some (answer 8 m 41 10_000)) refl refl refl
+
+-- ## It answers a withdrawn search after all
+
+-- every call is answered at its first step, as the table would, and so it is by its withdrawal
+unfoldable pub hurry : Table → ℕ → Station → Reply Table
+hurry t s idle = replyWith 10 none t
+hurry t s (waiting a) = replyWith 10 none t
+hurry t s (unfinished i c o) = replyWith 0 none (finished t s c o)
+
+abbrev pub hasty : Index
+hasty = record {
+  State = Table;
+  submit = submit;
+  step = λ t s. hurry t s (t .stations s);
+  take = take;
+  withdraw = λ t s. hurry t s (t .stations s);
+  held = λ t. t .held;
+  taken = taken;
+}
+
+-- m is added; a search is submitted and withdrawn; it gives m
+abbrev pub withdrawnThen : List Event
+withdrawnThen = submission 0 1 m 41 ∷ singleStep 0 ∷ submission 1 4 target 0 ∷ withdrawal 1 ∷ taking 1 ∷ []
+
+pub hasty-not-linear : ¬ Linear hasty (opened 2 10) 2 10
+unfolding runEvery tell lastOf reply answered otherThan hurry finished
+hasty-not-linear = not-linear hasty (opened 2 10) 2 10 (otherThan 8) withdrawnThen (0, some (answer 8 m 41 10_000)) refl refl refl
+
+-- ## Its withdrawn search keeps its places
+
+-- the search goes on at station 7
+unfoldable pub cling : Table → ℕ → Station → Reply Table
+cling t s idle = replyWith 10 none t
+cling t s (waiting a) = replyWith 10 none t
+cling t s (unfinished i c o) = replyWith 0 none (withStations t (put (put (t .stations) s (waiting (withdrawnAnswer c))) 7 (unfinished i c o)))
+
+abbrev pub clinging : Index
+clinging = record {
+  State = Table;
+  submit = submit;
+  step = λ t s. hurry t s (t .stations s);
+  take = take;
+  withdraw = λ t s. cling t s (t .stations s);
+  held = λ t. t .held;
+  taken = taken;
+}
+
+-- one place: m is added; a search is submitted; m is removed; the search is withdrawn; p finds no place
+abbrev pub placeKept : List Event
+placeKept =
+    submission 0 1 m 41 ∷ singleStep 0 ∷ taking 0 ∷ submission 1 4 target 0 ∷ submission 0 2 m 0 ∷ singleStep 0 ∷ taking 0
+    ∷ withdrawal 1 ∷ submission 0 1 p 42 ∷ singleStep 0 ∷ taking 0 ∷ []
+
+pub clinging-not-linear : ¬ Linear clinging (opened 1 10) 1 10
+unfolding runEvery tell lastOf reply answered otherThan hurry cling finished
+clinging-not-linear = not-linear clinging (opened 1 10) 1 10 (otherThan 3) placeKept (0, some (answer 3 p 0 0)) refl refl refl

@@ -15,7 +15,7 @@ use Rattle.points.specs.Point.{inRange}
 use Rattle.table.specs.Record.{nearestOf}
 use Rattle.table.specs.Call.{Call, nearest, callOf, kindInRange, Answer, nearestAnswer}
 use Rattle.table.specs.Table.{Station, idle, unfinished, waiting, Table, opened, answerOf}
-use Rattle.table.specs.Event.{Event, submission, singleStep, Reply, ask, isIdle, curveFits, enter, submit, ownStep, moments, takeAt, take, perform}
+use Rattle.table.specs.Event.{Event, submission, singleStep, Reply, ask, isIdle, curveFits, enter, submit, ownStep, ownWithdrawal, moments, takeAt, take, perform}
 use Rattle.table.specs.History.{Index, reply, after, wouldGive, answered, Agree, effects, Follows, Linear}
 use Rattle.table.proofs.Tests.{and-left}
 use Rattle.table.proofs.Nearest.{nearest-same}
@@ -27,7 +27,7 @@ use Rattle.table.proofs.Between.{sets-stay, between, perform-held, perf
 
 -- ## Of the table
 
-take-given : (t : Table) (s : ℕ) (a : Answer) → take t s .given ≡ some a → t .stations s ≡ waiting a
+pub take-given : (t : Table) (s : ℕ) (a : Answer) → take t s .given ≡ some a → t .stations s ≡ waiting a
 unfolding take takeAt
 take-given t s a = go (ltb s 8) (t .stations s) refl
   where
@@ -65,10 +65,10 @@ module _ (I : Index) where
   Sometime P st [] = P st
   Sometime P st (ev ∷ evs) = P st ⊎ Sometime P (reply I st ev .next) evs
 
-  -- no step of these events answers the station
+  -- no step of these events answers the station, and no withdrawal is its own
   abbrev pub Unanswered : ℕ → State → List Event → Type 0
   Unanswered s st [] = Unit
-  Unanswered s st (ev ∷ evs) = (ownStep ev s ≡ true → answered I st ev ≡ false) × Unanswered s (reply I st ev .next) evs
+  Unanswered s st (ev ∷ evs) = ((ownStep ev s ≡ true → answered I st ev ≡ false) × (ownWithdrawal ev s ≡ false)) × Unanswered s (reply I st ev .next) evs
 
   -- a is the answer of a search for q among the records that the index holds
   abbrev pub Right : Point → Answer → State → Type 0
@@ -158,7 +158,7 @@ module _ (I : Index) where
       let z : Agree I next (r .next) = follows-agree (effects I did st ev) (during ++ (singleStep s ∷ [])) mss next (r .next) (h .1 .2) in
       let v = feed-inv t ms ev (answered I st ev) r (c .defined) in
       let m = meanwhile q s i o st t (v .0) ms ev r next (h .0) z e (v .1) (perform-held (v .0) ev (answered I st ev) r (v .2)) in
-      let y = perform-stays (v .0) s i (nearest q) (m .0) (m .1) ev (answered I st ev) r (n .0) (v .2) in
+      let y = perform-stays (v .0) s i (nearest q) (m .0) (m .1) ev (answered I st ev) r (n .0 .0) (n .0 .1) (v .2) in
       let ih = search-rest q s i a during (effects I did st ev) mss next (r .next) (m .0) (h .1 .2) y (n .1) f g in
       more next (m .0) (m .2) ih
     where

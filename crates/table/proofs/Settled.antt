@@ -6,17 +6,19 @@ use mathlib.Core.Bool.{Bool, true, false, false≢true}
 use mathlib.Core.Option.{Option, none, some, Option·none-ne-some, Option·some-injective}
 use mathlib.Core.List.{List, [], _∷_}
 use Prim.Native.Nat.{ℕ, _<_}
+use native.Mathlib.Omega.{arith}
 use native.Mathlib.Decide.{ℕ-discrete}
 use lib.Dec.{ltb}
 use Rattle.points.specs.declared.point.Point.{Point}
 use Rattle.points.specs.Point.{inRange}
-use Rattle.table.specs.Call.{Call, callOf, kindInRange, isSearch, Answer}
+use Rattle.table.specs.Call.{Call, callOf, kindInRange, isSearch, Answer, withdrawnAnswer}
 use Rattle.table.specs.Table.{Station, idle, unfinished, waiting, Table, eight, put, withStations, answerOf}
 use Rattle.table.specs.Event.{Event, singleStep, Reply, accept, isIdle, curveFits, enter, submit, setDown, stepAt, step, takeAt, take, perform, moments, feed}
-use Rattle.table.proofs.Stations.{put-cases, Each, each-mem, each-eight, eight-mem}
+use Rattle.table.proofs.Stations.{put-cases, put-same, Each, each-mem, each-eight, eight-mem}
 use Rattle.table.proofs.Moments.{set-same, set-cases, Moment, moments-keep, moment-own, moment-other, feed-inv}
 use Rattle.table.proofs.Reached.{ask-all}
 use Rattle.table.proofs.Trim.{forget, not-refused}
+use Rattle.table.proofs.Retract.{retract, retract-all}
 use Rattle.table.proofs.Eager.{fresh, Settled, settleOne, settle, Fresh, fresh-cases}
 
 -- ## The first moments
@@ -135,6 +137,17 @@ take-busy t s u = ask-all (λ r. busy (r .next .stations u) ≡ true → busy (t
     go idle e = e
     go (unfinished i c o) e = e
     go (waiting a) e = elim (put-cases (t .stations) s u idle) [ inl w ↦ absurd (false≢true (sym (ap busy (w .1)) ∙ e)) | inr w ↦ sym (ap busy (w .1)) ∙ e ]
+
+pub retract-busy : (t : Table) (s u : ℕ) → busy (retract t s .next .stations u) ≡ true → busy (t .stations u) ≡ true
+unfolding busy
+retract-busy t s u = retract-all (λ r. busy (r .next .stations u) ≡ true → busy (t .stations u) ≡ true) t s (λ e. e) (λ e. e) (λ l i c o q e.
+    elim (put-cases (t .stations) s u (waiting (withdrawnAnswer c))) [ inl w ↦ absurd (false≢true (sym (ap busy (w .1)) ∙ e)) | inr w ↦ sym (ap busy (w .1)) ∙ e ])
+
+-- a call that is withdrawn was unfinished, and no longer is
+pub retract-ends : (t : Table) (s : ℕ) → retract t s .number ≡ 0 → (s < 8) × (busy (t .stations s) ≡ true) × (busy (retract t s .next .stations s) ≡ false)
+unfolding busy
+retract-ends t s = retract-all (λ r. r .number ≡ 0 → (s < 8) × (busy (t .stations s) ≡ true) × (busy (r .next .stations s) ≡ false)) t s
+    (λ z. absurd (omega arith)) (λ z. absurd (omega arith)) (λ l i c o e z. (l, ap busy e, ap busy (put-same (t .stations) s (waiting (withdrawnAnswer c)))))
 
 pub still-next : (t : Table) (s : ℕ) (r : Reply Table) → step t s false ≡ some r → r .next ≡ t
 unfolding step stepAt

@@ -10,11 +10,12 @@ use Rattle.table.specs.Event.{singleStep, Reply, ask, submit, takeAt, ta
 use Rattle.table.specs.History.{Index, answered, Agree, Linear}
 use Rattle.table.proofs.Sound.{Sound}
 use Rattle.table.proofs.Trim.{trim, trimReply, taken-trim, moment-dropped, submit-trim, take-trim, still-trim}
+use Rattle.table.proofs.Retract.{retract, retract-trim}
 use Rattle.table.proofs.Simulation.{stillAt, still, Matches, Simulation, still-step, simulation-linear}
 
 -- the plain table as an index whose steps do nothing
 abbrev pub silent : Index
-silent = record { State = Table; submit = submit; step = still; take = take; held = λ t. t .held; taken = taken }
+silent = record { State = Table; submit = submit; step = still; take = take; withdraw = retract; held = λ t. t .held; taken = taken }
 
 abbrev nobody : ℕ → Bool
 nobody u = false
@@ -68,6 +69,7 @@ silent-simulation places limit = record {
   settles = λ {st} {t} {s} {i} {c} k l g e h. h ∙ sym (moment-dropped nobody t s i c refl g e);
   submits = λ {st} {t} s kind p c k d h. alike-matches (λ x. submit x s kind p c) (λ x. submit-trim nobody x s kind p c) st t h;
   takes = λ {st} {t} s k d h. alike-matches (λ x. take x s) (λ x. take-trim nobody x s) st t h;
+  withdraws = λ {st} {t} s k d h. alike-matches (λ x. retract x s) (λ x. retract-trim nobody x s) st t h;
   stills = λ {st} {t} s k d h a. alike-matches (λ x. still x s) (λ x. still-alike x s) st t h;
   answers = λ {st} {t} s k d h a. absurd (never st s a);
 }

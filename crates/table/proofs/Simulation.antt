@@ -13,17 +13,18 @@ use Rattle.points.specs.declared.point.Point.{Point}
 use Rattle.table.specs.Record.{Same}
 use Rattle.table.specs.Call.{Call, isSearch, Answer, isChange}
 use Rattle.table.specs.Table.{Station, idle, unfinished, waiting, Table, eight, opened, put, withStations, answerOf, changedIf}
-use Rattle.table.specs.Event.{Event, submission, singleStep, taking, Reply, accept, refuse, ask, submit, setDown, ownStep, mayFall, onlyIf, momentAt, moment, stepAt, step, take, perform, moments, feed}
+use Rattle.table.specs.Event.{Event, submission, singleStep, taking, withdrawal, Reply, accept, refuse, ask, submit, setDown, ownStep, mayFall, onlyIf, momentAt, moment, stepAt, step, take, perform, moments, feed}
 use Rattle.table.specs.History.{Index, reply, after, answered, Agree, effects, AtEnd, Follows, Ends, Linear}
 use Rattle.table.proofs.Tests.{and-left}
 use Rattle.table.proofs.Stations.{put-put}
-use Rattle.table.proofs.Moments.{set-same, feed-some}
+use Rattle.table.proofs.Moments.{set-same, feed-some, moments-keep}
 use Rattle.table.proofs.Sound.{Sound, sound-opened, sound-set}
-use Rattle.table.proofs.Reached.{sound-feed}
+use Rattle.table.proofs.Reached.{sound-perform, sound-moment}
 use Rattle.table.proofs.Trim.{keepIf, trim, trimReply, station-trim, trim-opened}
+use Rattle.table.proofs.Retract.{retract, sound-retract}
 use Rattle.table.proofs.Alike.{alike-trim, alike-agree}
-use Rattle.table.proofs.Eager.{Rest, answeredIn, Settled, settle, ownAt, own, eager, feed-trim}
-use Rattle.table.proofs.Settled.{busy, settle-busy, settled, settle-keeps, forget-end, submit-busy, take-busy, still-next, answer-busy}
+use Rattle.table.proofs.Eager.{Rest, answeredIn, Settled, settle, performed, ownAt, own, fed, fed-inv, eager, feed-trim}
+use Rattle.table.proofs.Settled.{busy, settle-busy, settled, settle-keeps, forget-end, submit-busy, take-busy, retract-busy, still-next, answer-busy}
 
 -- ## What is to be shown
 
@@ -69,6 +70,8 @@ module _ (I : Index) (R : I .State → Table → Type 0) where
     pub submits : {st : State} {t : Table} (s kind : ℕ) (p : Point) (c : ℕ) → Sound t → Settled t → R st t
         → Matches (I .submit st s kind p c) (submit t s kind p c)
     pub takes : {st : State} {t : Table} (s : ℕ) → Sound t → Settled t → R st t → Matches (I .take st s) (take t s)
+    -- a withdrawal ends the call of its station with 11, whatever is set down for it
+    pub withdraws : {st : State} {t : Table} (s : ℕ) → Sound t → Settled t → R st t → Matches (I .withdraw st s) (retract t s)
     pub stills : {st : State} {t : Table} (s : ℕ) → Sound t → Settled t → R st t → answered I st (singleStep s) ≡ false → Matches (I .step st s) (still t s)
     pub answers : {st : State} {t : Table} (s : ℕ) → Sound t → Settled t → R st t → answered I st (singleStep s) ≡ true → Finishes st t s
 
@@ -122,6 +125,20 @@ answer-step t s i c none l e =
     feed-some t (own t (singleStep s) true) (singleStep s) true (setDown t s i c a) (own-list t s i c e) ∙ step-some (setDown t s i c a) s i c a l (set-same t s i c a)
     ∙ ap (λ (u : Table). some (accept u)) (set-finished t s i c a)
 
+-- ## What is fed keeps a table sound
+
+sound-performed : (t : Table) (ev : Event) (answers : Bool) (r : Reply Table) → Sound t → performed t ev answers ≡ some r → Sound (r .next)
+unfolding performed
+sound-performed t (submission s kind p c) answers r h e = sound-perform t (submission s kind p c) answers r h e
+sound-performed t (singleStep s) answers r h e = sound-perform t (singleStep s) answers r h e
+sound-performed t (taking s) answers r h e = sound-perform t (taking s) answers r h e
+sound-performed t (withdrawal s) answers r h e = subst (λ (q : Reply Table). Sound (q .next)) (Option·some-injective _ _ e) (sound-retract t s h)
+
+sound-fed : (t : Table) (ev : Event) (answers : Bool) (r : Reply Table) → Sound t → fed t ev answers ≡ some r → Sound (r .next)
+sound-fed t ev answers r h e =
+    let w = fed-inv t ev answers r e in
+    sound-performed (w .0) ev answers r (moments-keep ev Sound (sound-moment ev) (own t ev answers) t (w .0) (w .1) h) (w .2)
+
 -- ## From a simulation to demand 3
 
 module _ (I : Index) (R : I .State → Table → Type 0) (start : I .State) (places limit : ℕ) (sim : Simulation I R start places limit) where
@@ -129,21 +146,22 @@ module _ (I : Index) (R : I .State → Table → Type 0) (start : I .State) (pla
 
   -- an event with its own moment on a settled table
   abbrev Moves : State → Table → Event → Bool → Type 0
-  Moves st t ev answers = (r : Reply Table) × (feed t (own t ev answers) ev answers ≡ some r) × Matches I R (reply I st ev) r
+  Moves st t ev answers = (r : Reply Table) × (fed t ev answers ≡ some r) × Matches I R (reply I st ev) r
 
   stepped : (st : State) (t : Table) (s : ℕ) → Sound t → Settled t → R st t → (answers : Bool) → answered I st (singleStep s) ≡ answers
       → Moves st t (singleStep s) answers
-  unfolding own feed moments perform reply
+  unfolding fed performed own feed moments perform reply
   stepped st t s k d h false q = (still t s, still-step t s, sim .stills s k d h q)
   stepped st t s k d h true q =
       let w = sim .answers s k d h q in
       (accept (finished t s (w .call) (w .set)), answer-step t s (w .identity) (w .call) (w .set) (w .station) (w .is), w .matches)
 
   moves : (st : State) (t : Table) (ev : Event) → Sound t → Settled t → R st t → Moves st t ev (answered I st ev)
-  unfolding own feed moments perform reply
+  unfolding fed performed own feed moments perform reply
   moves st t (submission s kind p c) k d h = (submit t s kind p c, refl, sim .submits s kind p c k d h)
   moves st t (singleStep s) k d h = stepped st t s k d h (answered I st (singleStep s)) refl
   moves st t (taking s) k d h = (take t s, refl, sim .takes s k d h)
+  moves st t (withdrawal s) k d h = (retract t s, refl, sim .withdraws s k d h)
 
   -- a history with its answering steps
   rest : State → List Event → Rest
@@ -169,14 +187,15 @@ module _ (I : Index) (R : I .State → Table → Type 0) (start : I .State) (pla
   unfolding reply answered
   not-refused st (submission s kind p c) r e a = absurd (false≢true a)
   not-refused st (taking s) r e a = absurd (false≢true a)
+  not-refused st (withdrawal s) r e a = absurd (false≢true a)
   not-refused st (singleStep s) r e a =
       sym e ∙ eqb-true (I .step st s .number) 0 (and-left (eqb (I .step st s .number) 0) (eqb (I .take (I .step st s .next) s .number) 0) a)
 
   quiet-next : (did : ℕ → Type 0) (st : State) (t : Table) (ev : Event) (r : Reply Table) → Quiet did t
-      → feed t (own t ev (answered I st ev)) ev (answered I st ev) ≡ some r
+      → fed t ev (answered I st ev) ≡ some r
       → reply I st ev .number ≡ r .number → Same (I .held st) (t .held) → Same (I .held (reply I st ev .next)) (r .next .held)
       → Quiet (effects I did st ev) (r .next)
-  unfolding reply own perform feed moments
+  unfolding reply fed performed own perform feed moments
   quiet-next did st t (submission s kind p c) r q e z a b u busy-u d =
       let g : submit t s kind p c ≡ r = Option·some-injective _ _ e in
       elim (submit-busy t s kind p c u) [
@@ -185,6 +204,8 @@ module _ (I : Index) (R : I .State → Table → Type 0) (start : I .State) (pla
       ]
   quiet-next did st t (taking s) r q e z a b u busy-u d =
       q u (take-busy t s u (ap (λ (x : Reply Table). busy (x .next .stations u)) (Option·some-injective _ _ e) ∙ busy-u)) d
+  quiet-next did st t (withdrawal s) r q e z a b u busy-u d =
+      q u (retract-busy t s u (ap (λ (x : Reply Table). busy (x .next .stations u)) (Option·some-injective _ _ e) ∙ busy-u)) d
   quiet-next did st t (singleStep s) r q e z a b u busy-u d = go (answered I st (singleStep s)) e (not-refused st (singleStep s) r z) d
     where
       go : (answers : Bool) → feed t (own t (singleStep s) answers) (singleStep s) answers ≡ some r → (answers ≡ true → r .number ≡ 0)
@@ -223,14 +244,14 @@ module _ (I : Index) (R : I .State → Table → Type 0) (start : I .State) (pla
       let r : Reply Table = m .0 in
       let answers : Bool = answered I st ev in
       let next : State = reply I st ev .next in
-      let kr : Sound (r .next) = sound-feed T (own T ev answers) ev answers r (w .0) (m .1) in
+      let kr : Sound (r .next) = sound-fed T ev answers r (w .0) (m .1) in
       let qT : Quiet did T = λ u b. q u (sym (settle-busy eight t u) ∙ b) in
       let qr : Quiet (effects I did st ev) (r .next) =
       quiet-next did st T ev r qT (m .1) (m .2 .number) (sim .agrees (w .0) (w .1) .records) (sim .agrees kr (m .2 .next) .records) in
       let later = leads (effects I did st ev) next (r .next) kr (m .2 .next) qr evs in
       let seen : ℕ → Bool = answeredIn (rest st (ev ∷ evs)) in
       let reply-seen : Reply Table = trimReply (answeredIn (rest next evs)) r in
-      let fed : feed (trim seen t) (eager seen t ev answers) ev answers ≡ some reply-seen = feed-trim (rest next evs) t ev answers r (m .1) (not-refused st ev r (m .2 .number)) in
+      let fed : feed (trim seen t) (eager seen t ev answers) ev answers ≡ some reply-seen = feed-trim (rest next evs) t ev answers r (w .0 .outside) (m .1) (not-refused st ev r (m .2 .number)) in
       record {
         moments = eager seen t ev answers ∷ later .moments;
         follows = (agree-trim seen st t (sim .agrees k h), (reply-seen, record { defined = fed; number = m .2 .number; given = m .2 .given }, later .follows));

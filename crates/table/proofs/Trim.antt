@@ -83,7 +83,7 @@ put-forgotten : (seen : ℕ → Bool) (f : ℕ → Station) (s : ℕ) (x : Stati
 unfolding kept keepIf
 put-forgotten seen f s x e g = fun-ext (λ u. elim (put-cases f s u x) [ inl w ↦ rw (w .1, w .0, e, keepIf) g | inr w ↦ rw (w .1) refl ])
 
-put-trim : (seen : ℕ → Bool) (t : Table) (s : ℕ) (x : Station) → keepIf (seen s) x ≡ x
+pub put-trim : (seen : ℕ → Bool) (t : Table) (s : ℕ) (x : Station) → keepIf (seen s) x ≡ x
     → withStations (trim seen t) (put (trim seen t .stations) s x) ≡ trim seen (withStations t (put (t .stations) s x))
 unfolding trim
 put-trim seen t s x e = rw (put-kept seen (t .stations) s x e)
@@ -186,7 +186,7 @@ moment-dropped seen t s i c l g e = rw (search-quiet t c g, put-forgotten seen (
 
 -- ## Events
 
-ask-trim : (seen : ℕ → Bool) (b : Bool) (n : ℕ) (t : Table) (r q : Reply Table) → q ≡ trimReply seen r → ask b n (trim seen t) q ≡ trimReply seen (ask b n t r)
+pub ask-trim : (seen : ℕ → Bool) (b : Bool) (n : ℕ) (t : Table) (r q : Reply Table) → q ≡ trimReply seen r → ask b n (trim seen t) q ≡ trimReply seen (ask b n t r)
 unfolding trimReply
 ask-trim seen true n t r q e = e
 ask-trim seen false n t r q e = refl
@@ -242,7 +242,7 @@ pub still-trim : (seen : ℕ → Bool) (t : Table) (s : ℕ) → step (trim seen
 unfolding step
 still-trim seen t s = rw (station-trim seen t s) (stillAt-trim seen t s (ltb s 8) (seen s) (t .stations s))
 
-put-waiting : (seen before : ℕ → Bool) (f : ℕ → Station) (s : ℕ) (a : Answer) → ((u : ℕ) → ¬ (u ≡ s) → before u ≡ seen u)
+pub put-waiting : (seen before : ℕ → Bool) (f : ℕ → Station) (s : ℕ) (a : Answer) → ((u : ℕ) → ¬ (u ≡ s) → before u ≡ seen u)
     → put (kept before f) s (waiting a) ≡ kept seen (put f s (waiting a))
 unfolding kept
 put-waiting seen before f s a e = fun-ext (λ u. elim (put-cases f s u (waiting a)) [

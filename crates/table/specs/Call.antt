@@ -64,6 +64,17 @@ unfoldable pub nearestAnswer : Point → Option Record → Answer
 nearestAnswer p none = answer 9 p 0 0
 nearestAnswer p (some r) = answer 8 (r .point) (r .curve) (squareOf p (r .point))
 
+-- the point given
+abbrev pub pointOf : Call → Point
+pointOf (add p c) = p
+pointOf (remove p) = p
+pointOf (contains p) = p
+pointOf (nearest p) = p
+
+-- "11, withdrawn, with its point, curve 0 and square 0"
+unfoldable pub withdrawnAnswer : Call → Answer
+withdrawnAnswer c = answer 11 (pointOf c) 0 0
+
 -- "Codes 1 and 5 are the changes"
 unfoldable pub isChange : Answer → Bool
 isChange a = eqb (a .code) 1 || eqb (a .code) 5

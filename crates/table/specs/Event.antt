@@ -7,14 +7,16 @@ use lib.Dec.{eqb, ltb}
 use Rattle.points.specs.declared.point.Point.{Point}
 use Rattle.points.specs.Point.{inRange}
 use Rattle.table.specs.Record.{curveInRange}
-use Rattle.table.specs.Call.{Call, callOf, kindInRange, Answer, isChange}
+use Rattle.table.specs.Call.{Call, callOf, kindInRange, Answer, isChange, withdrawnAnswer}
 use Rattle.table.specs.Table.{Station, idle, unfinished, waiting, Table, put, withStations, answerOf, changedIf}
 
--- "The events of a history are submissions, single steps and takings, refused ones too": any station number, kind, point and curve
+-- "The events of a history are submissions, single steps and takings, refused ones too", and "Withdrawals are events of a history" (2026-06): any
+-- station number, kind, point and curve
 pub data Event : Type 0 where
   submission : ℕ → ℕ → Point → ℕ → Event
   singleStep : ℕ → Event
   taking : ℕ → Event
+  withdrawal : ℕ → Event
 
 -- what an event gives back, 0 or the number of its refusal and the answer taken, and what it leaves
 pub record Reply (S : Type 0) : Type 0 where
@@ -76,6 +78,14 @@ unfoldable pub ownStep : Event → ℕ → Bool
 ownStep (submission u kind p c) s = false
 ownStep (singleStep u) s = eqb u s
 ownStep (taking u) s = false
+ownStep (withdrawal u) s = false
+
+-- the event is a withdrawal by the station
+unfoldable pub ownWithdrawal : Event → ℕ → Bool
+ownWithdrawal (submission u kind p c) s = false
+ownWithdrawal (singleStep u) s = false
+ownWithdrawal (taking u) s = false
+ownWithdrawal (withdrawal u) s = eqb u s
 
 -- "The moment of a change is the step that changes the held records": at an event that is no step of the station it cannot fall
 unfoldable pub mayFall : Event → ℕ → Answer → Bool
@@ -126,6 +136,27 @@ takeAt t s (waiting a) = record { number = 0; given = some a; next = withStation
 unfoldable pub take : Table → ℕ → Reply Table
 take t s = ask (ltb s 8) 5 t (takeAt t s (t .stations s))
 
+-- ## Withdrawal
+
+-- the reply where the test passes, undefined where it fails
+unfoldable pub replyIf : Bool → Reply Table → Option (Reply Table)
+replyIf true r = some r
+replyIf false r = none
+
+-- Refused by 5 or 10, as a step is. "If the call has not taken effect it is answered 11, withdrawn, [...] and has no part in the order of moments":
+-- nothing is set down for it. "If it has, its ordinary answer stands waiting": a change is set down for it. Any other answer set down was given to
+-- a call that has no moment: undefined
+unfoldable pub withdrawAt : Table → ℕ → Bool → Station → Option (Reply Table)
+withdrawAt t s false x = some (refuse 5 t)
+withdrawAt t s true idle = some (refuse 10 t)
+withdrawAt t s true (waiting a) = some (refuse 10 t)
+withdrawAt t s true (unfinished i c none) = some (accept (withStations t (put (t .stations) s (waiting (withdrawnAnswer c)))))
+withdrawAt t s true (unfinished i c (some a)) = replyIf (isChange a) (accept (withStations t (put (t .stations) s (waiting a))))
+
+-- a withdrawal by the station
+unfoldable pub withdraw : Table → ℕ → Option (Reply Table)
+withdraw t s = withdrawAt t s (ltb s 8) (t .stations s)
+
 -- ## Feeding the table
 
 -- what the event itself does, told whether it answers
@@ -133,6 +164,7 @@ unfoldable pub perform : Table → Event → Bool → Option (Reply Table)
 perform t (submission s kind p c) answers = some (submit t s kind p c)
 perform t (singleStep s) answers = step t s answers
 perform t (taking s) answers = some (take t s)
+perform t (withdrawal s) answers = withdraw t s
 
 -- moments at one event, as a list of stations: they "have an order"
 unfoldable pub moments : Event → Table → List ℕ → Option Table

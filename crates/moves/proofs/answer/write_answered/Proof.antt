@@ -16,8 +16,8 @@ answered-requires c κs = search needs
 write-state-requires : tie.Need-write-state-requires
 write-state-requires c κs = search needs
 
-withdraw-requires : tie.Need-withdraw-requires
-withdraw-requires c κs = search needs
+let-go-requires : tie.Need-let-go-requires
+let-go-requires c κs = search needs
 
 same-length : tie.Need-same-length
 same-length c = search needs
@@ -34,6 +34,6 @@ write-answered-spec =
     write-answer-requires
     answered-requires
     write-state-requires
-    withdraw-requires
+    let-go-requires
     same-length
     returns)

@@ -1,8 +1,8 @@
--- `moves::answer::withdraw` meets its contract. Assumes nothing.
+-- `moves::answer::let_go` meets its contract. Assumes nothing.
 use borrow.Author.Needs.{needs}
-use Rattle.moves.proofs.answer.withdraw.Statement.{statement}
-use Rattle.moves.proofs.answer.withdraw.Tie as tie
-use Rattle.moves.specs.Answer.{withdrawn}
+use Rattle.moves.proofs.answer.let_go.Statement.{statement}
+use Rattle.moves.proofs.answer.let_go.Tie as tie
+use Rattle.moves.specs.Answer.{letGo}
 
 write-place-requires : tie.Need-write-place-requires
 write-place-requires c κs = search needs
@@ -17,10 +17,10 @@ same-length : tie.Need-same-length
 same-length c = search needs
 
 returns : tie.Need-returns
-unfolding withdrawn
+unfolding letGo
 returns c = cc
 
-pub withdraw-spec : {M : Type 1} → statement M
-withdraw-spec =
+pub let-go-spec : {M : Type 1} → statement M
+let-go-spec =
     tie.close
     (tie.spec write-place-requires write-since-requires write-missed-requires same-length returns)
