@@ -1,8 +1,8 @@
 -- Demand 1: "Whoever calls, with whatever numbers, frame bytes or index contents, gets a defined result and the call ends. Bad input gets the number of
 -- the first check it fails, and a refused call changes no word or byte lent to it."
--- A defined result, and an end: the functions `open`, `submit`, `step`, `run`, `take`, `read_report` and `audit` of `steps` have no `requires`; their contracts
--- are equations of result and slice with `openOf`, `submitOf`, `stepOf`, `runOf`, `takeOf` and `takeWords`, `reportOf`, `verdictOf`, which are defined for every
--- content and every argument; and Rattle proves that each call ends. `read_report` and `audit` are lent the words for reading alone. Of `frames` the same:
+-- A defined result, and an end: the functions `open`, `submit`, `step`, `run`, `take`, `withdraw`, `read_report` and `audit` of `steps` have no `requires`; their
+-- contracts are equations of result and slice with `openOf`, `submitOf`, `stepOf`, `runOf`, `takeOf` and `takeWords`, `withdrawOf`, `reportOf`, `verdictOf`, which
+-- are defined for every content and every argument; and Rattle proves that each call ends. `read_report` and `audit` are lent the words for reading alone. Of `frames` the same:
 -- `read_frame`, `write_frame`, `write_fields`, `apply_frame` and `next_line` are `readOf`, `writtenOf`, `writeOf`, `applyOf` with `applyWords`, and `lineOf` with
 -- `lineWords`; a reader's `next` is `readOf` and `positionAfter`; the bytes are lent for reading alone.
 -- A question is a test and its number; `firstNo` is the number of the first that fails, and 0 where none does.
@@ -13,9 +13,9 @@ use mathlib.Core.List.{List, [], _∷_}
 use lib.Dec.{eqb, leb, ltb}
 use lib.ListN.{length, drop, replicate}
 use Rattle.claims.specs.Definitions.{Point, inRange, wordsFor, placesIn, limitIn, openedIn, isIdle, isUnfinished, stateAt, callAt, waitingAt}
-use Rattle.claims.specs.Definitions.{isOpened, rowsIn, openOf, kindIn, curveFits, submitOf, recordsSound, workOf, stepOf, isGiven, takeOf, numberOf, takeWords}
+use Rattle.claims.specs.Definitions.{isOpened, rowsIn, openOf, kindIn, curveFits, submitOf, recordsSound, workOf, stepOf, isGiven, takeOf, numberOf, takeWords, withdrawOf}
 use Rattle.claims.specs.Definitions.{reportOf, verdictOf, asked, firstNo}
-use Rattle.claims.specs.Definitions.{Frame, Open, Submit, Step, Take, Run, Refused as Unread, isKind, isWhole, hasKind, ownLength, frameQuestion, readOf, readingNumber}
+use Rattle.claims.specs.Definitions.{Frame, Open, Submit, Step, Take, Run, Withdraw, Refused as Unread, isKind, isWhole, hasKind, ownLength, frameQuestion, readOf, readingNumber}
 use Rattle.claims.specs.Definitions.{positionAfter, Fields, padded, writtenBytes, writeOf, pointOf, submissionReply, applyOf, appliedNumber, applyWords, lineWords}
 use Rattle.history.proofs.Refused
 use Rattle.frames.proofs.OutcomeLaws
@@ -44,6 +44,12 @@ pub step-number : (words : List ℕ) (s : ℕ)
     ∷ asked (isUnfinished (stateAt words s)) 10 ∷ asked (recordsSound words s) 11 ∷ asked (eqb (workOf words (rowsIn words) s (callAt words s) .number) 0) 11 ∷ [])
 step-number = Refused.step-number
 
+-- A withdrawal (2026-06): "question 10 applies, then 11 as for a step". It needs the two records and no row, so that 11 is asked of these alone.
+pub withdrawal-number : (words : List ℕ) (s : ℕ)
+    → withdrawOf words s .number
+    ≡ firstNo (asked (isOpened (openedIn words)) 4 ∷ asked (ltb s 8) 5 ∷ asked (isUnfinished (stateAt words s)) 10 ∷ asked (recordsSound words s) 11 ∷ [])
+withdrawal-number = Refused.withdraw-number
+
 -- "Taking: is an answer waiting? 12."
 pub take-number : (words : List ℕ) (s : ℕ)
     → numberOf (takeOf words s) ≡ firstNo (asked (isOpened (openedIn words)) 4 ∷ asked (ltb s 8) 5 ∷ asked (isGiven (waitingAt words s)) 12 ∷ [])
@@ -71,6 +77,10 @@ submit-refused = Refused.submit-refused
 pub step-refused : (words : List ℕ) (s : ℕ) → ¬ (stepOf words s .number ≡ 0) → stepOf words s .words ≡ words
 step-refused = Refused.step-refused
 
+-- a refused withdrawal
+pub withdrawal-refused : (words : List ℕ) (s : ℕ) → ¬ (withdrawOf words s .number ≡ 0) → withdrawOf words s .words ≡ words
+withdrawal-refused = Refused.withdraw-refused
+
 -- a refused taking
 pub take-refused : (words : List ℕ) (s : ℕ) → ¬ (numberOf (takeOf words s) ≡ 0) → takeWords words s ≡ words
 take-refused = Refused.take-refused
@@ -82,6 +92,7 @@ audit-refused = Refused.audit-refused
 -- ---- frames
 
 -- "Frame: are both length bytes and all the bytes they count there? 13. Is there a kind, 1 to 5? 14, also for lengths 0 and 1. Is the length that kind's own? 15."
+-- "question 14 admits 8" (2026-06).
 pub frame-number : (bytes : List ℕ) (at : ℕ) → at < length bytes
     → readingNumber (readOf bytes at) ≡ firstNo (asked (isWhole (drop at bytes)) 13 ∷ asked (hasKind (drop at bytes)) 14 ∷ asked (ownLength (drop at bytes)) 15 ∷ [])
 unfolding frameQuestion firstNo
@@ -125,6 +136,7 @@ IsRun (Submit s) = ⊥
 IsRun (Step station) = ⊥
 IsRun (Take station) = ⊥
 IsRun (Run station) = Unit {0}
+IsRun (Withdraw station) = ⊥
 
 -- A frame whose call is refused changes no word.
 pub applied-refused : (words : List ℕ) (frame : Frame) → ¬ IsRun frame → ¬ (appliedNumber (applyOf words frame) ≡ 0) → applyWords words frame ≡ words
@@ -134,3 +146,4 @@ applied-refused words (Submit s) r n = submit-refused words (s .station) (s .kin
 applied-refused words (Step station) r n = step-refused words station n
 applied-refused words (Take station) r n = take-refused words station (λ e. n (LineLaws.taking-number (takeOf words station) ∙ e))
 applied-refused words (Run station) r n = absurd (r tt)
+applied-refused words (Withdraw station) r n = withdrawal-refused words station n

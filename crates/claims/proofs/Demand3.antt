@@ -1,7 +1,7 @@
 -- Demand 3, about whole histories: `demand-3` and `solo`. What an event may touch is in Touch.antt.
 -- "A history is any list of submissions, single steps and takings, refused ones included, each for any station number, in any order, from a fresh opening, each
--- getting the index as the last one left it, and nobody else writing it." An `Event` is one of these three, with any numbers; `after evs words` are the words
--- after the events.
+-- getting the index as the last one left it, and nobody else writing it." "Withdrawals are events of a history" too (2026-06). An `Event` is one of these four,
+-- with any numbers; `after evs words` are the words after the events.
 use Prim.Native.Nat.{ℕ, suc, _+_, _*_, _≤_, _<_}
 use mathlib.Core.Path.{_≡_}
 use mathlib.Core.Logic.{_↔_}
@@ -9,8 +9,8 @@ use mathlib.Core.Bool.{Bool, true, false, _&&_}
 use mathlib.Core.List.{List, [], _∷_, _++_, map}
 use mathlib.Core.Option.{Option, none, some, IsSome}
 use lib.Dec.{eqb}
-use Rattle.claims.specs.Definitions.{Point, isUnfinished, stateAt, Same, Once, Call, Answer, Table, unfinished, opened, taken, Event, submission, singleStep, taking}
-use Rattle.claims.specs.Definitions.{Reply, take, feed, CanChange, reply, answered, openOf, submitOf, stepOf, takeOf, numberOf, reportOf, heldIn}
+use Rattle.claims.specs.Definitions.{Point, isUnfinished, stateAt, Same, Once, Call, Answer, Table, unfinished, opened, taken, Event, submission, singleStep, taking, withdrawal}
+use Rattle.claims.specs.Definitions.{Reply, take, feed, CanChange, reply, answered, openOf, submitOf, stepOf, takeOf, numberOf, withdrawOf, reportOf, heldIn}
 use Rattle.claims.specs.Definitions.{recordOf, givenBy, wordIndex, after, stepped}
 use Rattle.history.proofs.Demand3.{demand-3 as demand-3-follows}
 use Rattle.history.proofs.Solo.{solo-steps}
@@ -37,17 +37,20 @@ abbrev pub numberAt : List ℕ → Event → ℕ
 numberAt words (submission s kind p c) = submitOf words s kind p c .number
 numberAt words (singleStep s) = stepOf words s .number
 numberAt words (taking s) = numberOf (takeOf words s)
+numberAt words (withdrawal s) = withdrawOf words s .number
 
 abbrev pub givenAt : List ℕ → Event → Option Answer
 givenAt words (submission s kind p c) = none
 givenAt words (singleStep s) = none
 givenAt words (taking s) = givenBy (takeOf words s)
+givenAt words (withdrawal s) = none
 
 -- "A step that is not refused has answered if a taking by its station would be accepted next"
 abbrev pub answersAt : List ℕ → Event → Bool
 answersAt words (submission s kind p c) = false
 answersAt words (singleStep s) = eqb (stepOf words s .number) 0 && eqb (numberOf (takeOf (stepOf words s .words) s)) 0
 answersAt words (taking s) = false
+answersAt words (withdrawal s) = false
 
 -- an event on these words: the table, fed the moments in their order, the event, and whether it answered, is defined, and `next` is what it leaves; the refusal and
 -- the answer taken are the table's
@@ -92,6 +95,7 @@ unfolding reply answered
 fed-with (submission s kind p c) x = record { fed = x .reply-table; defined = x .defined; leaves = x .next; number = x .number; given = x .given }
 fed-with (singleStep s) x = record { fed = x .reply-table; defined = x .defined; leaves = x .next; number = x .number; given = x .given }
 fed-with (taking s) x = record { fed = x .reply-table; defined = x .defined; leaves = x .next; number = x .number; given = x .given }
+fed-with (withdrawal s) x = record { fed = x .reply-table; defined = x .defined; leaves = x .next; number = x .number; given = x .given }
 
 -- a history that the table follows has such moments
 unfoldable pub moments-of : (start : List ℕ) (places limit : ℕ) (evs : List Event) (mss : List (List ℕ)) → Follows wordIndex (λ s. ⊥) start (opened places limit) evs mss → Moments start places limit evs
@@ -112,7 +116,8 @@ moments-of start places limit evs mss f = record {
 
 -- "For every history, each answered call, and of the unfinished ones exactly those that have taken effect, has a moment of its own between submission and
 -- answer, so that every refusal, every answer, waiting or taken, and the records held after each event are those of document 01's plain table, fed these
--- events and moments in order."
+-- events and moments in order." A withdrawn call that has not taken effect "is answered 11, withdrawn, [...] and has no part in the order of moments" (2026-06):
+-- the table is undefined where a moment was given to it, and `Fed` says that it is defined.
 pub demand-3 : (words : List ℕ) (places limit : ℕ) → openOf words places limit .number ≡ 0 → (evs : List Event) → Moments (openOf words places limit .words) places limit evs
 demand-3 words places limit e evs =
     let m = demand-3-follows words places limit e evs in

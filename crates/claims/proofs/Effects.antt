@@ -6,7 +6,7 @@ use mathlib.Core.Logic.{_⊎_, inl, inr, _↔_}
 use mathlib.Core.List.{List, [], _∷_, _++_, cons≢nil, head-eq-of-cons-eq, tail-eq-of-cons-eq}
 use Rattle.points.specs.declared.point.Point.{Point}
 use Rattle.table.specs.Record.{Same}
-use Rattle.table.specs.Event.{Event, submission, singleStep, taking}
+use Rattle.table.specs.Event.{Event, submission, singleStep, taking, withdrawal}
 use Rattle.table.specs.History.{Index, reply, after, effects}
 use Rattle.claims.proofs.Unrolled.{allEffects}
 
@@ -46,6 +46,7 @@ module _ (I : Index) (u : ℕ) where
   stationIn (submission s kind p c) n = s
   stationIn (singleStep s) n = n
   stationIn (taking s) n = n
+  stationIn (withdrawal s) n = n
 
   none-submitted : (st : State) (s kind : ℕ) (p : Point) (c : ℕ) (evs : List Event) → (I .submit st s kind p c .number ≡ 0 → ¬ (u ≡ s))
       → NoneAccepted (I .submit st s kind p c .next) evs → NoneAccepted st (submission s kind p c ∷ evs)
@@ -62,6 +63,7 @@ module _ (I : Index) (u : ℕ) where
   Other (submission s kind p c) = ⊥
   Other (singleStep s) = Unit {0}
   Other (taking s) = Unit {0}
+  Other (withdrawal s) = Unit {0}
 
   none-other : (st : State) (ev : Event) (evs : List Event) → Other ev → NoneAccepted (reply I st ev .next) evs → NoneAccepted st (ev ∷ evs)
   unfolding after
@@ -95,6 +97,10 @@ module _ (I : Index) (u : ℕ) where
     | inl y ↦ inl (y .0, none-other st (taking s) evs tt (y .1))
     | inr y ↦ inr (changed-later st (taking s) evs y)
   ]
+  to-changed (withdrawal s ∷ evs) did st x = elim (to-changed evs (effects I did st (withdrawal s)) (I .withdraw st s .next) x) [
+    | inl y ↦ inl (y .0, none-other st (withdrawal s) evs tt (y .1))
+    | inr y ↦ inr (changed-later st (withdrawal s) evs y)
+  ]
 
   from-did : (evs : List Event) (did : ℕ → Type 0) (st : State) → did u → NoneAccepted st evs → allEffects I did st evs u
   unfolding reply after
@@ -104,6 +110,7 @@ module _ (I : Index) (u : ℕ) where
       (d, λ a e. n [] kind p c evs (ap (λ (v : ℕ). submission v kind p c ∷ evs) e) (rw e a)) (none-later st (submission s kind p c) evs n)
   from-did (singleStep s ∷ evs) did st d n = from-did evs (effects I did st (singleStep s)) (I .step st s .next) (inl d) (none-later st (singleStep s) evs n)
   from-did (taking s ∷ evs) did st d n = from-did evs (effects I did st (taking s)) (I .take st s .next) d (none-later st (taking s) evs n)
+  from-did (withdrawal s ∷ evs) did st d n = from-did evs (effects I did st (withdrawal s)) (I .withdraw st s .next) d (none-later st (withdrawal s) evs n)
 
   from-changed : (evs : List Event) (did : ℕ → Type 0) (st : State) (before rest : List Event) → before ++ (singleStep u ∷ rest) ≡ evs
       → ¬ Same (I .held (after I st before)) (I .held (I .step (after I st before) u .next)) → NoneAccepted (I .step (after I st before) u .next) rest → allEffects I did st evs u

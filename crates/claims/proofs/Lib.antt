@@ -14,6 +14,8 @@ pub mod Cases
 pub mod Further
 -- The fault that the user has seen: a farther record found while a nearer one was held.
 pub mod Nearer
+-- Request 2026-06: taking back a call.
+pub mod Withdrawn
 -- Request 2026-11: how long the busy case can last.
 pub mod Somebody
 -- Request 2026-07: the window of the last moisture readings, which is no part of the index.

@@ -3,7 +3,7 @@ use Prim.Native.Nat.{ℕ}
 use mathlib.Core.Path.{_≡_, refl, sym, ap, subst}
 use mathlib.Core.Logic.{_↔_}
 use mathlib.Core.List.{List, [], _∷_, _++_}
-use Rattle.claims.specs.Definitions.{Table, opened, Event, submission, singleStep, taking, reply, answered, wordIndex, after}
+use Rattle.claims.specs.Definitions.{Table, opened, Event, submission, singleStep, taking, withdrawal, reply, answered, wordIndex, after}
 use Rattle.table.specs.History.{Index, Agree, effects, AtEnd, Follows}
 use Rattle.table.specs.History as History
 use Rattle.claims.proofs.Unrolled.{FedAt, allEffects}
@@ -38,6 +38,7 @@ unfolding reply answered
 index-fed (submission s kind p c) x = record { reply-table = x .fed; defined = x .defined; next = x .leaves; number = x .number; given = x .given }
 index-fed (singleStep s) x = record { reply-table = x .fed; defined = x .defined; next = x .leaves; number = x .number; given = x .given }
 index-fed (taking s) x = record { reply-table = x .fed; defined = x .defined; next = x .leaves; number = x .number; given = x .given }
+index-fed (withdrawal s) x = record { reply-table = x .fed; defined = x .defined; next = x .leaves; number = x .number; given = x .given }
 
 follows-of : (start : List ℕ) (places limit : ℕ) (evs : List Event) → Moments start places limit evs → (mss : List (List ℕ)) × Follows wordIndex (λ s. ⊥) start (opened places limit) evs mss
 unfolding after

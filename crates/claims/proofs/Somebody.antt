@@ -1,12 +1,12 @@
 -- Request 2026-11, somebody always finishes: "Dispatchers need a figure for the busy case. In every run of 8 × 32 × (16 × places + 64) steps, each given to a
 -- station that has an unfinished call, at least one call is answered. The premise: the run is part of a history, and neither withdrawal nor packing falls
 -- inside it."
--- For a dispatcher: deal out steps to any stations in any order, submit, take, and name stations that have nothing to do. From any moment on, count the steps
--- that are not refused: one of the first 16 × places + 1 answers a call (`somebody`). The figure of the request is more than 256 times that (`somebody-finishes`).
--- Whose call it is, is not said: `solo` of Demand3.antt is about one station, and asks that the others stand still. Where nobody submits anew, all eight are answered
--- within eight times as many (`everybody`).
+-- For a dispatcher: deal out steps to any stations in any order, submit, take, and name stations that have nothing to do. From any moment on, while nobody takes back
+-- a call, count the steps that are not refused: one of the first 16 × places + 1 answers a call (`somebody`). The figure of the request is more than 256 times that
+-- (`somebody-finishes`). Whose call it is, is not said: `solo` of Demand3.antt is about one station, and asks that the others stand still. Where nobody submits anew,
+-- all eight are answered or withdrawn within eight times as many (`everybody`).
 use Prim.Native.Nat.{ℕ, _+_, _*_, _≤_, _<_}
-use mathlib.Core.Path.{_≡_, refl, ap}
+use mathlib.Core.Path.{_≡_, refl, sym, ap}
 use mathlib.Core.Logic.{_↔_, inl, inr}
 use mathlib.Core.Bool.{true, false≢true}
 use mathlib.Core.List.{List, [], _∷_, _++_, map}
@@ -15,8 +15,8 @@ use lib.Dec.{eqb}
 use lib.ListN.{length}
 use borrow.Author.Tests.{eqb-true}
 use Rattle.points.proofs.Tests.{and-l, and-r}
-use Rattle.claims.specs.Definitions.{isUnfinished, stateAt, Event, submission, singleStep, taking, reply, answered, openOf, stepOf, takeOf, numberOf, wordIndex, after}
-use Rattle.claims.specs.Definitions.{dealtSteps, Undisturbed, NobodySubmits}
+use Rattle.claims.specs.Definitions.{isUnfinished, stateAt, Event, submission, singleStep, taking, withdrawal, reply, answered, openOf, stepOf, takeOf, numberOf, wordIndex, after}
+use Rattle.claims.specs.Definitions.{dealtSteps, NotWithdrawn, Undisturbed, NobodySubmits}
 use Rattle.history.specs.Somebody.{SomeAnswered}
 use Rattle.history.proofs.Somebody as Finishes
 use Rattle.history.proofs.Everybody
@@ -45,6 +45,8 @@ one-answers words (submission s kind p c ∷ run) (inl e) = absurd (false≢true
 one-answers words (submission s kind p c ∷ run) (inr x) = later (submission s kind p c) (one-answers (reply wordIndex words (submission s kind p c) .next) run x)
 one-answers words (taking s ∷ run) (inl e) = absurd (false≢true e)
 one-answers words (taking s ∷ run) (inr x) = later (taking s) (one-answers (reply wordIndex words (taking s) .next) run x)
+one-answers words (withdrawal s ∷ run) (inl e) = absurd (false≢true e)
+one-answers words (withdrawal s ∷ run) (inr x) = later (withdrawal s) (one-answers (reply wordIndex words (withdrawal s) .next) run x)
 one-answers words (singleStep s ∷ run) (inr x) = later (singleStep s) (one-answers (stepOf words s .words) run x)
 one-answers words (singleStep s ∷ run) (inl e) =
     let a = eqb (stepOf words s .number) 0 in
@@ -65,16 +67,16 @@ module _ (words : List ℕ) (places limit : ℕ) (e : openOf words places limit 
   dealt-accepted s = step-accepted words places limit e evs s
 
   -- among more than 16 × places such steps, whatever submissions, takings and refused events fall between them, one answers
-  pub somebody : (run : List Event) → Undisturbed run → 16 * places < dealtSteps reached run → OneAnswers reached run
+  pub somebody : (run : List Event) → Undisturbed reached run → 16 * places < dealtSteps reached run → OneAnswers reached run
   somebody run d l = one-answers reached run (Finishes.somebody words places limit e evs run d l)
 
   -- the request, by its own figure
-  pub somebody-finishes : (run : List Event) → Undisturbed run → 8 * 32 * (16 * places + 64) ≤ dealtSteps reached run → OneAnswers reached run
+  pub somebody-finishes : (run : List Event) → Undisturbed reached run → 8 * 32 * (16 * places + 64) ≤ dealtSteps reached run → OneAnswers reached run
   somebody-finishes run d l = one-answers reached run (Finishes.somebody-finishes words places limit e evs run d l)
 
-  -- where no submission is accepted, at most 8 × (16 × places + 1) steps find a call unfinished: then every call is answered
-  pub everybody : (run : List Event) → Undisturbed run → NobodySubmits reached run → dealtSteps reached run ≤ 8 * (16 * places + 1)
-  everybody run d f = Everybody.everybody words places limit e evs run d f
+  -- where no submission is accepted, at most 8 × (16 × places + 1) steps find a call unfinished: then every call is answered or withdrawn
+  pub everybody : (run : List Event) → NobodySubmits reached run → dealtSteps reached run ≤ 8 * (16 * places + 1)
+  everybody run f = Everybody.everybody words places limit e evs run f
 
 -- ---- steps alone
 
@@ -91,22 +93,27 @@ each-counts words (s ∷ stations) f =
     rw (f [] s stations refl) (omega (arith, each-counts (stepOf words s .words) stations rest))
 
 -- a step disturbs nobody
-steps-undisturbed : (stations : List ℕ) → Undisturbed (map singleStep stations)
-steps-undisturbed [] = tt
-steps-undisturbed (s ∷ stations) = steps-undisturbed stations
+steps-undisturbed : (words : List ℕ) (stations : List ℕ) → Undisturbed words (map singleStep stations)
+unfolding reply
+steps-undisturbed words [] = tt
+steps-undisturbed words (s ∷ stations) = (tt, steps-undisturbed (stepOf words s .words) stations)
 
 -- Among more than 16 × places steps, each given to a station that has an unfinished call, one answers. By `everybody` no run of steps alone is as long as the request's figure.
 pub somebody-steps : (words : List ℕ) (places limit : ℕ) (e : openOf words places limit .number ≡ 0) (evs : List Event) (stations : List ℕ)
     → EachDealt (reached words places limit e evs) stations → 16 * places < length stations → OneAnswers (reached words places limit e evs) (map singleStep stations)
 somebody-steps words places limit e evs stations f l =
     let v = reached words places limit e evs in
-    somebody words places limit e evs (map singleStep stations) (steps-undisturbed stations) (omega (arith, each-counts v stations f, l))
+    somebody words places limit e evs (map singleStep stations) (steps-undisturbed v stations) (omega (arith, each-counts v stations f, l))
 
 -- ---- the premise
 
--- Of the events that there are today none is a withdrawal or a packing, so that every run is undisturbed.
-pub always-undisturbed : (run : List Event) → Undisturbed run
-always-undisturbed [] = tt
-always-undisturbed (submission s kind p c ∷ run) = always-undisturbed run
-always-undisturbed (singleStep s ∷ run) = always-undisturbed run
-always-undisturbed (taking s ∷ run) = always-undisturbed run
+-- "neither withdrawal nor packing falls inside it": then the run is undisturbed, which asks only that no withdrawal is accepted. There is no packing yet.
+pub no-withdrawal : (words : List ℕ) (run : List Event) → ((before : List Event) (s : ℕ) (rest : List Event) → ¬ (before ++ (withdrawal s ∷ rest) ≡ run)) → Undisturbed words run
+no-withdrawal words [] n = tt
+no-withdrawal words (ev ∷ run) n = (none ev (λ s e. n [] s run (ap (λ (x : Event). x ∷ run) (sym e))), no-withdrawal (reply wordIndex words ev .next) run (λ b s r q. n (ev ∷ b) s r (ap (λ (es : List Event). ev ∷ es) q)))
+  where
+    none : (ev : Event) → ((s : ℕ) → ¬ (ev ≡ withdrawal s)) → NotWithdrawn words ev
+    none (submission s kind p c) f = tt
+    none (singleStep s) f = tt
+    none (taking s) f = tt
+    none (withdrawal s) f = absurd (f s refl)

@@ -1,4 +1,4 @@
--- Demand 3, what an event may touch: `submission-touches`, `taking-touches` and `step-touches`, for every content of the words and no history.
+-- Demand 3, what an event may touch: `submission-touches`, `taking-touches`, `withdrawal-touches` and `step-touches`, for every content of the words and no history.
 -- "Two slices alike in length, common record and the station's own get the same result and the same words there from a submission or taking, and no other
 -- word changes; a step may need and change at most six rows besides."
 -- "The common record has 96 words, each station's 64; then come 2 × places rows", of sixteen words each.
@@ -10,11 +10,11 @@ use native.Mathlib.Omega.{arith}
 use native.Mathlib.Decide.{decLt}
 use borrow.Author.Tests.{lt-ltb, le-ltb}
 use lib.ListN.{length}
-use Rattle.claims.specs.Definitions.{Point, get, inStation, sizeOf, startOf, rowsIn, submitOf, stepOf, takeOf, takeWords}
+use Rattle.claims.specs.Definitions.{Point, get, inStation, sizeOf, startOf, rowsIn, submitOf, stepOf, takeOf, takeWords, withdrawOf}
 use Rattle.history.specs.Touch.{AgreeOn, KeepsOthers, Leaves}
 use Rattle.history.proofs.TouchSubmit.{submit-touch}
 use Rattle.history.proofs.TouchTake.{take-touch}
-use Rattle.history.proofs.Touch.{touch}
+use Rattle.history.proofs.Touch.{withdraw-touch, touch}
 
 -- the word k is of the common record, of the record of station s, one of the eight, or of one of these rows
 abbrev pub Among : ℕ → List ℕ → ℕ → Type 0
@@ -84,6 +84,11 @@ submission-touches v w s kind p c a = let x = submit-touch v w s kind p c (agree
 -- "the same submission or taking gets the same result": its number, or its answer
 pub taking-touches : (v w : List ℕ) (s : ℕ) → Alike v w s [] → (takeOf v s ≡ takeOf w s) × Touches v w (takeWords v s) (takeWords w s) s []
 taking-touches v w s a = let x = take-touch v w s (agree-on a) in (x .0, touches (x .1))
+
+-- "A withdrawal may need and change what a step may" (2026-06): it needs and changes no row at all.
+pub withdrawal-touches : (v w : List ℕ) (s : ℕ) → Alike v w s []
+    → (withdrawOf v s .number ≡ withdrawOf w s .number) × Touches v w (withdrawOf v s .words) (withdrawOf w s .words) s []
+withdrawal-touches v w s a = let x = withdraw-touch v w s (agree-on a) in (x .0, touches (x .1))
 
 -- "For each slice and step there are at most six rows such that this holds, with those rows added to the two records, against every slice that agrees with it
 -- there." Each is one of the rows of the index.

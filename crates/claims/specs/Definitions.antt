@@ -33,10 +33,12 @@ pub use Rattle.rows.specs.Agree.{inStation, startOf, sizeOf}
 pub use Rattle.table.specs.Record.{Record, Same, Once, curveAt}
 pub use Rattle.table.specs.Call.{Call, add, remove, contains, nearest, callOf, Answer, answer, isChange}
 -- the plain table: at first, the number of places taken, a call's answer and its effect
-pub use Rattle.table.specs.Table.{Table, unfinished}
+pub use Rattle.table.specs.Table.{Table, unfinished, eight}
 unfoldable pub use Rattle.table.specs.Table.{opened, taken, answerOf, changedIf}
+-- the unfinished nearest calls of some stations, some stations but one, and the removals that such calls hold
+pub use Rattle.table.specs.Table.{searches, others, holding}
 -- events, and the table fed with them
-pub use Rattle.table.specs.Event.{Event, submission, singleStep, taking, Reply, submit, take, feed}
+pub use Rattle.table.specs.Event.{Event, submission, singleStep, taking, withdrawal, Reply, submit, take, feed}
 pub use Rattle.table.specs.History.{CanChange}
 unfoldable pub use Rattle.table.specs.History.{reply, answered}
 -- ---- steps
@@ -50,6 +52,7 @@ pub use Rattle.steps.specs.Step.{recordsSound, workOf, stepOf}
 pub use Rattle.steps.specs.Run.{isGiven, goesOn}
 unfoldable pub use Rattle.steps.specs.Run.{runFor, mostSteps, runOf}
 pub use Rattle.steps.specs.Take.{takeOf, numberOf, takeWords}
+pub use Rattle.steps.specs.Withdraw.{withdrawOf}
 pub use Rattle.steps.specs.Report.{reportOf}
 pub use Rattle.steps.specs.Audit.{auditOf, verdictOf}
 -- the records on the leaves linked from the root
@@ -60,9 +63,11 @@ pub use Rattle.steps.specs.Held.{heldIn}
 pub use Rattle.history.specs.Index.{recordOf, givenBy, wordIndex}
 unfoldable pub use Rattle.history.specs.After.{after}
 pub use Rattle.history.specs.Alone.{stepped}
--- the steps among some events that are dealt to stations with an unfinished call; no withdrawal and no packing is among them; no submission is accepted
+-- what an accepted withdrawal leaves; whether a station has an unfinished nearest
+pub use Rattle.history.specs.Withdrawn.{isSearching, Withdrawn}
+-- the steps among some events that are dealt to stations with an unfinished call; no withdrawal is accepted; no submission is
 unfoldable pub use Rattle.history.specs.Somebody.{dealtSteps}
-pub use Rattle.history.specs.Somebody.{Undisturbed, NobodySubmits}
+pub use Rattle.history.specs.Somebody.{NotWithdrawn, Undisturbed, NobodySubmits}
 -- questions in their order, and the number of the first that is answered no
 pub use Rattle.history.specs.Questions.{asked}
 unfoldable pub use Rattle.history.specs.Questions.{firstNo}
@@ -72,7 +77,7 @@ pub use Rattle.history.specs.Audited.{Audited}
 
 -- a frame, its fields in width, and what a reading finds
 pub use Rattle.frames.specs.declared.frame.Frame.{Frame}
-pub use Rattle.frames.specs.declared.frame.Frame.the-variants.{Open, Submit, Step, Take, Run}
+pub use Rattle.frames.specs.declared.frame.Frame.the-variants.{Open, Submit, Step, Take, Run, Withdraw}
 pub use Rattle.frames.specs.Width.{AllBytes, InWidth}
 pub use Rattle.frames.specs.declared.read.Reading.the-variants.{Read, Refused}
 -- questions 13, 14 and 15; reading at a position, its number, and the position after it

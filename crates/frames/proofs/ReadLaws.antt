@@ -1,17 +1,18 @@
 -- What is read writes back as the same bytes: `read-writes`. What is read is in width: `read-in-width`. Assumes nothing.
 use mathlib.Core.Path.{_≡_, refl, sym, ap, subst, _∙_}
-use mathlib.Core.Bool.{Bool, true}
+use mathlib.Core.Bool.{true, _||_}
+use mathlib.Core.Logic.{_⊎_, inl, inr}
 use mathlib.Core.List.{List, [], _∷_, _++_}
 use Prim.Native.Nat.{ℕ, zero, suc, _+_, _-_, _*_, _%_, _<_, _≤_}
 use native.Mathlib.Omega.{arith}
 use lib.ListN.{length, getD, take, drop, length-take, length-drop}
 use lib.Seq.{take-add, drop-drop, getD-drop, length-take-le}
 use lib.Signed.{mag}
-use lib.Dec.{leb}
+use lib.Dec.{eqb, leb}
 use borrow.Author.Tests.{leb-true, eqb-true}
 use Rattle.points.proofs.Tests.{and-l, and-r}
+use Rattle.rows.proofs.RangeLaws.{or-true}
 use Rattle.frames.specs.declared.frame.Frame.{Frame}
-use Rattle.frames.specs.declared.frame.Frame.the-variants.{Open, Submit, Step, Take, Run}
 use Rattle.frames.specs.declared.read.Reading.the-variants.{Read}
 use Rattle.frames.specs.Bytes.{numberAt, bytesOf, unsignedOf, signedOf}
 use Rattle.frames.specs.Width.{AllBytes, InWidth, SubmissionInWidth}
@@ -47,15 +48,25 @@ one-byte bytes at small = omega (arith, small at)
 signed-field : (bytes : List ℕ) (at : ℕ) → AllBytes bytes → unsignedOf (signedOf (numberAt 4 bytes at)) ≡ numberAt 4 bytes at
 signed-field bytes at small = unsigned-signed (numberAt 4 bytes at) (four-fits bytes at small)
 
--- what holds of the five kinds holds of every kind
-by-kind : (P : ℕ → Type 0) → P 1 → P 2 → P 3 → P 4 → P 5 → (k : ℕ) → 1 ≤ k → k ≤ 5 → P k
-by-kind P a b c d e zero l u = absurd (omega arith)
-by-kind P a b c d e (suc zero) l u = a
-by-kind P a b c d e (suc (suc zero)) l u = b
-by-kind P a b c d e (suc (suc (suc zero))) l u = c
-by-kind P a b c d e (suc (suc (suc (suc zero)))) l u = d
-by-kind P a b c d e (suc (suc (suc (suc (suc zero))))) l u = e
-by-kind P a b c d e (suc (suc (suc (suc (suc (suc k)))))) l u = absurd (omega arith)
+-- a kind is from 1 to 5, or 8
+kind-tells : (k : ℕ) → isKind k ≡ true → ((1 ≤ k) × (k ≤ 5)) ⊎ (k ≡ 8)
+kind-tells k is =
+    let from = leb-true 1 k (and-l (leb 1 k) (leb k 5 || eqb k 8) is) in
+    elim (or-true (leb k 5) (eqb k 8) (and-r (leb 1 k) (leb k 5 || eqb k 8) is)) [ inl e ↦ inl (from, leb-true k 5 e) | inr e ↦ inr (eqb-true k 8 e) ]
+
+-- what holds of 1 to 5 and of 8 holds of every kind
+by-kind : (P : ℕ → Type 0) → P 1 → P 2 → P 3 → P 4 → P 5 → P 8 → (k : ℕ) → isKind k ≡ true → P k
+by-kind P a b c d e f k is = go k (kind-tells k is)
+  where
+    go : (k : ℕ) → ((1 ≤ k) × (k ≤ 5)) ⊎ (k ≡ 8) → P k
+    go k (inr is-8) = subst P (sym is-8) f
+    go zero (inl h) = absurd (omega (arith, h .0))
+    go (suc zero) (inl h) = a
+    go (suc (suc zero)) (inl h) = b
+    go (suc (suc (suc zero))) (inl h) = c
+    go (suc (suc (suc (suc zero)))) (inl h) = d
+    go (suc (suc (suc (suc (suc zero))))) (inl h) = e
+    go (suc (suc (suc (suc (suc (suc k)))))) (inl h) = absurd (omega (arith, h .1))
 
 module _ (rest : List ℕ) (small : AllBytes rest) where
   -- the bytes of the frame of a kind are the first of the bytes
@@ -84,37 +95,20 @@ module _ (rest : List ℕ) (small : AllBytes rest) where
   same-station kind k s there =
       (λ i. headBytes (sym s i) (sym k i) ++ (sym (one-byte rest 4 small) i ∷ [])) ∙ parts-taken rest 0 (2 ∷ 2 ∷ 1 ∷ []) small there
 
-  same-step : Same 3
-  unfolding frameIn frameBytes
-  same-step k s there = same-station 3 k s there
-
-  same-take : Same 4
-  unfolding frameIn frameBytes
-  same-take k s there = same-station 4 k s there
-
-  same-run : Same 5
-  unfolding frameIn frameBytes
-  same-run k s there = same-station 5 k s there
-
-  kind-from : Passes rest → 1 ≤ kindIn rest
+  the-kind : Passes rest → isKind (kindIn rest) ≡ true
   unfolding hasKind
-  kind-from p =
-      leb-true 1 (kindIn rest) (and-l (leb 1 (kindIn rest)) (leb (kindIn rest) 5) (and-r (leb 2 (lengthIn rest)) (isKind (kindIn rest)) (p .kind)))
-
-  kind-to : Passes rest → kindIn rest ≤ 5
-  unfolding hasKind
-  kind-to p =
-      leb-true (kindIn rest) 5 (and-r (leb 1 (kindIn rest)) (leb (kindIn rest) 5) (and-r (leb 2 (lengthIn rest)) (isKind (kindIn rest)) (p .kind)))
+  the-kind p = and-r (leb 2 (lengthIn rest)) (isKind (kindIn rest)) (p .kind)
 
   own-size : Passes rest → lengthIn rest ≡ lengthOf (kindIn rest)
   unfolding ownLength
   own-size p = eqb-true (lengthIn rest) (lengthOf (kindIn rest)) (p .own)
 
   same-bytes : Passes rest → frameBytes (frameIn (kindIn rest) rest) ≡ take (2 + lengthIn rest) rest
+  unfolding frameIn frameBytes
   same-bytes p =
       let own = own-size p in
       let there = whole-there rest (p .whole) in
-      by-kind Same same-open same-submit same-step same-take same-run (kindIn rest) (kind-from p) (kind-to p) refl own (omega arith)
+      by-kind Same same-open same-submit (same-station 3) (same-station 4) (same-station 5) (same-station 8) (kindIn rest) (the-kind p) refl own (omega arith)
       ∙ ap (λ (n : ℕ). take (2 + n) rest) (sym own)
 
   -- fields that are read are in width
@@ -138,20 +132,9 @@ module _ (rest : List ℕ) (small : AllBytes rest) where
     curve = four-fits rest 24 small;
   }
 
-  wide-step : Wide 3
-  unfolding frameIn
-  wide-step = small 4
-
-  wide-take : Wide 4
-  unfolding frameIn
-  wide-take = small 4
-
-  wide-run : Wide 5
-  unfolding frameIn
-  wide-run = small 4
-
   wide : Passes rest → InWidth (frameIn (kindIn rest) rest)
-  wide p = by-kind Wide wide-open wide-submit wide-step wide-take wide-run (kindIn rest) (kind-from p) (kind-to p)
+  unfolding frameIn
+  wide p = by-kind Wide wide-open wide-submit (small 4) (small 4) (small 4) (small 4) (kindIn rest) (the-kind p)
 
 -- bytes from a position on
 dropped : (bytes : List ℕ) (at : ℕ) → AllBytes bytes → AllBytes (drop at bytes)

@@ -8,17 +8,17 @@ use lib.ListN.{length, take, drop, replicate, getD, length-append}
 use lib.Seq.{take-append-seam, drop-append-seam}
 use lib.IntN.{ℤ}
 use lib.Signed.{mag}
-use lib.Dec.{lit≤}
+use lib.Dec.{lit≤, lit<}
 use borrow.Author.Tests.{lt-ltb, le-leb, eq-eqb}
 use Rattle.points.proofs.Tests.{and-i}
 use Rattle.points.proofs.MachineLaws.{of-ok}
 use Rattle.frames.specs.declared.frame.Submission.{Submission}
 use Rattle.frames.specs.declared.frame.Frame.{Frame}
-use Rattle.frames.specs.declared.frame.Frame.the-variants.{Open, Submit, Step, Take, Run}
+use Rattle.frames.specs.declared.frame.Frame.the-variants.{Open, Submit, Step, Take, Run, Withdraw}
 use Rattle.frames.specs.declared.read.Reading.the-variants.{Read}
 use Rattle.frames.specs.Bytes.{numberAt, bytesOf, unsignedOf, signedOf}
 use Rattle.frames.specs.Width.{InWidth, SubmissionInWidth}
-use Rattle.frames.specs.Read.{lengthIn, kindIn, lengthOf, isWhole, hasKind, ownLength, submissionIn, frameIn, readRest, readOf}
+use Rattle.frames.specs.Read.{lengthIn, kindIn, lengthOf, isKind, isWhole, hasKind, ownLength, submissionIn, frameIn, readRest, readOf}
 use Rattle.frames.specs.Outcome.{Passes}
 use Rattle.frames.specs.Write.{headBytes, submissionStart, submissionEnd, frameBytes, padded, writtenBytes, writtenOf}
 use Rattle.frames.proofs.SignedLaws.{unsigned-fits, signed-unsigned}
@@ -36,7 +36,7 @@ pub record Says (rest : List ℕ) (f : Frame) (size kind : ℕ) : Type 0 where
   pub says-size : lengthIn rest ≡ size
   pub says-kind : kindIn rest ≡ kind
   pub sized : lengthOf kind ≡ size
-  pub is-kind : (1 ≤ kind) × (kind ≤ 5)
+  pub is-kind : isKind kind ≡ true
   pub enough : 2 ≤ size
   pub says-frame : frameIn kind rest ≡ f
 
@@ -44,9 +44,7 @@ passes-of : {rest : List ℕ} {f : Frame} {size kind : ℕ} → Says rest f size
 unfolding isWhole hasKind ownLength
 passes-of {rest} {f} {size} {kind} s = record {
   whole = and-i (le-leb 2 (length rest) (omega (arith, s .there, s .enough))) (le-leb (2 + lengthIn rest) (length rest) (omega (arith, s .there, s .says-size)));
-  kind =
-      and-i (le-leb 2 (lengthIn rest) (omega (arith, s .enough, s .says-size)))
-      (and-i (le-leb 1 (kindIn rest) (omega (arith, s .is-kind .0, s .says-kind))) (le-leb (kindIn rest) 5 (omega (arith, s .is-kind .1, s .says-kind))));
+  kind = and-i (le-leb 2 (lengthIn rest) (omega (arith, s .enough, s .says-size))) (ap isKind (s .says-kind) ∙ s .is-kind);
   own = eq-eqb (lengthIn rest) (lengthOf (kindIn rest)) (s .says-size ∙ sym (s .sized) ∙ ap lengthOf (sym (s .says-kind)));
 }
 
@@ -63,7 +61,7 @@ open-says places limit post p l = record {
   says-size = refl;
   says-kind = refl;
   sized = refl;
-  is-kind = (lit≤ tt, lit≤ tt);
+  is-kind = refl;
   enough = lit≤ tt;
   says-frame = λ i. Open (two-whole places p i) (four-whole limit l i);
 }
@@ -80,7 +78,7 @@ submit-says s post w = record {
   says-size = refl;
   says-kind = refl;
   sized = refl;
-  is-kind = (lit≤ tt, lit≤ tt);
+  is-kind = refl;
   enough = lit≤ tt;
   says-frame = λ i. Submit (record {
     station = s .station;
@@ -94,50 +92,29 @@ submit-says s post w = record {
   });
 }
 
-step-says : (station : ℕ) (post : List ℕ) → Says (frameBytes (Step station) ++ post) (Step station) 3 3
-unfolding frameBytes headBytes bytesOf numberAt frameIn
-step-says station post = record {
+-- the bytes of a frame of a station alone, likewise
+station-says : (kind station : ℕ) (f : Frame) (post : List ℕ) → kind < 65536 → lengthOf kind ≡ 3 → isKind kind ≡ true
+    → frameIn kind (headBytes 3 kind ++ (station ∷ post)) ≡ f → Says (headBytes 3 kind ++ (station ∷ post)) f 3 kind
+unfolding headBytes bytesOf numberAt
+station-says kind station f post small size is frame = record {
   there = omega arith;
   says-size = refl;
-  says-kind = refl;
-  sized = refl;
-  is-kind = (lit≤ tt, lit≤ tt);
+  says-kind = two-whole kind small;
+  sized = size;
+  is-kind = is;
   enough = lit≤ tt;
-  says-frame = refl;
-}
-
-take-says : (station : ℕ) (post : List ℕ) → Says (frameBytes (Take station) ++ post) (Take station) 3 4
-unfolding frameBytes headBytes bytesOf numberAt frameIn
-take-says station post = record {
-  there = omega arith;
-  says-size = refl;
-  says-kind = refl;
-  sized = refl;
-  is-kind = (lit≤ tt, lit≤ tt);
-  enough = lit≤ tt;
-  says-frame = refl;
-}
-
-run-says : (station : ℕ) (post : List ℕ) → Says (frameBytes (Run station) ++ post) (Run station) 3 5
-unfolding frameBytes headBytes bytesOf numberAt frameIn
-run-says station post = record {
-  there = omega arith;
-  says-size = refl;
-  says-kind = refl;
-  sized = refl;
-  is-kind = (lit≤ tt, lit≤ tt);
-  enough = lit≤ tt;
-  says-frame = refl;
+  says-frame = frame;
 }
 
 -- the bytes of a frame in width, with any bytes after them, are read as the frame
 frame-reads : (f : Frame) → InWidth f → (post : List ℕ) (at : ℕ) → readRest (frameBytes f ++ post) at ≡ Read f (at + length (frameBytes f))
-unfolding frameBytes submissionStart submissionEnd headBytes bytesOf
+unfolding frameBytes submissionStart submissionEnd headBytes bytesOf frameIn
 frame-reads (Open places limit) w post at = says-reads at (open-says places limit post (w .0) (w .1))
 frame-reads (Submit s) w post at = says-reads at (submit-says s post w)
-frame-reads (Step station) w post at = says-reads at (step-says station post)
-frame-reads (Take station) w post at = says-reads at (take-says station post)
-frame-reads (Run station) w post at = says-reads at (run-says station post)
+frame-reads (Step station) w post at = says-reads at (station-says 3 station (Step station) post (lit< tt) refl refl refl)
+frame-reads (Take station) w post at = says-reads at (station-says 4 station (Take station) post (lit< tt) refl refl refl)
+frame-reads (Run station) w post at = says-reads at (station-says 5 station (Run station) post (lit< tt) refl refl refl)
+frame-reads (Withdraw station) w post at = says-reads at (station-says 8 station (Withdraw station) post (lit< tt) refl refl refl)
 
 -- a frame has at least its length bytes
 pub frame-length : (f : Frame) → 2 ≤ length (frameBytes f)
@@ -147,6 +124,7 @@ frame-length (Submit s) = lit≤ tt
 frame-length (Step station) = lit≤ tt
 frame-length (Take station) = lit≤ tt
 frame-length (Run station) = lit≤ tt
+frame-length (Withdraw station) = lit≤ tt
 
 -- the same among other bytes
 pub frame-among : (f : Frame) → InWidth f → (pre post : List ℕ) → readOf (pre ++ (frameBytes f ++ post)) (length pre) ≡ Read f (length pre + length (frameBytes f))

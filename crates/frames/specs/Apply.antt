@@ -11,9 +11,10 @@ use Rattle.steps.specs.Submit.{submitOf}
 use Rattle.steps.specs.Step.{stepOf}
 use Rattle.steps.specs.Run.{runOf}
 use Rattle.steps.specs.Take.{takeOf, takeWords}
+use Rattle.steps.specs.Withdraw.{withdrawOf}
 use Rattle.frames.specs.declared.frame.Submission.{Submission}
 use Rattle.frames.specs.declared.frame.Frame.{Frame}
-use Rattle.frames.specs.declared.frame.Frame.the-variants.{Open, Submit, Step, Take, Run}
+use Rattle.frames.specs.declared.frame.Frame.the-variants.{Open, Submit, Step, Take, Run, Withdraw}
 use Rattle.frames.specs.declared.apply.Applied.{Applied}
 use Rattle.frames.specs.declared.apply.Applied.the-variants.{Number, Given}
 
@@ -37,6 +38,7 @@ applyOf words (Submit s) = Number (submissionReply words s .number)
 applyOf words (Step station) = Number (stepOf words station .number)
 applyOf words (Take station) = appliedOf (takeOf words station)
 applyOf words (Run station) = Number (runOf words station .number)
+applyOf words (Withdraw station) = Number (withdrawOf words station .number)
 
 -- the words that a frame leaves
 unfoldable pub applyWords : List ℕ → Frame → List ℕ
@@ -45,6 +47,7 @@ applyWords words (Submit s) = submissionReply words s .words
 applyWords words (Step station) = stepOf words station .words
 applyWords words (Take station) = takeWords words station
 applyWords words (Run station) = runOf words station .words
+applyWords words (Withdraw station) = withdrawOf words station .words
 
 -- document 01's number of what a frame gives: that of a refusal, else 0
 abbrev pub appliedNumber : Applied → ℕ

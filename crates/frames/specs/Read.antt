@@ -1,12 +1,12 @@
--- Reading a frame (document 01, "Questions": 13 to 15, and "Frames"). `rest` is the bytes from the position on.
+-- Reading a frame (document 01, "Questions": 13 to 15, and "Frames"; request 2026-06 for kind 8). `rest` is the bytes from the position on.
 use Prim.Native.Nat.{ℕ, _+_}
-use mathlib.Core.Bool.{Bool, cond, _&&_}
+use mathlib.Core.Bool.{Bool, cond, _&&_, _||_}
 use mathlib.Core.List.{List}
 use lib.ListN.{length, getD, drop}
 use lib.Dec.{eqb, leb, ltb}
 use Rattle.frames.specs.declared.frame.Submission.{Submission}
 use Rattle.frames.specs.declared.frame.Frame.{Frame}
-use Rattle.frames.specs.declared.frame.Frame.the-variants.{Open, Submit, Step, Take, Run}
+use Rattle.frames.specs.declared.frame.Frame.the-variants.{Open, Submit, Step, Take, Run, Withdraw}
 use Rattle.frames.specs.declared.read.Reading.{Reading}
 use Rattle.frames.specs.declared.read.Reading.the-variants.{Read, End, Refused}
 use Rattle.frames.specs.Bytes.{numberAt, signedOf}
@@ -19,19 +19,19 @@ lengthIn rest = numberAt 2 rest 0
 abbrev pub kindIn : List ℕ → ℕ
 kindIn rest = numberAt 2 rest 2
 
--- the length of a kind's frames, for kinds 1 to 5
+-- the length of a kind's frames, for kinds 1 to 5 and 8
 abbrev pub lengthOf : ℕ → ℕ
 lengthOf kind = cond (eqb kind 1) 8 (cond (eqb kind 2) 26 3)
 
--- "Is there a kind, 1 to 5?"
+-- "Is there a kind, 1 to 5?" (document 01), "question 14 admits 8" (request 2026-06)
 abbrev pub isKind : ℕ → Bool
-isKind kind = leb 1 kind && leb kind 5
+isKind kind = leb 1 kind && (leb kind 5 || eqb kind 8)
 
 -- 13: "are both length bytes and all the bytes they count there?"
 unfoldable pub isWhole : List ℕ → Bool
 isWhole rest = leb 2 (length rest) && leb (2 + lengthIn rest) (length rest)
 
--- 14: "Is there a kind, 1 to 5? 14, also for lengths 0 and 1."
+-- 14: "Is there a kind, 1 to 5? 14, also for lengths 0 and 1.", where 8 is a kind as well
 unfoldable pub hasKind : List ℕ → Bool
 hasKind rest = leb 2 (lengthIn rest) && isKind (kindIn rest)
 
@@ -52,12 +52,13 @@ submissionIn rest = record {
   curve = numberAt 4 rest 24;
 }
 
--- the frame of a kind, 1 to 5
+-- the frame of a kind, 1 to 5 or 8
 unfoldable pub frameIn : ℕ → List ℕ → Frame
 frameIn kind rest =
     cond (eqb kind 1) (Open (numberAt 2 rest 4) (numberAt 4 rest 6))
     (cond (eqb kind 2) (Submit (submissionIn rest))
-    (cond (eqb kind 3) (Step (getD rest 4 0)) (cond (eqb kind 4) (Take (getD rest 4 0)) (Run (getD rest 4 0)))))
+    (cond (eqb kind 3) (Step (getD rest 4 0))
+    (cond (eqb kind 4) (Take (getD rest 4 0)) (cond (eqb kind 5) (Run (getD rest 4 0)) (Withdraw (getD rest 4 0))))))
 
 -- the first of questions 13 to 15 that fails, or 0
 unfoldable pub frameQuestion : List ℕ → ℕ

@@ -5,7 +5,7 @@ use lib.ListN.{getD}
 use lib.Signed.{mag}
 use Rattle.frames.specs.declared.frame.Submission.{Submission}
 use Rattle.frames.specs.declared.frame.Frame.{Frame}
-use Rattle.frames.specs.declared.frame.Frame.the-variants.{Open, Submit, Step, Take, Run}
+use Rattle.frames.specs.declared.frame.Frame.the-variants.{Open, Submit, Step, Take, Run, Withdraw}
 
 -- every number of the list is a byte
 abbrev pub AllBytes : List ℕ → Type 0
@@ -29,6 +29,7 @@ InWidth (Submit s) = SubmissionInWidth s
 InWidth (Step station) = station < 256
 InWidth (Take station) = station < 256
 InWidth (Run station) = station < 256
+InWidth (Withdraw station) = station < 256
 
 -- every field of every frame of the list
 abbrev pub AllInWidth : List Frame → Type 0

@@ -6,7 +6,7 @@ use lib.ListN.{length, replicate}
 use lib.Dec.{eqb}
 use Rattle.frames.specs.declared.frame.Submission.{Submission}
 use Rattle.frames.specs.declared.frame.Frame.{Frame}
-use Rattle.frames.specs.declared.frame.Frame.the-variants.{Open, Submit, Step, Take, Run}
+use Rattle.frames.specs.declared.frame.Frame.the-variants.{Open, Submit, Step, Take, Run, Withdraw}
 use Rattle.frames.specs.declared.write.Written.{Written}
 use Rattle.frames.specs.declared.write.Fields.{Fields}
 use Rattle.frames.specs.declared.write.Writing.{Writing}
@@ -35,6 +35,7 @@ frameBytes (Submit s) = submissionStart s ++ submissionEnd s
 frameBytes (Step station) = headBytes 3 3 ++ (station ∷ [])
 frameBytes (Take station) = headBytes 3 4 ++ (station ∷ [])
 frameBytes (Run station) = headBytes 3 5 ++ (station ∷ [])
+frameBytes (Withdraw station) = headBytes 3 8 ++ (station ∷ [])
 
 -- with zeros up to 28 bytes
 unfoldable pub padded : List ℕ → List ℕ
@@ -65,12 +66,13 @@ submissionFrom fields = record {
   curve = fields .curve;
 }
 
--- the frame of a kind, 1 to 5, with its own of these fields
+-- the frame of a kind, 1 to 5 or 8, with its own of these fields
 unfoldable pub frameFrom : ℕ → Fields → Frame
 frameFrom kind fields =
     cond (eqb kind 1) (Open (fields .places) (fields .limit))
     (cond (eqb kind 2) (Submit (submissionFrom fields))
-    (cond (eqb kind 3) (Step (fields .station)) (cond (eqb kind 4) (Take (fields .station)) (Run (fields .station)))))
+    (cond (eqb kind 3) (Step (fields .station))
+    (cond (eqb kind 4) (Take (fields .station)) (cond (eqb kind 5) (Run (fields .station)) (Withdraw (fields .station))))))
 
 -- "The writer takes a kind (question 14) and fields of exactly these widths"
 unfoldable pub writeOf : ℕ → Fields → Writing

@@ -11,6 +11,7 @@ use steps::step::step;
 use steps::submit::submit;
 use steps::take::Taking;
 use steps::take::take;
+use steps::withdraw::withdraw;
 ghost use mathlib.Core.Path.{_≡_};
 ghost use lib.IntN.{pos};
 ghost use Rattle.moves.specs.Reply.{replied};
@@ -76,5 +77,6 @@ pub fn apply_frame(words: &mut [u32], frame: Frame) -> Applied
         Frame::Step { station } => Applied::Number(step(words, byte_as_word(station))),
         Frame::Take { station } => applied_of(take(words, byte_as_word(station))),
         Frame::Run { station } => Applied::Number(run(words, byte_as_word(station))),
+        Frame::Withdraw { station } => Applied::Number(withdraw(words, byte_as_word(station))),
     }
 }

@@ -12,11 +12,12 @@ pub struct Submission {
     pub curve: u32,
 }
 
-// A frame, kinds 1 to 5 in this order.
+// A frame, kinds 1 to 5 and 8 in this order.
 pub enum Frame {
     Open { places: u16, limit: u32 },
     Submit(Submission),
     Step { station: u8 },
     Take { station: u8 },
     Run { station: u8 },
+    Withdraw { station: u8 },
 }

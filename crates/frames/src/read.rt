@@ -10,7 +10,7 @@ use moves::reply::pick;
 ghost use mathlib.Core.Path.{_≡_};
 ghost use Prim.Native.Nat.{_+_, _<_};
 ghost use lib.ListN.{length};
-ghost use Rattle.frames.specs.Read.{lengthOf, isWhole, hasKind, ownLength, frameQuestion, submissionIn, frameIn, readRest, readOf, positionAfter};
+ghost use Rattle.frames.specs.Read.{lengthOf, isKind, isWhole, hasKind, ownLength, frameQuestion, submissionIn, frameIn, readRest, readOf, positionAfter};
 
 // What reading at a position finds: a frame and the position after it, no byte, or the number of the first question that fails.
 pub enum Reading {
@@ -30,6 +30,13 @@ fn length_of(kind: u16) -> u16
     }
 }
 
+// There is such a kind: 1 to 5, or 8.
+pub(crate) fn is_kind(kind: u16) -> bool
+    ensures { λ r. ⌜ r ≡ isKind kind ⌝ }
+{
+    (1 <= kind) & ((kind <= 5) | (kind == 8))
+}
+
 // Question 13: both length bytes and all the bytes they count are there.
 fn is_whole(rest: &[u8]) -> bool
     ensures { λ r. ⌜ r ≡ isWhole (now (rest .entry)) ⌝ }
@@ -37,12 +44,12 @@ fn is_whole(rest: &[u8]) -> bool
     (2 <= rest.len()) & (2 + pair_as_count(two_at(rest, 0)) <= rest.len())
 }
 
-// Question 14: there is a kind, 1 to 5.
+// Question 14: there is a kind, 1 to 5 or 8.
 fn has_kind(rest: &[u8]) -> bool
     ensures { λ r. ⌜ r ≡ hasKind (now (rest .entry)) ⌝ }
 {
-    let kind = two_at(rest, 2);
-    (2 <= two_at(rest, 0)) & ((1 <= kind) & (kind <= 5))
+    let known = is_kind(two_at(rest, 2));
+    (2 <= two_at(rest, 0)) & known
 }
 
 // Question 15: the length is the kind's own.
@@ -77,7 +84,7 @@ fn submission_in(rest: &[u8]) -> Submission
     }
 }
 
-// The frame of a kind that starts the bytes. Any number but 1 to 4 is taken for 5.
+// The frame of a kind that starts the bytes. Any number but 1 to 5 is taken for 8.
 fn frame_in(kind: u16, rest: &[u8]) -> Frame
     ensures { λ r. ⌜ r ≡ frameIn kind (now (rest .entry)) ⌝ }
 {
@@ -93,7 +100,10 @@ fn frame_in(kind: u16, rest: &[u8]) -> Frame
         4 => Frame::Take {
             station: byte_at(rest, 4),
         },
-        _ => Frame::Run {
+        5 => Frame::Run {
+            station: byte_at(rest, 4),
+        },
+        _ => Frame::Withdraw {
             station: byte_at(rest, 4),
         },
     }

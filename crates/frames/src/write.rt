@@ -4,6 +4,7 @@ use crate::byte::with_signed;
 use crate::byte::with_two;
 use crate::frame::Frame;
 use crate::frame::Submission;
+use crate::read::is_kind;
 ghost use mathlib.Core.Path.{_≡_};
 ghost use Rattle.frames.specs.declared.frame.Frame.{Frame};
 ghost use Rattle.frames.specs.Write.{headBytes, submissionStart, padded, stationWritten, writtenOf, submissionFrom, frameFrom, writeOf};
@@ -97,6 +98,7 @@ pub fn write_frame(frame: Frame) -> Written
         Frame::Step { station } => write_station(3, station),
         Frame::Take { station } => write_station(4, station),
         Frame::Run { station } => write_station(5, station),
+        Frame::Withdraw { station } => write_station(8, station),
     }
 }
 
@@ -116,7 +118,7 @@ fn submission_from(fields: Fields) -> Submission
     }
 }
 
-// The frame of a kind with its own of these fields. Any number but 1 to 4 is taken for 5.
+// The frame of a kind with its own of these fields. Any number but 1 to 5 is taken for 8.
 fn frame_from(kind: u16, fields: Fields) -> Frame
     ensures { λ r. ⌜ r ≡ frameFrom kind fields ⌝ }
 {
@@ -132,7 +134,10 @@ fn frame_from(kind: u16, fields: Fields) -> Frame
         4 => Frame::Take {
             station: fields.station,
         },
-        _ => Frame::Run {
+        5 => Frame::Run {
+            station: fields.station,
+        },
+        _ => Frame::Withdraw {
             station: fields.station,
         },
     }
@@ -142,7 +147,7 @@ fn frame_from(kind: u16, fields: Fields) -> Frame
 pub fn write_fields(kind: u16, fields: Fields) -> Writing
     ensures { λ r. ⌜ r ≡ writeOf kind fields ⌝ }
 {
-    if (1 <= kind) & (kind <= 5) {
+    if is_kind(kind) {
         Writing {
             number: 0,
             written: write_frame(frame_from(kind, fields)),

@@ -9,6 +9,7 @@ use native.Mathlib.Omega.{arith}
 use native.Mathlib.Decide.{ℕ-discrete}
 use lib.Dec.{eqb, leb}
 use borrow.Author.Tests.{eq-eqb, ne-eqb, le-leb, lt-leb}
+use Rattle.points.proofs.Tests.{and-i}
 use Rattle.points.specs.declared.point.Point.{Point}
 use Rattle.points.specs.Order.{samePoint}
 use Rattle.points.proofs.OrderLaws.{same-point-true, same-point-false}
@@ -18,7 +19,7 @@ use Rattle.rows.specs.Call.{callAt}
 use Rattle.rows.proofs.RangeLaws.{curve-tells}
 use Rattle.rows.proofs.SoundLaws.{answer-of}
 use Rattle.table.specs.Record.{Record, curveAt}
-use Rattle.table.specs.Call.{Call, add, remove, contains, answer}
+use Rattle.table.specs.Call.{Call, add, remove, contains, answer, pointOf}
 use Rattle.table.specs.Table.{unfinished, Table, taken, answerOf}
 use Rattle.table.proofs.Held.{curve-some, curve-held}
 use Rattle.table.proofs.Sound.{Sound}
@@ -34,7 +35,7 @@ use Rattle.moves.specs.Insert.{insertOf}
 use Rattle.moves.specs.Unlink.{unlinkOf}
 use Rattle.moves.specs.Walk.{codeOf, codeAt, plainAnswer, conclude}
 use Rattle.history.specs.View.{countsAt, seatAt, wordRow}
-use Rattle.history.specs.Related.{recordOf, kindOf, pointOf, Busy, Related}
+use Rattle.history.specs.Related.{recordOf, kindOf, Busy, Related}
 use Rattle.history.proofs.Readings.{plain-change}
 use Rattle.history.proofs.Effects.{reads-in}
 use Rattle.history.proofs.Outcome.{Outcome, ends}
@@ -109,7 +110,7 @@ module _ {words : List ℕ} {t : Table} {s i : ℕ} {c : Call} (sound : Sound t)
       (ends refl (subst (λ (u : Table). Related (answeredWords words s (given code (pointOf c) curve 0)) u)
       (sym (finished-quiet t s c (answer code (pointOf c) curve 0) says (plain-change code (pointOf c) curve one five)))
       (related-answered s l r (given code (pointOf c) curve 0) (omega (arith, removals-word r sound))
-      (answer-of (given code (pointOf c) curve 0) (record { code-least = least; code-most = most; point = busy .ranged; curve = fits; square = omega arith })))))
+      (answer-of (given code (pointOf c) curve 0) (record { code = and-i (le-leb 1 code least) (ap (λ (b : Bool). b || eqb code 11) (le-leb code 9 most)); point = busy .ranged; curve = fits; square = omega arith })))))
 
 -- ---- the decision of each call
 

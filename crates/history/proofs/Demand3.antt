@@ -35,6 +35,7 @@ use Rattle.history.proofs.RelatedAgree.{related-agrees}
 use Rattle.history.proofs.RelatedSettle.{related-settles}
 use Rattle.history.proofs.RelatedSubmit.{related-submits}
 use Rattle.history.proofs.RelatedTake.{related-takes}
+use Rattle.history.proofs.RelatedWithdraw.{related-withdraws}
 use Rattle.history.proofs.StepOutcome.{step-outcome, most-left}
 
 -- ---- whether a step has answered
@@ -183,6 +184,7 @@ simulation words places limit w = record {
   settles = related-settles;
   submits = λ s kind p c h k r. related-submits s kind p c h r;
   takes = λ s h k r. related-takes s h r;
+  withdraws = λ s h k r. related-withdraws s h r;
   stills = λ s h k r a. stills s h k r a;
   answers = λ s h k r a. answers s h k r a;
 }

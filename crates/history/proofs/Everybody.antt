@@ -1,29 +1,31 @@
 -- Everybody finishes where nobody submits (`everybody`): no more than 8 × (16 × places + 1) steps are dealt to stations with an unfinished call. Each stretch
--- of more than 16 × places answers one of the eight, and no other call becomes unfinished.
+-- of more than 16 × places answers one of the eight, a withdrawal ends another call, and no other call becomes unfinished.
 use Prim.Native.Nat.{ℕ, zero, suc, _+_, _*_, _≤_, _<_}
-use mathlib.Core.Path.{_≡_, refl, sym, ap, _∙_}
+use mathlib.Core.Path.{_≡_, refl, sym, ap, _∙_, subst}
 use mathlib.Core.Bool.{Bool, true, false, true≢false, false≢true, cond}
 use mathlib.Core.List.{List, [], _∷_}
 use native.Mathlib.Omega.{arith}
-use native.Mathlib.Decide.{decLt}
+use native.Mathlib.Decide.{decLt, ℕ-discrete}
 use borrow.Author.Tests.{eq-eqb, ne-eqb}
 use Rattle.rows.specs.Station.{isUnfinished, stateAt}
 use Rattle.table.specs.Table.{Station, idle, unfinished, waiting, Table}
-use Rattle.table.specs.Event.{Event, submission, singleStep, taking, accept}
+use Rattle.table.specs.Event.{Event, submission, singleStep, taking, withdrawal, accept}
 use Rattle.table.specs.History.{reply, answered}
 use Rattle.table.proofs.Eager.{own}
-use Rattle.table.proofs.Settled.{busy, take-busy, answer-busy}
+use Rattle.table.proofs.Settled.{busy, take-busy, retract-busy, retract-ends, answer-busy}
 use Rattle.table.proofs.Simulation.{finished, answer-step}
 use Rattle.steps.specs.Open.{openOf}
 use Rattle.steps.specs.Step.{stepOf}
+use Rattle.steps.specs.Withdraw.{withdrawOf}
 use Rattle.history.specs.Index.{wordIndex}
 use Rattle.history.specs.View.{seatAt}
 use Rattle.history.specs.Related.{Related}
 use Rattle.history.specs.After.{after}
-use Rattle.history.specs.Somebody.{dealtStep, dealtSteps, Undisturbed, NobodySubmits}
+use Rattle.history.specs.Somebody.{dealtStep, dealtSteps, NobodySubmits}
 use Rattle.history.proofs.RelatedLaws.{related-idle, related-busy, related-waits}
 use Rattle.history.proofs.RelatedTake.{related-takes}
-use Rattle.history.proofs.Refused.{submit-refused}
+use Rattle.history.proofs.RelatedWithdraw.{related-withdraws}
+use Rattle.history.proofs.Refused.{submit-refused, withdraw-refused}
 use Rattle.history.proofs.Demand3.{accepted, stills, answers}
 use Rattle.history.proofs.Reached.{Stands, settled-stands, event-stands, history-related, still-alike}
 use Rattle.history.proofs.Solo.{outside-state}
@@ -34,7 +36,7 @@ use Rattle.history.proofs.Somebody.{Within, Fallen, reseats-within, ste
 -- ---- the stations with an unfinished call
 
 -- the words say that a station's call is unfinished exactly if the table does
-unfinished-same : {words : List ℕ} {t : Table} → Related words t → (s : ℕ) → s < 8 → isUnfinished (stateAt words s) ≡ busy (t .stations s)
+pub unfinished-same : {words : List ℕ} {t : Table} → Related words t → (s : ℕ) → s < 8 → isUnfinished (stateAt words s) ≡ busy (t .stations s)
 unfolding busy seatAt
 unfinished-same {words} {t} r s l = go (t .stations s) refl
   where
@@ -99,6 +101,13 @@ module _ {words : List ℕ} {places limit : ℕ} (w : Stands words places limit)
   unfolding reply
   take-count = count-le (w .related) (related-takes s (w .sound) (w .related) .next) (λ x. take-busy (w .table) s x)
 
+  withdrawn-count : withdrawOf words s .number ≡ 0 → 1 + unfinishedCount (withdrawOf words s .words) ≤ unfinishedCount words
+  withdrawn-count z =
+      let t = w .table in
+      let m = related-withdraws s (w .sound) (w .related) in
+      let b = retract-ends t s (sym (m .number) ∙ z) in
+      count-less (w .related) (m .next) (λ x. retract-busy t s x) s (b .0) (b .1) (b .2)
+
   still-count : answered wordIndex words (singleStep s) ≡ false → unfinishedCount (stepOf words s .words) ≤ unfinishedCount words
   still-count e =
       let v = settled-stands w in
@@ -138,6 +147,10 @@ unfolding drained
 all-drained places zero = refl
 all-drained places (suc k) = refl
 
+-- at most that much is left to all stations together
+most-within : {words : List ℕ} {places limit : ℕ} → Stands words places limit → Within words places limit (32 * places)
+most-within a = record { stands = a; few = omega (arith, potential-most (a .related), a .places-same) }
+
 -- a step that does not answer, before others
 still-few : {words : List ℕ} {places limit n : ℕ} (s k rest : ℕ) → unfinishedCount words ≤ k → (f : Fallen words places limit n s) → 2 * rest ≤ drainedFrom places (f .fewer) k
     → 2 * (dealtStep words (singleStep s) + rest) ≤ drainedFrom places n k
@@ -145,19 +158,29 @@ still-few {words} s zero rest l f h = rw (count-none words s (omega (arith, l)))
 still-few s (suc k) rest l f h = omega (arith, h, f .counted)
 
 -- the calls of k stations
-dealt-few : (run : List Event) {words : List ℕ} {places limit n : ℕ} → Within words places limit n → Undisturbed run → NobodySubmits words run → (k : ℕ) → unfinishedCount words ≤ k
+dealt-few : (run : List Event) {words : List ℕ} {places limit n : ℕ} → Within words places limit n → NobodySubmits words run → (k : ℕ) → unfinishedCount words ≤ k
     → 2 * dealtSteps words run ≤ drainedFrom places n k
 unfolding dealtSteps reply
-dealt-few [] w d f k l = omega arith
-dealt-few (submission s kind p c ∷ run) {words} w d f k l =
+dealt-few [] w f k l = omega arith
+dealt-few (submission s kind p c ∷ run) {words} w f k l =
     let same = submit-refused words s kind p c (f .0) in
     let rest : NobodySubmits words run = rw same at (f .1) in
-    rw same (omega (arith, dealt-few run w d rest k l))
-dealt-few (taking s ∷ run) {words} w d f k l =
+    rw same (omega (arith, dealt-few run w rest k l))
+dealt-few (taking s ∷ run) {words} w f k l =
     let a = w .stands in
     let v = reseats-within w (event-stands (taking s) a) s (take-reseats words (a .table .places) (a .table .limit) (a .related .opened) s) in
-    omega (arith, dealt-few run v d (f .1) k (omega (arith, take-count a s, l)))
-dealt-few (singleStep s ∷ run) {words} {places} {limit} {n} w d f k l = go (λ m v j. dealt-few run v d (f .1) j) (answered wordIndex words (singleStep s)) refl k l
+    omega (arith, dealt-few run v (f .1) k (omega (arith, take-count a s, l)))
+dealt-few (withdrawal s ∷ run) {words} {places} {limit} {n} w f k l = go (λ m v j. dealt-few run v (f .1) j) (ℕ-discrete (withdrawOf words s .number) 0) k l
+  where
+    go : ((m : ℕ) → Within (withdrawOf words s .words) places limit m → (j : ℕ) → unfinishedCount (withdrawOf words s .words) ≤ j → 2 * dealtSteps (withdrawOf words s .words) run ≤ drainedFrom places m j)
+        → Dec (withdrawOf words s .number ≡ 0) → (k : ℕ) → unfinishedCount words ≤ k → 2 * (0 + dealtSteps (withdrawOf words s .words) run) ≤ drainedFrom places n k
+    go rest (no z) k l =
+        let same = withdraw-refused words s z in
+        omega (arith, rest n (subst (λ (x : List ℕ). Within x places limit n) (sym same) w) k (rw same l))
+    go rest (yes z) zero l = absurd (omega (arith, withdrawn-count (w .stands) s z, l))
+    go rest (yes z) (suc k) l =
+        omega (arith, rest (32 * places) (most-within (event-stands (withdrawal s) (w .stands))) k (omega (arith, withdrawn-count (w .stands) s z, l)), all-drained places k)
+dealt-few (singleStep s ∷ run) {words} {places} {limit} {n} w f k l = go (λ m v j. dealt-few run v (f .1) j) (answered wordIndex words (singleStep s)) refl k l
   where
     go : ((m : ℕ) → Within (stepOf words s .words) places limit m → (j : ℕ) → unfinishedCount (stepOf words s .words) ≤ j → 2 * dealtSteps (stepOf words s .words) run ≤ drainedFrom places m j)
         → (b : Bool) → answered wordIndex words (singleStep s) ≡ b → (k : ℕ) → unfinishedCount words ≤ k
@@ -167,16 +190,13 @@ dealt-few (singleStep s ∷ run) {words} {places} {limit} {n} w d f k l = go (λ
         still-few s k (dealtSteps (stepOf words s .words) run) l x (rest (x .fewer) (x .within) k (omega (arith, still-count (w .stands) s e, l)))
     go rest true e zero l = absurd (omega (arith, answer-count (w .stands) s e, l))
     go rest true e (suc k) l =
-        let a : Stands (stepOf words s .words) places limit = event-stands (singleStep s) (w .stands) in
-        let x : Within (stepOf words s .words) places limit (32 * places) = record { stands = a; few = omega (arith, potential-most (a .related), a .places-same) } in
-        omega (arith, rest (32 * places) x k (omega (arith, answer-count (w .stands) s e, l)), all-drained places k, at-most-one words s)
+        omega (arith, rest (32 * places) (most-within (event-stands (singleStep s) (w .stands))) k (omega (arith, answer-count (w .stands) s e, l)), all-drained places k, at-most-one words s)
 
 -- After every history, where nobody submits, at most 8 × (16 × places + 1) steps are dealt to stations with an unfinished call.
-pub everybody : (words : List ℕ) (places limit : ℕ) → openOf words places limit .number ≡ 0 → (evs run : List Event) → Undisturbed run
+pub everybody : (words : List ℕ) (places limit : ℕ) → openOf words places limit .number ≡ 0 → (evs run : List Event)
     → NobodySubmits (after evs (openOf words places limit .words)) run → dealtSteps (after evs (openOf words places limit .words)) run ≤ 8 * (16 * places + 1)
 unfolding drained
-everybody words places limit e evs run d f =
+everybody words places limit e evs run f =
     let a = accepted words places limit e in
     let v : Stands (after evs (openOf words places limit .words)) places limit = rw (a .opens) (history-related words places limit a evs) in
-    let w : Within (after evs (openOf words places limit .words)) places limit (32 * places) = record { stands = v; few = omega (arith, potential-most (v .related), v .places-same) } in
-    omega (arith, dealt-few run w d f 8 (count-most (after evs (openOf words places limit .words))))
+    omega (arith, dealt-few run (most-within v) f 8 (count-most (after evs (openOf words places limit .words))))

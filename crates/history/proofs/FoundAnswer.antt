@@ -84,10 +84,10 @@ module _ (call : Call) (best : WordBest) (entries : List Entry) (near : Nearest 
       go : (x : Bool) → eqb (best .curve) 0 ≡ x → answerSound (foundAnswer call best) ≡ true
       go true e =
           rw (e, foundAnswer) (answer-of (answer 9 (call .point) 0 0)
-          (record { code-least = omega arith; code-most = omega arith; point = t; curve = omega arith; square = omega arith }))
+          (record { code = refl; point = t; curve = omega arith; square = omega arith }))
       go false e =
           let v : Nearest (choiceOf (call .point)) (λ e. List·Memᴰ e entries) (some (bestThere best)) = rw (e, bestOf) at near in
           let f : FoundAs (choiceOf (call .point)) (λ e. List·Memᴰ e entries) (bestThere best) = v .held (bestThere best) refl in
           let c = curve-tells (f .entry .curve) (ranged (f .entry) (f .held) .1) in
           rw (e, foundAnswer) (answer-of (answer 8 (best .point) (best .curve) (squareOf (call .point) (best .point)))
-          (record { code-least = omega arith; code-most = omega arith; point = b; curve = omega (arith, f .curve, c .1); square = square-le (call .point) (best .point) t b }))
+          (record { code = refl; point = b; curve = omega (arith, f .curve, c .1); square = square-le (call .point) (best .point) t b }))

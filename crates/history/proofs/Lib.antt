@@ -20,6 +20,7 @@ pub mod HeldLaws
 pub mod Submitted
 pub mod RelatedOpen
 pub mod RelatedTake
+pub mod RelatedWithdraw
 pub mod RelatedAgree
 pub mod RelatedSettle
 pub mod RelatedSubmit
@@ -87,3 +88,4 @@ pub mod MovesLeft
 pub mod Reseated
 pub mod Somebody
 pub mod Everybody
+pub mod Withdrawn

@@ -17,7 +17,7 @@ use Rattle.rows.specs.Common.{leastSince}
 use Rattle.rows.specs.Answer.{answerSound}
 use Rattle.rows.specs.Station.{putPlace}
 use Rattle.rows.proofs.TakenLaws.{least-removals, least-since}
-use Rattle.table.specs.Call.{Call, add, remove, contains, nearest, isSearch}
+use Rattle.table.specs.Call.{Call, add, remove, contains, nearest, isSearch, pointOf}
 use Rattle.table.specs.Table.{unfinished, waiting, Table, put, withStations}
 use Rattle.table.proofs.Stations.{put-same, put-other}
 use Rattle.trees.specs.Tree.{Tree}
@@ -27,7 +27,7 @@ use Rattle.trees.specs.Measure.{walkLeft}
 use Rattle.moves.specs.Answer.{answeredWords}
 use Rattle.history.specs.Index.{answerOf}
 use Rattle.history.specs.View.{Seat, countsAt, placeAt, seatAt, withPlace, noPlace}
-use Rattle.history.specs.Related.{pointOf, Works, Busy, Says, Related}
+use Rattle.history.specs.Related.{Works, Busy, Says, Related}
 use Rattle.history.proofs.BusyLaws.{busy-on}
 use Rattle.history.proofs.Effects.{answer-written, answer-rows, walk-written, walk-rows}
 use Rattle.history.proofs.Readings.{nearest-search}

@@ -10,12 +10,13 @@ use Rattle.points.specs.declared.point.Point.{Point}
 use Rattle.points.specs.Point.{inRange}
 use Rattle.table.specs.Call.{Call, add, remove, contains, nearest, Answer, kindInRange, isChange}
 use Rattle.table.specs.Table.{Station, idle, unfinished, waiting, Table, eight, opened, answerOf, changed, changedIf}
-use Rattle.table.specs.Event.{Event, submission, singleStep, taking, isIdle, curveFits, enter, submit, setDown, takeAt, take}
+use Rattle.table.specs.Event.{Event, submission, singleStep, taking, withdrawal, isIdle, curveFits, enter, submit, setDown, takeAt, take}
 use Rattle.table.specs.History.{reply, answered}
 use Rattle.table.proofs.Sound.{Sound, sound-opened, sound-set}
 use Rattle.table.proofs.Reached.{ask-all, sound-submit, sound-take}
 use Rattle.table.proofs.Eager.{Settled, settle}
 use Rattle.table.proofs.Settled.{settled, settle-keeps}
+use Rattle.table.proofs.Retract.{retract, retract-all, sound-retract}
 use Rattle.table.proofs.Simulation.{stillAt, still, finished}
 use Rattle.steps.specs.Open.{openedWords}
 use Rattle.steps.specs.Step.{stepOf}
@@ -26,6 +27,7 @@ use Rattle.history.proofs.RelatedOpen.{related-open}
 use Rattle.history.proofs.RelatedSettle.{related-settles}
 use Rattle.history.proofs.RelatedSubmit.{related-submits}
 use Rattle.history.proofs.RelatedTake.{related-takes}
+use Rattle.history.proofs.RelatedWithdraw.{related-withdraws}
 use Rattle.history.proofs.Demand3.{Accepted, stills, answers, finished-sound}
 
 -- the words are related to a sound table of these places and this limit
@@ -70,6 +72,9 @@ take-alike t s = ask-all (λ r. Alike t (r .next)) (ltb s 8) 5 t _ (refl, refl) 
     go idle = (refl, refl)
     go (unfinished i c o) = (refl, refl)
     go (waiting a) = (refl, refl)
+
+retract-alike : (t : Table) (s : ℕ) → Alike t (retract t s .next)
+retract-alike t s = retract-all (λ r. Alike t (r .next)) t s (refl, refl) (refl, refl) (λ l i c o e. (refl, refl))
 
 finished-alike : (t : Table) (s : ℕ) (c : Call) (o : Option Answer) → Alike t (finished t s c o)
 unfolding finished
@@ -122,6 +127,9 @@ module _ {places limit : ℕ} where
   event-stands {words} (taking s) w =
       let t = w .table in
       moved t (take t s .next) (sound-take t s (w .sound)) (related-takes s (w .sound) (w .related) .next) (take-alike t s) (w .places-same) (w .limit-same)
+  event-stands {words} (withdrawal s) w =
+      let t = w .table in
+      moved t (retract t s .next) (sound-retract t s (w .sound)) (related-withdraws s (w .sound) (w .related) .next) (retract-alike t s) (w .places-same) (w .limit-same)
   event-stands {words} (singleStep s) w =
       let v = settled-stands w in
       stepped s (v .0) (v .1) (answered wordIndex words (singleStep s)) refl

@@ -36,7 +36,8 @@ use Rattle.moves.specs.Search.{seek, progressAt, searchTo, searchOf}
 use Rattle.moves.specs.Insert.{roomAt, roomSound, insertTo, insertOf}
 use Rattle.moves.specs.Unlink.{aroundAt, aroundSound, unlinkTo, unlinkOf}
 use Rattle.moves.specs.Walk.{sixDown, walkTo, codeAt, concludeAs, conclude, standsAt, walkFrom, walkOf}
-use Rattle.steps.specs.Step.{recordsSound, workOf, stepOf}
+use Rattle.steps.specs.Step.{recordsSound, workOf, askUnfinished, stepOf}
+use Rattle.steps.specs.Withdraw.{withdrawnWords, withdrawOf}
 use Rattle.steps.specs.Take.{takingOf, takeOf, numberOf, takenWords, takeWords}
 use Rattle.steps.specs.declared.report.Report.{Report}
 use Rattle.steps.specs.Report.{reportOf}
@@ -45,7 +46,7 @@ use Rattle.audits.specs.Queue.{queueIn}
 use Rattle.audits.specs.Whole.{allRows}
 use Rattle.steps.specs.Audit.{auditOf, verdictOf}
 use Rattle.steps.specs.Run.{isGiven}
-use Rattle.history.specs.Questions.{Question, asked, orElse, firstNo, openQuestions, stationQuestions, submitQuestions, stepQuestions, takeQuestions, sliceQuestions}
+use Rattle.history.specs.Questions.{Question, asked, orElse, firstNo, openQuestions, stationQuestions, submitQuestions, stepQuestions, withdrawQuestions, takeQuestions, sliceQuestions}
 
 -- ---- the work of a step is done or refused with 11
 
@@ -130,6 +131,19 @@ step-number words s = go (isOpened (openedIn words)) (ltb s 8) (isUnfinished (st
     go true false u r = refl
     go false l u r = refl
 
+pub withdraw-number : (words : List ℕ) (s : ℕ) → withdrawOf words s .number ≡ firstNo (withdrawQuestions words s)
+unfolding withdrawOf firstNo
+withdraw-number words s = go (isOpened (openedIn words)) (ltb s 8) (isUnfinished (stateAt words s)) (recordsSound words s)
+  where
+    go : (o l u r : Bool)
+        → ask o 4 words (ask l 5 words (ask u 10 words (ask r 11 words (done (withdrawnWords words s (callAt words s)))))) .number
+        ≡ orElse o 4 (orElse l 5 (orElse u 10 (orElse r 11 0)))
+    go true true true true = refl
+    go true true true false = refl
+    go true true false r = refl
+    go true false u r = refl
+    go false l u r = refl
+
 pub take-number : (words : List ℕ) (s : ℕ) → numberOf (takeOf words s) ≡ firstNo (takeQuestions words s)
 unfolding takeOf firstNo
 take-number words s = go (isOpened (openedIn words)) (ltb s 8) (waitingAt words s)
@@ -204,15 +218,21 @@ submit-refused words s kind p c =
     (ask-keeps words (isIdle (stateAt words s)) 6 _
     (ask-keeps words (kindIn kind) 7 _ (ask-keeps words (inRange p) 8 _ (ask-keeps words (curveFits kind c) 9 _ (inl refl)))))))
 
+-- the questions about an unfinished call keep what its reply keeps
+unfinished-keeps : (words : List ℕ) (s : ℕ) (r : Reply) → Keeps words r → Keeps words (askUnfinished words s r)
+unfinished-keeps words s r k =
+    ask-keeps words (isOpened (openedIn words)) 4 _
+    (ask-keeps words (ltb s 8) 5 _ (ask-keeps words (isUnfinished (stateAt words s)) 10 _ (ask-keeps words (recordsSound words s) 11 _ k)))
+
 pub step-refused : (words : List ℕ) (s : ℕ) → ¬ (stepOf words s .number ≡ 0) → stepOf words s .words ≡ words
 unfolding stepOf
 step-refused words s =
-    refused-keeps words (stepOf words s)
-    (ask-keeps words (isOpened (openedIn words)) 4 _
-    (ask-keeps words (ltb s 8) 5 _
-    (ask-keeps words (isUnfinished (stateAt words s)) 10 _
-    (ask-keeps words (recordsSound words s) 11 _
-    (work-keeps words (workOf words (rowsIn words) s (callAt words s)) (work-settles words (rowsIn words) s (callAt words s)))))))
+    let work = workOf words (rowsIn words) s (callAt words s) in
+    refused-keeps words (stepOf words s) (unfinished-keeps words s work (work-keeps words work (work-settles words (rowsIn words) s (callAt words s))))
+
+pub withdraw-refused : (words : List ℕ) (s : ℕ) → ¬ (withdrawOf words s .number ≡ 0) → withdrawOf words s .words ≡ words
+unfolding withdrawOf
+withdraw-refused words s = refused-keeps words (withdrawOf words s) (unfinished-keeps words s (done (withdrawnWords words s (callAt words s))) (inl refl))
 
 pub take-refused : (words : List ℕ) (s : ℕ) → ¬ (numberOf (takeOf words s) ≡ 0) → takeWords words s ≡ words
 unfolding takeWords

@@ -12,7 +12,7 @@ use native.Mathlib.Decide.{decLt}
 use Rattle.rows.specs.Station.{isUnfinished, stateAt}
 use Rattle.table.specs.Call.{Call, Answer}
 use Rattle.table.specs.Table.{Station, idle, unfinished, waiting, Table}
-use Rattle.table.specs.Event.{Event, submission, singleStep, taking}
+use Rattle.table.specs.Event.{Event, submission, singleStep, taking, withdrawal}
 use Rattle.table.specs.History.{reply, answered}
 use Rattle.table.proofs.Eager.{Settled}
 use Rattle.steps.specs.Open.{openOf}
@@ -23,7 +23,7 @@ use Rattle.history.specs.Related.{Related}
 use Rattle.history.specs.After.{after}
 use Rattle.history.specs.Somebody.{mostUnanswered, dealtStep, dealtSteps, Undisturbed, SomeAnswered}
 use Rattle.history.proofs.Outcome.{Outcome, goesOn, ends}
-use Rattle.history.proofs.Refused.{step-refused}
+use Rattle.history.proofs.Refused.{step-refused, withdraw-refused}
 use Rattle.history.proofs.Spelled.{tree-same, queue-same}
 use Rattle.history.proofs.StepOutcome.{step-outcome}
 use Rattle.history.proofs.Demand3.{accepted, ends-answered, quiet-state}
@@ -118,16 +118,20 @@ step-falls {words} {places} {limit} {n} s w still = go (isUnfinished (stateAt wo
 -- ---- the run
 
 -- where twice the number of such steps is more than what is left to all stations together, one answers
-dealt-answers : (run : List Event) {words : List ℕ} {places limit n : ℕ} → Within words places limit n → Undisturbed run → n < 2 * dealtSteps words run → SomeAnswered words run
+dealt-answers : (run : List Event) {words : List ℕ} {places limit n : ℕ} → Within words places limit n → Undisturbed words run → n < 2 * dealtSteps words run → SomeAnswered words run
 unfolding dealtSteps reply
 dealt-answers [] w d l = absurd (omega arith)
 dealt-answers (submission s kind p c ∷ run) {words} w d l =
     let a = w .stands in
-    inr (dealt-answers run (reseats-within w (event-stands (submission s kind p c) a) s (submit-reseats words (a .table .places) (a .table .limit) (a .related .opened) s kind p c)) d (omega arith))
+    inr (dealt-answers run (reseats-within w (event-stands (submission s kind p c) a) s (submit-reseats words (a .table .places) (a .table .limit) (a .related .opened) s kind p c)) (d .1) (omega arith))
 dealt-answers (taking s ∷ run) {words} w d l =
     let a = w .stands in
-    inr (dealt-answers run (reseats-within w (event-stands (taking s) a) s (take-reseats words (a .table .places) (a .table .limit) (a .related .opened) s)) d (omega arith))
-dealt-answers (singleStep s ∷ run) {words} {places} {limit} {n} w d l = go (λ k v j. dealt-answers run v d j) (answered wordIndex words (singleStep s)) refl
+    inr (dealt-answers run (reseats-within w (event-stands (taking s) a) s (take-reseats words (a .table .places) (a .table .limit) (a .related .opened) s)) (d .1) (omega arith))
+dealt-answers (withdrawal s ∷ run) {words} w d l =
+    let same = withdraw-refused words s (d .0) in
+    let more : _ < 2 * (0 + dealtSteps words run) = rw same at l in
+    inr (rw same (dealt-answers run w (rw same at (d .1)) (omega arith)))
+dealt-answers (singleStep s ∷ run) {words} {places} {limit} {n} w d l = go (λ k v j. dealt-answers run v (d .1) j) (answered wordIndex words (singleStep s)) refl
   where
     go : ((k : ℕ) → Within (stepOf words s .words) places limit k → k < 2 * dealtSteps (stepOf words s .words) run → SomeAnswered (stepOf words s .words) run)
         → (b : Bool) → answered wordIndex words (singleStep s) ≡ b → SomeAnswered words (singleStep s ∷ run)
@@ -136,7 +140,8 @@ dealt-answers (singleStep s ∷ run) {words} {places} {limit} {n} w d l = go (λ
 
 -- After every history, more than 16 × places steps dealt to stations with an unfinished call, with whatever submissions, takings and refused events
 -- between them, answer a call.
-pub somebody : (words : List ℕ) (places limit : ℕ) → openOf words places limit .number ≡ 0 → (evs run : List Event) → Undisturbed run
+pub somebody : (words : List ℕ) (places limit : ℕ) → openOf words places limit .number ≡ 0 → (evs run : List Event)
+    → Undisturbed (after evs (openOf words places limit .words)) run
     → mostUnanswered places < dealtSteps (after evs (openOf words places limit .words)) run → SomeAnswered (after evs (openOf words places limit .words)) run
 somebody words places limit e evs run d l =
     let a = accepted words places limit e in
@@ -144,6 +149,7 @@ somebody words places limit e evs run d l =
     dealt-answers run {n = 32 * places} (record { stands = v; few = omega (arith, potential-most (v .related), v .places-same) }) d (omega arith)
 
 -- Request 2026-11, by its own figure.
-pub somebody-finishes : (words : List ℕ) (places limit : ℕ) → openOf words places limit .number ≡ 0 → (evs run : List Event) → Undisturbed run
+pub somebody-finishes : (words : List ℕ) (places limit : ℕ) → openOf words places limit .number ≡ 0 → (evs run : List Event)
+    → Undisturbed (after evs (openOf words places limit .words)) run
     → 8 * 32 * (16 * places + 64) ≤ dealtSteps (after evs (openOf words places limit .words)) run → SomeAnswered (after evs (openOf words places limit .words)) run
 somebody-finishes words places limit e evs run d l = somebody words places limit e evs run d (omega arith)

@@ -25,7 +25,7 @@ use Rattle.rows.proofs.RecordLaws.{callAt-putState, answerAt-putState, stateAt-
 use Rattle.rows.proofs.ReadBackLaws.{stateAt-putState-same, callAt-putBest, answerAt-putAnswer-same, callAt-putCall-same}
 use Rattle.rows.proofs.SoundLaws.{noBest-point, answer-tells}
 use Rattle.moves.specs.declared.search.Progress.{Progress}
-use Rattle.moves.specs.Answer.{withdrawn, answeredWords}
+use Rattle.moves.specs.Answer.{letGo, answeredWords}
 use Rattle.steps.specs.Submit.{callFor, sinceFor, begunWords, submittedWords}
 use Rattle.moves.specs.Search.{keptWords}
 use Rattle.history.specs.View.{countsAt, placeAt, seatAt, withPlace, seatPut, noPlace, SameRows, Written}
@@ -111,12 +111,12 @@ module _ (words : List ℕ) (places limit : ℕ) (o : openedIn words ≡ Opened 
     waits-only = only-trans (putState-only told s (answered (stateAt words s))) (putAnswer-only words s a)
 
     own-answer : Own (answeredWords words s a) words s
-    unfolding answeredWords withdrawn
+    unfolding answeredWords letGo
     own-answer = own-trans (own-placed waits s NONE 0 NONE NONE) (own-station s waits-only)
 
     pub answer-written : answerSound a ≡ true → Written words (answeredWords words s a) (countsAt words)
         (seatPut (λ u. seatAt words u) s (record { place = noPlace; state = 2; call = seatAt words s .call; answer = a }))
-    unfolding answeredWords withdrawn seatAt
+    unfolding answeredWords letGo seatAt
     answer-written e =
         let reads = common-stations (placed-only waits s NONE 0 NONE NONE) s in
         let there : hasStation told s ≡ true = still told (putAnswer-only words s a .lengths) in

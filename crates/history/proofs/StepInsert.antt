@@ -154,7 +154,7 @@ module _ {words : List ℕ} {t : Table} {s i : ℕ} {p : Point} {c : ℕ} (sound
       (ends refl (subst (λ (u : Table). Related (answeredWords (insertWords words room p c) s (given 1 p c 0)) u)
       (sym (finished-change t s (add p c) (answer 1 p c 0) (add-room t p c free left place-left) (added-change p c) ∙ ap (λ (u : Table). withStations u (put (t .stations) s (waiting (answer 1 p c 0)))) (changed-add t p c)))
       (related-answered s l v (given 1 p c 0) (omega (arith, removals-word r sound))
-      (answer-of (given 1 p c 0) (record { code-least = omega arith; code-most = omega arith; point = busy .ranged; curve = curve-tells c (busy .fits) .1; square = omega arith })))))
+      (answer-of (given 1 p c 0) (record { code = refl; point = busy .ranged; curve = curve-tells c (busy .fits) .1; square = omega arith })))))
 
   abbrev entry : Entry
   entry = record { point = p; curve = c; added = more (get words atChanges) }

@@ -29,6 +29,11 @@ use Rattle.history.proofs.Solo.{solo-steps}
 abbrev pub StepNumber : ℕ → Type 0
 StepNumber n = (n ≡ 0) ⊎ ((n ≡ 5) ⊎ (n ≡ 10))
 
+pub not-11 : {n : ℕ} → StepNumber n → ¬ (n ≡ 11)
+not-11 (inl q) e = omega arith
+not-11 (inr (inl q)) e = omega arith
+not-11 (inr (inr q)) e = omega arith
+
 still-number : (t : Table) (s : ℕ) → StepNumber (still t s .number)
 unfolding still stillAt
 still-number t s = ask-all (λ r. StepNumber (r .number)) (ltb s 8) 5 t _ (inr (inl refl)) (λ l. go (t .stations s))
@@ -56,12 +61,7 @@ step-numbers words places limit e evs s =
 -- "11, never met on an index that only these calls wrote".
 pub step-never-11 : (words : List ℕ) (places limit : ℕ) → openOf words places limit .number ≡ 0 → (evs : List Event) (s : ℕ)
     → ¬ (stepOf (after evs (openOf words places limit .words)) s .number ≡ 11)
-step-never-11 words places limit e evs s n = go (step-numbers words places limit e evs s)
-  where
-    go : StepNumber (stepOf (after evs (openOf words places limit .words)) s .number) → ⊥
-    go (inl q) = omega arith
-    go (inr (inl q)) = omega arith
-    go (inr (inr q)) = omega arith
+step-never-11 words places limit e evs s = not-11 (step-numbers words places limit e evs s)
 
 -- a step of a station without an unfinished call is refused
 pub quiet-refused : {words : List ℕ} {t : Table} (s : ℕ) → Related words t → isUnfinished (stateAt words s) ≡ false → stepOf words s .number ≢ 0

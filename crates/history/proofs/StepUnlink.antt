@@ -155,7 +155,7 @@ module _ (words : List ℕ) (t : Table) (s i : ℕ) (p : Point) (at parent : ℕ
   given-sound =
       let k = sym (in-rows-leaf rows parent (e .added) (e .point) (e .curve)) ∙ rw reads at (reads-in words rows (R .heap) at (R .store .inside at has) (R .reads)) in
       let c = curve-tells (e .curve) (and-r (linkIn rows parent && inRange (e .point)) (curveIn (e .curve)) k) in
-      answer-of given (record { code-least = omega arith; code-most = omega arith; point = own .ranged; curve = c .1; square = omega arith })
+      answer-of given (record { code = refl; point = own .ranged; curve = c .1; square = omega arith })
 
   abbrev words₃ : List ℕ
   words₃ = answeredWords words₂ s given

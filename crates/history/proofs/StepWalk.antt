@@ -19,7 +19,7 @@ use Rattle.rows.specs.Row.{rowAt}
 use Rattle.rows.specs.Call.{callAt}
 use Rattle.rows.proofs.RangeLaws.{or-right}
 use Rattle.rows.proofs.RowLaws.{rowAt-outside}
-use Rattle.table.specs.Call.{Call, add, remove, contains, nearest, isSearch}
+use Rattle.table.specs.Call.{Call, add, remove, contains, nearest, isSearch, pointOf}
 use Rattle.table.specs.Table.{unfinished, Table}
 use Rattle.table.proofs.Sound.{Sound}
 use Rattle.table.proofs.Eager.{Settled}
@@ -33,7 +33,7 @@ use Rattle.trees.proofs.RouteLaws.{on-route-has, walk-stands, walk-down}
 use Rattle.trees.proofs.ReadLaws.{read-row}
 use Rattle.moves.specs.Walk.{downFrom, down as downWords, sixDown, conclude, standsAt as standsIn, walkFrom, walkOf}
 use Rattle.history.specs.View.{Seat, countsAt, placeAt, seatAt, wordRow}
-use Rattle.history.specs.Related.{pointOf, Works, Busy, Related}
+use Rattle.history.specs.Related.{Works, Busy, Related}
 use Rattle.history.proofs.RelatedLaws.{related-busy}
 use Rattle.history.proofs.Outcome.{Left, Outcome, goesOn}
 use Rattle.history.proofs.Readings.{nearest-search, down-row}

@@ -17,7 +17,7 @@ use Rattle.rows.specs.Words.{get}
 use Rattle.rows.specs.Common.{leastSince}
 use Rattle.rows.proofs.SoundLaws.{noBest-point}
 use Rattle.rows.proofs.TakenLaws.{least-removals, least-since, least-greatest}
-use Rattle.table.specs.Call.{Call, add, remove, contains, nearest, callOf, kindInRange}
+use Rattle.table.specs.Call.{Call, add, remove, contains, nearest, callOf, kindInRange, pointOf}
 use Rattle.table.specs.Table.{unfinished, Table}
 use Rattle.table.specs.Event.{enter}
 use Rattle.table.proofs.Tests.{and-left, and-right}
@@ -35,7 +35,7 @@ use Rattle.trees.proofs.SearchLaws.{search-begin}
 use Rattle.trees.proofs.ShapeLaws.{entries-held}
 use Rattle.steps.specs.Submit.{curveFits, callFor, sinceFor, submittedWords}
 use Rattle.history.specs.View.{Seat, countsAt, placeAt, seatAt}
-use Rattle.history.specs.Related.{kindOf, pointOf, curveOf, CurveFits, Walks, Searching, Works, Busy, Related}
+use Rattle.history.specs.Related.{kindOf, curveOf, CurveFits, Walks, Searching, Works, Busy, Related}
 use Rattle.history.proofs.Effects.{submit-written, submit-rows}
 use Rattle.history.proofs.RelatedLaws.{word-changes, word-root, word-removals, removals-word}
 use Rattle.history.proofs.RelatedRows.{held-ranged}

@@ -1,9 +1,9 @@
 -- What a step touches (document 01, the last paragraph of "The plain table"): `touch`, for every content of the words.
--- `submit-touch` and `take-touch` are the same of a submission and of a taking.
+-- `withdraw-touch`, `submit-touch` and `take-touch` are the same of a withdrawal, a submission and a taking, which need no row.
 use Prim.Native.Nat.{ℕ, _*_, _≤_, _<_}
 use mathlib.Core.Path.{_≡_, refl, ap, ap₂, _∙_}
 use mathlib.Core.Bool.{Bool, true, false, cond, _&&_}
-use mathlib.Core.List.{List, List·Memᴰ}
+use mathlib.Core.List.{List, [], List·Memᴰ}
 use native.Mathlib.Omega.{arith}
 use borrow.Author.Tests.{ltb-true}
 use lib.Dec.{eqb, leb, ltb}
@@ -15,14 +15,15 @@ use Rattle.rows.specs.Station.{isUnfinished, stateAt}
 use Rattle.rows.specs.Call.{callAt, callSound}
 use Rattle.rows.proofs.CommonLaws.{commonSound-agree}
 use Rattle.rows.proofs.RecordLaws.{stateAt-agree, callAt-agree}
-use Rattle.moves.specs.Reply.{isOpened, rowsIn}
+use Rattle.moves.specs.Reply.{Reply, isOpened, rowsIn}
 use Rattle.moves.specs.Link.{isCut}
 use Rattle.moves.specs.Walk.{codeAt, standsAt}
-use Rattle.steps.specs.Step.{recordsSound, workOf, stepOf}
+use Rattle.steps.specs.Step.{recordsSound, workOf, askUnfinished, stepOf}
+use Rattle.steps.specs.Withdraw.{withdrawnAnswer, withdrawOf}
 use Rattle.history.specs.Touch.{AgreeOn, Leaves, pickRows, searchRows, walkRows, stepRows}
-use Rattle.history.proofs.TouchLaws.{get-same, opened-same}
+use Rattle.history.proofs.TouchLaws.{get-same, opened-same, leaves-nothing}
 use Rattle.history.proofs.TouchRows.{below-there, below-few}
-use Rattle.history.proofs.TouchReply.{Alike, alike-ask, alike-rows}
+use Rattle.history.proofs.TouchReply.{Alike, alike-done, alike-ask, alike-rows, leaves-answered}
 use Rattle.history.proofs.TouchWalk.{walk-alike}
 use Rattle.history.proofs.TouchSearch.{search-alike}
 
@@ -62,6 +63,14 @@ module _ {v w : List ℕ} {s : ℕ} {rows : List ℕ} (a : AgreeOn v w s rows) w
       ap₂ _&&_ (ap (commonSound v) rows-same ∙ commonSound-agree (a .common) (rowsIn w))
       (ap₂ callSound (callAt-agree s (a .station)) (get-same a atChanges (omega arith)))
 
+  -- the questions about an unfinished call
+  unfinished-alike : {r q : Reply} → (s < 8 → Alike v w r q s rows) → Alike v w (askUnfinished v s r) (askUnfinished w s q) s rows
+  unfinished-alike x =
+      alike-ask a (isOpened (openedIn v)) (isOpened (openedIn w)) 4 (ap isOpened (opened-same a))
+      (λ o. alike-ask a (ltb s 8) (ltb s 8) 5 refl
+      (λ l. alike-ask a (isUnfinished (stateAt v s)) (isUnfinished (stateAt w s)) 10 (ap isUnfinished (stateAt-agree s (a .station)))
+      (λ u. alike-ask a (recordsSound v s) (recordsSound w s) 11 sound-same (λ r. x (ltb-true s 8 l)))))
+
 -- ---- one step
 
 work-alike : {v w : List ℕ} {s : ℕ} → s < 8 → AgreeOn v w s (stepRows v s)
@@ -73,11 +82,7 @@ work-alike {v} {w} {s} h a =
 
 step-alike : {v w : List ℕ} {s : ℕ} → AgreeOn v w s (stepRows v s) → Alike v w (stepOf v s) (stepOf w s) s (stepRows v s)
 unfolding stepOf
-step-alike {v} {w} {s} a =
-    alike-ask a (isOpened (openedIn v)) (isOpened (openedIn w)) 4 (ap isOpened (opened-same a))
-    (λ o. alike-ask a (ltb s 8) (ltb s 8) 5 refl
-    (λ l. alike-ask a (isUnfinished (stateAt v s)) (isUnfinished (stateAt w s)) 10 (ap isUnfinished (stateAt-agree s (a .station)))
-    (λ u. alike-ask a (recordsSound v s) (recordsSound w s) 11 (sound-same a) (λ r. work-alike (ltb-true s 8 l) a))))
+step-alike a = unfinished-alike a (λ l. work-alike l a)
 
 -- the rows `stepRows` of a step do what the sentence says
 pub step-touch : (v w : List ℕ) (s : ℕ) → AgreeOn v w s (stepRows v s)
@@ -90,3 +95,14 @@ pub touch : (v : List ℕ) (s : ℕ)
     → (rows : List ℕ) × (length rows ≤ 6) × ((r : ℕ) → List·Memᴰ r rows → r < rowsIn v)
     × ((w : List ℕ) → AgreeOn v w s rows → (stepOf v s .number ≡ stepOf w s .number) × Leaves v w (stepOf v s .words) (stepOf w s .words) s rows)
 touch v s = (stepRows v s, step-rows v s, step-rows-there v s, λ w a. step-touch v w s a)
+
+-- ---- one withdrawal
+
+withdraw-alike : {v w : List ℕ} {s : ℕ} {rows : List ℕ} → AgreeOn v w s rows → Alike v w (withdrawOf v s) (withdrawOf w s) s rows
+unfolding withdrawOf
+withdraw-alike {v} {w} {s} a = unfinished-alike a (λ l. alike-done (leaves-answered (leaves-nothing a) _ _ (ap withdrawnAnswer (callAt-agree s (a .station)))))
+
+-- "A withdrawal may need and change what a step may": it needs and changes the two records alone, and no row.
+pub withdraw-touch : (v w : List ℕ) (s : ℕ) → AgreeOn v w s []
+    → (withdrawOf v s .number ≡ withdrawOf w s .number) × Leaves v w (withdrawOf v s .words) (withdrawOf w s .words) s []
+withdraw-touch v w s a = let x = withdraw-alike a in (x .number, x .leaves)

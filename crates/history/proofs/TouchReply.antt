@@ -5,7 +5,7 @@ use mathlib.Core.Bool.{Bool, true, false}
 use mathlib.Core.List.{List}
 use Rattle.rows.specs.declared.answer.Answer.{Answer}
 use Rattle.moves.specs.Reply.{Reply, done, refused, pickReply, ask}
-use Rattle.moves.specs.Answer.{withdrawn, answeredWords}
+use Rattle.moves.specs.Answer.{letGo, answeredWords}
 use Rattle.history.specs.Touch.{AgreeOn, Leaves, pickRows, rowsBelow}
 use Rattle.history.proofs.TouchLaws.{leaves-nothing, leaves-state, leaves-answer, leaves-place, leaves-since, leaves-missed}
 
@@ -40,7 +40,7 @@ module _ {v w : List ℕ} {s : ℕ} {rows : List ℕ} where
   -- an answer is written alike
   pub leaves-answered : {v′ w′ : List ℕ} → Leaves v w v′ w′ s rows → (x y : Answer) → x ≡ y
       → Leaves v w (answeredWords v′ s x) (answeredWords w′ s y) s rows
-  unfolding answeredWords withdrawn
+  unfolding answeredWords letGo
   leaves-answered l x y e =
       leaves-missed (leaves-since (leaves-place (leaves-state (leaves-answer l x y e) _ _ refl) _ _ _ _ refl refl) _ _ refl) _ _ refl
 

@@ -14,6 +14,7 @@ use Rattle.steps.specs.declared.take.Taking.the-variants.{Refused, Given as Tak
 use Rattle.steps.specs.Submit.{submitOf}
 use Rattle.steps.specs.Step.{stepOf}
 use Rattle.steps.specs.Take.{takeOf, takeWords, numberOf}
+use Rattle.steps.specs.Withdraw.{withdrawOf}
 use Rattle.steps.specs.Report.{reportOf}
 use Rattle.steps.specs.Held.{Held, heldIn}
 
@@ -36,13 +37,14 @@ takeReply words s = record { number = numberOf (takeOf words s); given = givenBy
 abbrev pub recordOf : Held → Record
 recordOf h = record { point = h .point; curve = h .curve }
 
--- submission, step and taking; the records on the leaves linked from the root; the number that a report gives
+-- submission, step, taking and withdrawal; the records on the leaves linked from the root; the number that a report gives
 abbrev pub wordIndex : Index
 wordIndex = record {
   State = List ℕ;
   submit = λ words s kind p c. replyOf (submitOf words s kind p c);
   step = λ words s. replyOf (stepOf words s);
   take = takeReply;
+  withdraw = λ words s. replyOf (withdrawOf words s);
   held = λ words. map recordOf (heldIn words);
   taken = λ words. reportOf words .taken;
 }

@@ -7,3 +7,4 @@ pub mod Audited
 pub mod Questions
 pub mod Touch
 pub mod Somebody
+pub mod Withdrawn

@@ -55,6 +55,10 @@ stepQuestions words s =
     stationQuestions words s
     (asked (isUnfinished (stateAt words s)) 10 ∷ (asked (recordsSound words s) 11 ∷ (asked (eqb (workOf words (rowsIn words) s (callAt words s) .number) 0) 11 ∷ [])))
 
+-- a withdrawal: "question 10 applies, then 11 as for a step", of the two records, since it needs no row
+abbrev pub withdrawQuestions : List ℕ → ℕ → List Question
+withdrawQuestions words s = stationQuestions words s (asked (isUnfinished (stateAt words s)) 10 ∷ (asked (recordsSound words s) 11 ∷ []))
+
 -- "Taking: is an answer waiting? 12."
 abbrev pub takeQuestions : List ℕ → ℕ → List Question
 takeQuestions words s = stationQuestions words s (asked (isGiven (waitingAt words s)) 12 ∷ [])

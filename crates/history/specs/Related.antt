@@ -14,7 +14,7 @@ use Rattle.rows.specs.Range.{curveIn}
 use Rattle.rows.specs.Common.{openedIn, leastSince}
 use Rattle.rows.specs.Answer.{answerSound}
 use Rattle.table.specs.Record.{Record, Once, Same, nearestOf}
-use Rattle.table.specs.Call.{Call, add, remove, contains, nearest, Answer, nearestAnswer}
+use Rattle.table.specs.Call.{Call, add, remove, contains, nearest, pointOf, Answer, nearestAnswer}
 use Rattle.table.specs.Table.{Station, idle, unfinished, waiting, Table}
 use Rattle.table.proofs.Removals.{sinceOf}
 use Rattle.trees.specs.Row.{Entry, Heap}
@@ -31,18 +31,12 @@ use Rattle.history.specs.View.{Counts, Place, Seat, countsAt, seatAt, Re
 abbrev pub recordOf : Entry → Record
 recordOf e = record { point = e .point; curve = e .curve }
 
--- document 01's number, point and curve of a call
+-- document 01's number and curve of a call
 abbrev pub kindOf : Call → ℕ
 kindOf (add p c) = 1
 kindOf (remove p) = 2
 kindOf (contains p) = 3
 kindOf (nearest p) = 4
-
-abbrev pub pointOf : Call → Point
-pointOf (add p c) = p
-pointOf (remove p) = p
-pointOf (contains p) = p
-pointOf (nearest p) = p
 
 abbrev pub curveOf : Call → ℕ
 curveOf (add p c) = c

@@ -1,13 +1,14 @@
 -- Somebody always finishes (request 2026-11): the steps among some events that are dealt to stations with an unfinished call, that one of the events
--- answers a call, and that nobody submits meanwhile.
+-- answers a call, and that nobody withdraws or submits meanwhile.
 use Prim.Native.Nat.{ℕ, _+_, _*_}
 use mathlib.Core.Path.{_≡_}
 use mathlib.Core.Logic.{_⊎_}
 use mathlib.Core.Bool.{true, cond}
 use mathlib.Core.List.{List, [], _∷_}
 use Rattle.steps.specs.Submit.{submitOf}
+use Rattle.steps.specs.Withdraw.{withdrawOf}
 use Rattle.rows.specs.Station.{isUnfinished, stateAt}
-use Rattle.table.specs.Event.{Event, submission, singleStep, taking}
+use Rattle.table.specs.Event.{Event, submission, singleStep, taking, withdrawal}
 use Rattle.table.specs.History.{reply, answered}
 use Rattle.history.specs.Index.{wordIndex}
 
@@ -20,18 +21,24 @@ abbrev pub dealtStep : List ℕ → Event → ℕ
 dealtStep words (submission s kind p c) = 0
 dealtStep words (singleStep s) = cond (isUnfinished (stateAt words s)) 1 0
 dealtStep words (taking s) = 0
+dealtStep words (withdrawal s) = 0
 
 -- how many of the events are such steps
 unfoldable pub dealtSteps : List ℕ → List Event → ℕ
 dealtSteps words [] = 0
 dealtSteps words (ev ∷ evs) = dealtStep words ev + dealtSteps (reply wordIndex words ev .next) evs
 
--- "neither withdrawal nor packing falls inside it": every submission, step and taking may
-abbrev pub Undisturbed : List Event → Type 0
-Undisturbed [] = Unit {0}
-Undisturbed (submission s kind p c ∷ evs) = Undisturbed evs
-Undisturbed (singleStep s ∷ evs) = Undisturbed evs
-Undisturbed (taking s ∷ evs) = Undisturbed evs
+-- the event is no withdrawal, or one that is refused
+abbrev pub NotWithdrawn : List ℕ → Event → Type 0
+NotWithdrawn words (submission s kind p c) = Unit {0}
+NotWithdrawn words (singleStep s) = Unit {0}
+NotWithdrawn words (taking s) = Unit {0}
+NotWithdrawn words (withdrawal s) = ¬ (withdrawOf words s .number ≡ 0)
+
+-- "neither withdrawal nor packing falls inside it": every submission, step and taking may, and a withdrawal that is refused
+abbrev pub Undisturbed : List ℕ → List Event → Type 0
+Undisturbed words [] = Unit {0}
+Undisturbed words (ev ∷ evs) = NotWithdrawn words ev × Undisturbed (reply wordIndex words ev .next) evs
 
 -- "at least one call is answered"
 abbrev pub SomeAnswered : List ℕ → List Event → Type 0
@@ -43,6 +50,7 @@ abbrev pub NotSubmitted : List ℕ → Event → Type 0
 NotSubmitted words (submission s kind p c) = ¬ (submitOf words s kind p c .number ≡ 0)
 NotSubmitted words (singleStep s) = Unit {0}
 NotSubmitted words (taking s) = Unit {0}
+NotSubmitted words (withdrawal s) = Unit {0}
 
 -- no submission among the events is accepted
 abbrev pub NobodySubmits : List ℕ → List Event → Type 0

@@ -12,6 +12,7 @@ use Prim.Native.Nat.{ℕ}
 use denote.Ref.{now}
 use Rattle.steps.specs.Step.{stepOf}
 use Rattle.steps.specs.Run.{runOf}
+use Rattle.steps.specs.Withdraw.{withdrawOf}
 
 enum-known-frame : tie.Need-enum-known-frame
 enum-known-frame c = search needs
@@ -57,6 +58,15 @@ byte-as-word-requires-3 c κs = search needs
 
 run-requires : tie.Need-run-requires
 run-requires c κs = search needs
+
+enum-known-frame-6 : tie.Need-enum-known-frame-6
+enum-known-frame-6 c = search needs
+
+byte-as-word-requires-4 : tie.Need-byte-as-word-requires-4
+byte-as-word-requires-4 c κs = search needs
+
+withdraw-requires : tie.Need-withdraw-requires
+withdraw-requires c κs = search needs
 
 same-length : tie.Need-same-length
 same-length c = search needs
@@ -107,6 +117,17 @@ returns-5 c =
     let e = c .before .before .run .ensures ∙ ap (runOf words) (c .before .before .before .byte-as-word3 .ensures) in
     rw (f .given .1) (ap (λ (r : Reply). Number (r .number)) e, ap (λ (r : Reply). r .words) e)
 
+same-length-6 : tie.Need-same-length-6
+same-length-6 c = search needs
+
+returns-6 : tie.Need-returns-6
+unfolding applyOf applyWords
+returns-6 c =
+    let f = c .before .before .before .before .before .before .frame6 in
+    let words = now (c .before .before .before .before .before .before .before .before .before .args .words) in
+    let e = c .before .before .withdraw .ensures ∙ ap (withdrawOf words) (c .before .before .before .byte-as-word4 .ensures) in
+    rw (f .given .1) (ap (λ (r : Reply). Number (r .number)) e, ap (λ (r : Reply). r .words) e)
+
 pub apply-frame-spec : {M : Type 1} → statement M
 apply-frame-spec =
     tie.close
@@ -126,6 +147,9 @@ apply-frame-spec =
     enum-known-frame-5
     byte-as-word-requires-3
     run-requires
+    enum-known-frame-6
+    byte-as-word-requires-4
+    withdraw-requires
     same-length
     returns
     same-length-2
@@ -135,4 +159,6 @@ apply-frame-spec =
     same-length-4
     returns-4
     same-length-5
-    returns-5)
+    returns-5
+    same-length-6
+    returns-6)

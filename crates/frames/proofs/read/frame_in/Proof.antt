@@ -4,7 +4,7 @@ use Rattle.frames.proofs.read.frame_in.Statement.{statement}
 use Rattle.frames.proofs.read.frame_in.Tie as tie
 use borrow.Author.Tests.{ne-eqb}
 use mathlib.Core.Path.{ap}
-use Rattle.frames.specs.declared.frame.Frame.the-variants.{Submit, Step, Take, Run}
+use Rattle.frames.specs.declared.frame.Frame.the-variants.{Submit, Step, Take, Run, Withdraw}
 use Rattle.frames.specs.Read.{frameIn}
 
 two-at-requires : tie.Need-two-at-requires
@@ -25,6 +25,9 @@ byte-at-requires-2 c κs = search needs
 byte-at-requires-3 : tie.Need-byte-at-requires-3
 byte-at-requires-3 c κs = search needs
 
+byte-at-requires-4 : tie.Need-byte-at-requires-4
+byte-at-requires-4 c κs = search needs
+
 returns : tie.Need-returns
 unfolding frameIn
 returns c = rw (c .before .before .match .keys1) (cc)
@@ -43,9 +46,13 @@ returns-4 c = rw (c .before .match .keys4) (ap Take (c .byte-at2 .ensures))
 
 returns-5 : tie.Need-returns-5
 unfolding frameIn
-returns-5 c =
+returns-5 c = rw (c .before .match .keys5) (ap Run (c .byte-at3 .ensures))
+
+returns-6 : tie.Need-returns-6
+unfolding frameIn
+returns-6 c =
     let r = c .before .match .rest in
-    simp (ne-eqb _ _ (r .0 .0 .0 .1), ne-eqb _ _ (r .0 .0 .1), ne-eqb _ _ (r .0 .1), ne-eqb _ _ (r .1)) (ap Run (c .byte-at3 .ensures))
+    simp (ne-eqb _ _ (r .0 .0 .0 .0 .1), ne-eqb _ _ (r .0 .0 .0 .1), ne-eqb _ _ (r .0 .0 .1), ne-eqb _ _ (r .0 .1), ne-eqb _ _ (r .1)) (ap Withdraw (c .byte-at4 .ensures))
 
 pub frame-in-spec : {M : Type 1} → statement M
 frame-in-spec =
@@ -57,8 +64,10 @@ frame-in-spec =
     byte-at-requires
     byte-at-requires-2
     byte-at-requires-3
+    byte-at-requires-4
     returns
     returns-2
     returns-3
     returns-4
-    returns-5)
+    returns-5
+    returns-6)

@@ -34,6 +34,12 @@ enum-known-frame-5 c = search needs
 write-station-requires-3 : tie.Need-write-station-requires-3
 write-station-requires-3 c κs = search needs
 
+enum-known-frame-6 : tie.Need-enum-known-frame-6
+enum-known-frame-6 c = search needs
+
+write-station-requires-4 : tie.Need-write-station-requires-4
+write-station-requires-4 c κs = search needs
+
 returns : tie.Need-returns
 returns c = rw (c .before .before .frame .given .1) (c .write-open .ensures)
 
@@ -52,6 +58,10 @@ returns-5 : tie.Need-returns-5
 unfolding writtenOf stationWritten frameBytes
 returns-5 c = rw (c .before .before .frame5 .given .1) (c .write-station3 .ensures)
 
+returns-6 : tie.Need-returns-6
+unfolding writtenOf stationWritten frameBytes
+returns-6 c = rw (c .before .before .frame6 .given .1) (c .write-station4 .ensures)
+
 pub write-frame-spec : {M : Type 1} → statement M
 write-frame-spec =
     tie.close
@@ -66,8 +76,11 @@ write-frame-spec =
     write-station-requires-2
     enum-known-frame-5
     write-station-requires-3
+    enum-known-frame-6
+    write-station-requires-4
     returns
     returns-2
     returns-3
     returns-4
-    returns-5)
+    returns-5
+    returns-6)

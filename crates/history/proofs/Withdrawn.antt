@@ -1,0 +1,150 @@
+-- Withdrawals after a history: one is accepted exactly if its station has an unfinished call (`withdraw-accepted`), and refused by 5 or 10 otherwise, never by 11
+-- (`withdraw-numbers`, `withdraw-never-11`); what it leaves (`withdrawn`).
+use Prim.Native.Nat.{ℕ, _<_}
+use mathlib.Core.Path.{_≡_, refl, sym, ap, _∙_}
+use mathlib.Core.Logic.{_↔_, inl, inr}
+use mathlib.Core.Bool.{Bool, true, false, true≢false}
+use mathlib.Core.List.{List, [], map}
+use mathlib.Core.Option.{Option, some}
+use native.Mathlib.Omega.{arith}
+use native.Mathlib.Decide.{decLt, ℕ-discrete}
+use lib.Dec.{eqb, ltb}
+use lib.ListN.{length, length-map}
+use borrow.Author.Tests.{lt-ltb, eq-eqb}
+use Rattle.rows.specs.Station.{isUnfinished, stateAt}
+use Rattle.rows.specs.Call.{callAt}
+use Rattle.moves.specs.Reply.{Reply}
+use Rattle.table.specs.Call.{Call, add, remove, contains, nearest, isSearch, Answer, answer, withdrawnAnswer}
+use Rattle.table.specs.Table.{Station, idle, unfinished, waiting, Table, put, withStations, searching}
+use Rattle.table.specs.Event.{Event, takeAt, take}
+use Rattle.table.proofs.Stations.{put-same, put-other}
+use Rattle.table.proofs.Reached.{sound-wait}
+use Rattle.table.proofs.Retract.{retract, retract-all}
+use Rattle.table.proofs.Settled.{retract-ends}
+use Rattle.table.proofs.Taken.{taken-held}
+use Rattle.trees.specs.Tree.{entriesOf}
+use Rattle.trees.proofs.ShapeLaws.{entries-count}
+use Rattle.steps.specs.Open.{openOf}
+use Rattle.steps.specs.Take.{takeOf}
+use Rattle.steps.specs.Report.{reportOf}
+use Rattle.steps.specs.Held.{heldIn}
+use Rattle.steps.specs.Withdraw.{withdrawnWords, withdrawOf}
+use Rattle.history.specs.Index.{recordOf as heldRecord, givenBy}
+use Rattle.history.specs.View.{placeAt, seatAt}
+use Rattle.history.specs.Related.{recordOf, Related}
+use Rattle.history.specs.After.{after}
+use Rattle.history.specs.Withdrawn.{isSearching, Withdrawn}
+use Rattle.history.proofs.RelatedLaws.{related-passes, related-busy, related-waits, related-taken}
+use Rattle.history.proofs.HeldLaws.{held-entries}
+use Rattle.history.proofs.RelatedTake.{related-takes}
+use Rattle.history.proofs.RelatedWithdraw.{point-is, withdrawn-related, withdrawal-done, related-withdraws}
+use Rattle.history.proofs.Demand3.{accepted, quiet-state}
+use Rattle.history.proofs.Reached.{Stands, history-related}
+use Rattle.history.proofs.Solo.{outside-state}
+use Rattle.history.proofs.StepNumbers.{StepNumber, not-11}
+use Rattle.history.proofs.Everybody.{unfinished-same}
+
+-- ---- what it leaves
+
+-- as many records as the table holds
+held-number : {words : List ℕ} {t : Table} → Related words t → length (heldIn words) ≡ length (t .held)
+held-number {words} r =
+    sym (length-map (heldIn words) heldRecord) ∙ ap length (held-entries r) ∙ length-map (entriesOf (r .tree)) recordOf ∙ entries-count (r .tree) ∙ r .number
+
+-- a station that is not searching by the words has no search in the table
+not-searching : {words : List ℕ} {t : Table} (u : ℕ) → u < 8 → Related words t → isSearching words u ≡ false → searching (t .stations u) ≡ []
+unfolding searching isSearch seatAt
+not-searching {words} {t} u l r e = go (t .stations u) refl
+  where
+    go : (x : Station) → t .stations u ≡ x → searching x ≡ []
+    go idle q = refl
+    go (waiting a) q = refl
+    go (unfinished i (add p c) o) q = refl
+    go (unfinished i (remove p) o) q = refl
+    go (unfinished i (contains p) o) q = refl
+    go (unfinished i (nearest p) o) q = absurd (true≢false (sym (rw (related-busy r l q .state, related-busy r l q .kind) refl) ∙ e))
+
+module _ {words : List ℕ} {places limit : ℕ} (w : Stands words places limit) {s i : ℕ} {c : Call} {o : Option Answer} (l : s < 8) (q : w .table .stations s ≡ unfinished i c o) where
+  abbrev left : List ℕ
+  left = withdrawnWords words s (callAt words s)
+
+  abbrev t : Table
+  t = withStations (w .table) (put (w .table .stations) s (waiting (withdrawnAnswer c)))
+
+  waits : t .stations s ≡ waiting (withdrawnAnswer c)
+  waits = put-same (w .table .stations) s (waiting (withdrawnAnswer c))
+
+  next : Related left t
+  next = withdrawn-related (w .sound) l q (w .related)
+
+  taking-given : givenBy (takeOf left s) ≡ some (answer 11 (callAt words s .point) 0 0)
+  unfolding take takeAt withdrawnAnswer
+  taking-given =
+      related-takes s (sound-wait (w .table) s (withdrawnAnswer c) l (w .sound)) next .given
+      ∙ rw (lt-ltb s 8 l, waits) (ap (λ p. some (answer 11 p 0 0)) (sym (point-is (w .sound) l q (w .related))))
+
+  taken-alone : ((u : ℕ) → ¬ (u ≡ s) → isSearching words u ≡ false) → reportOf left .taken ≡ length (heldIn left)
+  unfolding reportOf searching
+  taken-alone f =
+      rw (related-passes next) (related-taken next (sound-wait (w .table) s (withdrawnAnswer c) l (w .sound)) ∙ taken-held t others ∙ sym (held-number next))
+    where
+      others : (u : ℕ) → u < 8 → searching (t .stations u) ≡ []
+      others u k = elim (ℕ-discrete u s) [
+        | yes e ↦ rw (e, waits)
+        | no n ↦ rw (put-other (w .table .stations) s u (waiting (withdrawnAnswer c)) n) (not-searching u k (w .related) (f u n))
+      ]
+
+  leaves : Withdrawn words s
+  unfolding seatAt placeAt
+  leaves =
+      let e = withdrawal-done (w .sound) l q (w .related) in
+      record {
+        accepted = ap (λ (r : Reply). r .number) e;
+        gives = rw e taking-given;
+        since = rw e (related-waits next l waits .quiet .since);
+        alone = λ f. rw e (taken-alone f);
+      }
+
+-- the words say that the call is unfinished
+stands-withdrawn : {words : List ℕ} {places limit : ℕ} → Stands words places limit → (s : ℕ) → isUnfinished (stateAt words s) ≡ true → Withdrawn words s
+stands-withdrawn {words} w s u = go (decLt s 8)
+  where
+    at : s < 8 → (x : Station) → w .table .stations s ≡ x → Withdrawn words s
+    at l idle q = absurd (true≢false (sym u ∙ quiet-state s l idle q tt (w .related)))
+    at l (waiting a) q = absurd (true≢false (sym u ∙ quiet-state s l (waiting a) q tt (w .related)))
+    at l (unfinished i c o) q = leaves w l q
+
+    go : Dec (s < 8) → Withdrawn words s
+    go (yes l) = at l (w .table .stations s) refl
+    go (no g) = absurd (true≢false (sym u ∙ outside-state words s (omega arith)))
+
+-- ---- after every history
+
+module _ (words : List ℕ) (places limit : ℕ) (e : openOf words places limit .number ≡ 0) (evs : List Event) (s : ℕ) where
+  abbrev reached : List ℕ
+  reached = after evs (openOf words places limit .words)
+
+  stands : Stands reached places limit
+  stands = let a = accepted words places limit e in rw (a .opens) (history-related words places limit a evs)
+
+  -- A withdrawal by any station gets 0, 5 or 10.
+  pub withdraw-numbers : StepNumber (withdrawOf reached s .number)
+  withdraw-numbers = rw (related-withdraws s (stands .sound) (stands .related) .number)
+      (retract-all (λ r. StepNumber (r .number)) (stands .table) s (inr (inl refl)) (inr (inr refl)) (λ l i c o q. inl refl))
+
+  -- "11, never met on an index that only these calls wrote".
+  pub withdraw-never-11 : ¬ (withdrawOf reached s .number ≡ 11)
+  withdraw-never-11 = not-11 withdraw-numbers
+
+  -- A station with an unfinished call withdraws it.
+  pub withdrawn : isUnfinished (stateAt reached s) ≡ true → Withdrawn reached s
+  withdrawn = stands-withdrawn stands s
+
+  -- It is accepted exactly if the station has an unfinished call.
+  pub withdraw-accepted : (withdrawOf reached s .number ≡ 0) ↔ (isUnfinished (stateAt reached s) ≡ true)
+  withdraw-accepted = (told, λ u. withdrawn u .accepted)
+    where
+      told : withdrawOf reached s .number ≡ 0 → isUnfinished (stateAt reached s) ≡ true
+      told z =
+          let b = retract-ends (stands .table) s (sym (related-withdraws s (stands .sound) (stands .related) .number) ∙ z) in
+          unfinished-same (stands .related) s (b .0) ∙ b .1

@@ -1,0 +1,33 @@
+-- What a withdrawal that is accepted leaves (document 02, 2026-06).
+use Prim.Native.Nat.{ℕ}
+use mathlib.Core.Path.{_≡_}
+use mathlib.Core.Bool.{Bool, false, _&&_}
+use mathlib.Core.List.{List}
+use mathlib.Core.Option.{some}
+use lib.Dec.{eqb}
+use lib.ListN.{length}
+use Rattle.points.specs.Word.{NONE}
+use Rattle.rows.specs.Layout.{atSince}
+use Rattle.rows.specs.Words.{get}
+use Rattle.rows.specs.Station.{isUnfinished, stateAt}
+use Rattle.rows.specs.Call.{callAt}
+use Rattle.table.specs.Call.{answer}
+use Rattle.steps.specs.Take.{takeOf}
+use Rattle.steps.specs.Report.{reportOf}
+use Rattle.steps.specs.Held.{heldIn}
+use Rattle.steps.specs.Withdraw.{withdrawOf}
+use Rattle.history.specs.Index.{givenBy}
+
+-- the station has an unfinished nearest
+abbrev pub isSearching : List ℕ → ℕ → Bool
+isSearching words s = isUnfinished (stateAt words s) && eqb (callAt words s .kind) 4
+
+pub record Withdrawn (words : List ℕ) (s : ℕ) : Type 0 where
+  pub accepted : withdrawOf words s .number ≡ 0
+  -- a taking would give "11, withdrawn, with its point, curve 0 and square 0"
+  pub gives : givenBy (takeOf (withdrawOf words s .words) s) ≡ some (answer 11 (callAt words s .point) 0 0)
+  -- the station's since word, from which on removals keep their places, is none
+  pub since : get (withdrawOf words s .words) (atSince s) ≡ NONE
+  -- where no other station has an unfinished nearest, the places taken are the records held
+  pub alone : ((u : ℕ) → ¬ (u ≡ s) → isSearching words u ≡ false)
+      → reportOf (withdrawOf words s .words) .taken ≡ length (heldIn (withdrawOf words s .words))
