@@ -32,13 +32,16 @@ pub const AT_CASES: usize = 9;
 
 pub const AT_WRONG_CASES: usize = 10;
 
-// How many calls each of two actors has made, and of which.
+// How many rows each of two actors has done.
 pub const AT_ACTORS: usize = 11;
 
-// Steps dealt to stations with an unfinished call since the last answer, and the most of them in the case under way.
+// Steps dealt to stations with an unfinished call since the last answer or withdrawal, and the most of them in the case under way.
 pub const AT_STRETCH: usize = 13;
 
 pub const AT_LONGEST: usize = 14;
+
+// Codes lie below this.
+pub const CODES: u32 = 12;
 
 // A place that no book has.
 pub const NOWHERE: usize = 1000000;
@@ -62,7 +65,7 @@ pub struct Due {
 
 // How often an answer of a code was taken in the case under way.
 pub fn at_code(code: u32) -> usize {
-    if code < 10 {
+    if code < CODES {
         16 + (code as usize)
     } else {
         NOWHERE

@@ -157,16 +157,16 @@ pub fn step_refusals(words: &mut [u32], spare: &mut [u32], book: &mut [u64]) {
 
 // Refusals of frames.
 pub fn frame_refusals(words: &mut [u32], spare: &mut [u32], book: &mut [u64]) {
-    // A length byte and a byte that it counts not there; no kind, and kinds 0, 6 and 65,535; another kind's length; the later questions failing
-    // as well. The last three frames are whole, and their calls are refused.
+    // A length byte and a byte that it counts not there; no kind, and kinds 0, 6, 7, 9 and 65,535; another kind's length; the later questions failing
+    // as well. The last four frames are whole, and their calls are refused.
     run_case(
         words,
         spare,
         book,
         b"refusals 13, 14 and 15|frames|
         O 672 2 10 0 0 0; F 672 1 3 3 0 13; F 672 4 3 3 0 13; F 672 5 4 9 0 13; F 672 2 0 0 0 14; F 672 3 1 3 0 14; F 672 4 2 0 0 14;
-        F 672 4 2 6 0 14; F 672 4 2 65535 0 14; F 672 4 2 1 0 15; F 672 10 8 2 0 15; F 672 6 4 3 0 15; F 672 5 3 3 0 10;
-        F 672 5 3 4 0 12; F 672 10 8 1 0 1;",
+        F 672 4 2 6 0 14; F 672 5 3 6 0 14; F 672 5 3 7 0 14; F 672 5 3 9 0 14; F 672 4 2 65535 0 14; F 672 4 2 1 0 15; F 672 10 8 2 0 15;
+        F 672 6 4 3 0 15; F 672 4 2 8 0 15; F 672 5 3 3 0 10; F 672 5 3 4 0 12; F 672 5 3 8 0 10; F 672 10 8 1 0 1;",
     );
 }
 

@@ -57,6 +57,17 @@ pub fn step(words: &mut [u32], book: &mut [u64], s: u32) -> u32 {
     number
 }
 
+// A withdrawal. A stretch of steps that answer nobody ends with one that is accepted.
+pub fn withdraw(words: &mut [u32], book: &mut [u64], s: u32) -> u32 {
+    let number = steps::withdraw::withdraw(words, s);
+    let due = reference::withdraw(book, s);
+    judge(book, number == due);
+    if number == 0 {
+        stretch::begin(book);
+    }
+    number
+}
+
 // An answer that was taken is the one that the table has. Gives the number of the taking.
 fn judge_taking(book: &mut [u64], s: u32, taking: Taking) -> u32 {
     match taking {

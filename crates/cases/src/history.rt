@@ -98,9 +98,10 @@ fn submit(words: &mut [u32], book: &mut [u64], plan: Plan, s: u32) -> u32 {
 // A random event, and its number.
 fn event(words: &mut [u32], book: &mut [u64], plan: Plan) -> u32 {
     let s = some_station(book);
-    match below(book, 8) {
-        0 | 1 => submit(words, book, plan, s),
-        2 => drive::take(words, book, s),
+    match below(book, 16) {
+        0..=3 => submit(words, book, plan, s),
+        4 | 5 => drive::take(words, book, s),
+        6 => drive::withdraw(words, book, s),
         _ => drive::step(words, book, s),
     }
 }
@@ -179,6 +180,7 @@ fn most_met(book: &[u64]) -> bool {
         & met(book, 7)
         & met(book, 8)
         & met(book, 9)
+        & met(book, 11)
 }
 
 // The same in so many of the words.

@@ -15,6 +15,7 @@ mod stairs;
 mod stretch;
 mod tally;
 mod text;
+mod withdrawals;
 
 use trial::cells::fill;
 
@@ -41,6 +42,13 @@ fn cases_of_stations(words: &mut [u32], spare: &mut [u32], book: &mut [u64]) {
     cases::two_stations(words, spare, book);
 }
 
+// Calls that are taken back.
+fn cases_of_withdrawals(words: &mut [u32], spare: &mut [u32], book: &mut [u64]) {
+    withdrawals::refusals(words, spare, book);
+    withdrawals::places(words, spare, book);
+    withdrawals::orders(words, spare, book);
+}
+
 // Random histories.
 fn cases_of_histories(words: &mut [u32], spare: &mut [u32], book: &mut [u64]) {
     cases::busy_stations(words, spare, book);
@@ -55,6 +63,7 @@ fn main() {
     cases_of_calls(&mut words, &mut spare, &mut book);
     cases_of_refusals(&mut words, &mut spare, &mut book);
     cases_of_stations(&mut words, &mut spare, &mut book);
+    cases_of_withdrawals(&mut words, &mut spare, &mut book);
     cases_of_histories(&mut words, &mut spare, &mut book);
     tally::end(&book);
 }

@@ -1,4 +1,4 @@
-// Two actors, each with the calls of one station in a section of a text: their events in every order.
+// Two actors, each with calls or single events in a section of a text: their events in every order.
 use crate::book::AT_ACTORS;
 use crate::drive;
 use crate::reference;
@@ -24,8 +24,8 @@ const ONE: u32 = 3;
 
 const OTHER: u32 = 4;
 
-// The next event of a call: its submission, a step, or its taking, which counts.
-fn event(words: &mut [u32], book: &mut [u64], n: [u32; 9], actor: usize) {
+// The next event of a whole call: its submission, a step, or its taking, which counts.
+fn call_event(words: &mut [u32], book: &mut [u64], n: [u32; 9], actor: usize) {
     match reference::state(book, n[0]) {
         0 => script::submit(words, book, n),
         1 => {
@@ -38,18 +38,29 @@ fn event(words: &mut [u32], book: &mut [u64], n: [u32; 9], actor: usize) {
     }
 }
 
-// The next call of an actor, whose calls made are counted in a cell.
-fn next_call(book: &[u64], text: &[u8], section: u32, actor: usize) -> Row {
+// The next row of an actor, whose rows done are counted in a cell.
+fn next_row(book: &[u64], text: &[u8], section: u32, actor: usize) -> Row {
     row_of(text, section, low(get(book, actor)))
 }
 
-// The next event of an actor; none where all its calls are made.
+// The event of a row that is no whole call. It counts.
+fn single_event(words: &mut [u32], book: &mut [u64], row: Row, actor: usize) {
+    script::event(words, book, row);
+    count(book, actor);
+}
+
+// The next event of an actor; none where all its rows are done.
 fn act(words: &mut [u32], book: &mut [u64], text: &[u8], section: u32, actor: usize) {
-    let row = next_call(book, text, section, actor);
+    let row = next_row(book, text, section, actor);
     let n = row.n;
-    if row.letter != 0 {
-        event(words, book, n, actor);
-        drive::judge_event(words, book);
+    let letter = row.letter;
+    match letter {
+        0 => {}
+        b'c' => {
+            call_event(words, book, n, actor);
+            drive::judge_event(words, book);
+        }
+        _ => single_event(words, book, row, actor),
     }
 }
 
@@ -74,9 +85,9 @@ fn dealt(words: &mut [u32], book: &mut [u64], text: &[u8], order: u32) {
     }
 }
 
-// Every call of an actor has been made.
-fn judge_made(book: &mut [u64], text: &[u8], section: u32, actor: usize) {
-    let row = next_call(book, text, section, actor);
+// Every row of an actor has been done.
+fn judge_done(book: &mut [u64], text: &[u8], section: u32, actor: usize) {
+    let row = next_row(book, text, section, actor);
     judge(book, row.letter == 0);
 }
 
@@ -86,8 +97,8 @@ fn one_order(words: &mut [u32], book: &mut [u64], text: &[u8], order: u32) {
     put(book, AT_ACTORS + 1, 0);
     setup(words, book, text);
     dealt(words, book, text, order);
-    judge_made(book, text, ONE, AT_ACTORS);
-    judge_made(book, text, OTHER, AT_ACTORS + 1);
+    judge_done(book, text, ONE, AT_ACTORS);
+    judge_done(book, text, OTHER, AT_ACTORS + 1);
 }
 
 // The events before the first turn.

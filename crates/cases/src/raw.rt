@@ -15,6 +15,7 @@ use steps::step::step;
 use steps::submit::submit;
 use steps::take::Taking;
 use steps::take::take;
+use steps::withdraw::withdraw;
 use trial::cells::copy;
 use trial::cells::put_word;
 use trial::cells::same_from;
@@ -51,7 +52,7 @@ fn audited(words: &[u32]) -> u32 {
 }
 
 // The call of a row, and its number. Places and limit of an opening; station, kind, weight of a sheet of grade 12 and curve of a submission;
-// the station of a step, a run and a taking; the bytes there, the length and the kind of a frame; a place and the word that is written there.
+// the station of a step, a run, a taking and a withdrawal (D); the bytes there, the length and the kind of a frame; a place and the word that is written there.
 fn perform(words: &mut [u32], row: Row) -> u32 {
     let n = row.n;
     let letter = row.letter;
@@ -61,6 +62,7 @@ fn perform(words: &mut [u32], row: Row) -> u32 {
         b'T' => step(words, n[1]),
         b'R' => run(words, n[1]),
         b'K' => number_of(take(words, n[1])),
+        b'D' => withdraw(words, n[1]),
         b'P' => report(words),
         b'A' => audited(words),
         b'F' => framed(words, n[1], n[2], n[3]),

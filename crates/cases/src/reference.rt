@@ -218,6 +218,26 @@ pub fn step(book: &mut [u64], s: u32, answers: bool) -> u32 {
     0
 }
 
+// The call of a station is taken back: it is answered 11, and has no part in the order of moments.
+fn take_back(book: &mut [u64], s: u32) {
+    let due = plain(11, read_spot(book, at_station(s, 2)), 0);
+    put_due(book, s, due);
+    put(book, at_station(s, 0), WAITING);
+    release(book, s);
+}
+
+// A withdrawal: the number of the first of questions 5 and 10 that fails, or 0.
+pub fn withdraw(book: &mut [u64], s: u32) -> u32 {
+    if 8 <= s {
+        return 5;
+    }
+    if state(book, s) != UNFINISHED {
+        return 10;
+    }
+    take_back(book, s);
+    0
+}
+
 // A taking: the number of the first of questions 5 and 12 that fails, or 0.
 pub fn take(book: &mut [u64], s: u32) -> u32 {
     if 8 <= s {

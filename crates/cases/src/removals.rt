@@ -1,4 +1,4 @@
-// Each removal is kept with the nearest calls that were unfinished at its moment, a bit for each station, until the last of them is answered.
+// Each removal is kept with the nearest calls that were unfinished at its moment, a bit for each station, until the last of them is answered or withdrawn.
 use crate::book::AT_AWAITED;
 use crate::book::at_removal;
 use crate::reference::UNFINISHED;
@@ -48,7 +48,7 @@ fn keep(book: &mut [u64], i: u64, kept: u64, s: u32) -> u64 {
     more(kept)
 }
 
-// The call of a station is answered: no removal waits for it any more.
+// The call of a station is answered or withdrawn: no removal waits for it any more.
 pub fn release(book: &mut [u64], s: u32) {
     let awaited = get(book, AT_AWAITED);
     let mut kept: u64 = 0;

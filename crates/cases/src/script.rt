@@ -92,8 +92,13 @@ fn single_step(words: &mut [u32], book: &mut [u64], s: u32) {
     drive::step(words, book, s);
 }
 
-// The event of a row: o an opening with its places and limit, c a whole call, s a submission, t a step, r a run, k a taking, n the places
-// taken, e eight calls at once, and any other letter turns of all stations.
+// A withdrawal.
+fn take_back(words: &mut [u32], book: &mut [u64], s: u32) {
+    drive::withdraw(words, book, s);
+}
+
+// The event of a row: o an opening with its places and limit, c a whole call, s a submission, t a step, r a run, k a taking, w a withdrawal, n the
+// places taken, e eight calls at once, and any other letter turns of all stations.
 fn perform(words: &mut [u32], book: &mut [u64], row: Row) {
     let n = row.n;
     let letter = row.letter;
@@ -104,6 +109,7 @@ fn perform(words: &mut [u32], book: &mut [u64], row: Row) {
         b't' => single_step(words, book, n[0]),
         b'r' => drive::run(words, book, n[0]),
         b'k' => take(words, book, n),
+        b'w' => take_back(words, book, n[0]),
         b'n' => judge_taken(words, book, n[0]),
         b'e' => eight(words, book, n),
         _ => rounds(words, book, turns_of(n[0])),

@@ -1,4 +1,5 @@
-// The stretch of steps, each dealt to a station with an unfinished call, since one of them answered: among more than 16 for each place one does.
+// The stretch of steps, each dealt to a station with an unfinished call, since one of them answered or a call was withdrawn: among more than 16 for
+// each place one answers.
 use crate::book::AT_LONGEST;
 use crate::book::AT_PLACES;
 use crate::book::AT_STRETCH;
@@ -13,7 +14,7 @@ fn most_unanswered(book: &[u64]) -> u64 {
     if places <= 4096 { 16 * places } else { 0 }
 }
 
-// No step was dealt yet.
+// No step was dealt yet, or since a withdrawal.
 pub fn begin(book: &mut [u64]) {
     put(book, AT_STRETCH, 0);
 }

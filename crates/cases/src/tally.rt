@@ -5,6 +5,7 @@ use crate::book::AT_LONGEST;
 use crate::book::AT_TRIED;
 use crate::book::AT_WRONG;
 use crate::book::AT_WRONG_CASES;
+use crate::book::CODES;
 use crate::book::at_code;
 use crate::text::start_of;
 use libc::STDOUT_FILENO;
@@ -36,7 +37,7 @@ pub fn begin_case(book: &mut [u64]) {
     put(book, AT_CHECKS, 0);
     put(book, AT_WRONG, 0);
     put(book, AT_LONGEST, 0);
-    for code in 0..10u32 {
+    for code in 0..CODES {
         put(book, at_code(code), 0);
     }
 }

@@ -16,11 +16,13 @@ pub const RUN: u64 = 2;
 
 pub const TAKE: u64 = 3;
 
-pub const REPORT: u64 = 4;
+pub const WITHDRAW: u64 = 4;
 
-pub const AUDIT: u64 = 5;
+pub const REPORT: u64 = 5;
 
-pub const OPEN: u64 = 6;
+pub const AUDIT: u64 = 6;
+
+pub const OPEN: u64 = 7;
 
 // What stands for an audit that says no; it is the number of no question here.
 pub const NO: u32 = 13;
@@ -100,8 +102,9 @@ pub fn call(words: &mut [u32], book: &mut [u64], kind: u64) -> u32 {
         1 => steps::step::step(words, s),
         2 => steps::run::run(words, s),
         3 => number_of(steps::take::take(words, s)),
-        4 => report(words),
-        5 => audit(words),
+        4 => steps::withdraw::withdraw(words, s),
+        5 => report(words),
+        6 => audit(words),
         _ => open(words, book),
     }
 }
@@ -110,10 +113,12 @@ pub fn call(words: &mut [u32], book: &mut [u64], kind: u64) -> u32 {
 pub fn is_allowed(kind: u64, number: u32) -> bool {
     match kind {
         0 => (number == 0) | ((4 <= number) & (number <= 9)),
-        1 | 2 => (number == 0) | (number == 4) | (number == 5) | (number == 10) | (number == 11),
+        1 | 2 | 4 => {
+            (number == 0) | (number == 4) | (number == 5) | (number == 10) | (number == 11)
+        }
         3 => (number == 0) | (number == 4) | (number == 5) | (number == 12),
-        4 => (number == 0) | (number == 4),
-        5 => (number == 0) | (number == 4) | (number == NO),
+        5 => (number == 0) | (number == 4),
+        6 => (number == 0) | (number == 4) | (number == NO),
         _ => (1 <= number) & (number <= 3),
     }
 }

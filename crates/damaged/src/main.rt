@@ -1,5 +1,5 @@
 // Damages words of a live index at random and makes every call on it: each call returns with one of document 01's numbers or an answer, a
-// refused one changes nothing, and none touches a word outside of its slice.
+// refused one changes nothing, a withdrawal changes no row, and none touches a word outside of its slice.
 mod calls;
 mod harm;
 
@@ -18,6 +18,9 @@ use trial::random::seed;
 const START: usize = 100;
 
 const END: usize = 900;
+
+// Where its rows begin.
+const ROWS: usize = 708;
 
 const WHOLE: usize = 1000;
 
@@ -81,12 +84,13 @@ fn outside_kept(whole: &[u32], spare: &[u32]) -> bool {
     same(whole, spare, 0, START) & same(whole, spare, END, WHOLE)
 }
 
-// What is asked after a call: its number, the words around the slice, and every word where it changes nothing.
+// What is asked after a call: its number, the words around the slice, every word where it changes nothing, and the rows where it is a withdrawal.
 fn judge_call(whole: &[u32], spare: &[u32], book: &mut [u64], kind: u64, number: u32) {
     let kept = !changes_nothing(kind, number) | same(whole, spare, START, END);
+    let rows_kept = (kind != calls::WITHDRAW) | same(whole, spare, ROWS, END);
     judge(book, is_allowed(kind, number));
     judge(book, outside_kept(whole, spare));
-    judge(book, kept);
+    judge(book, kept & rows_kept);
 }
 
 // A call is counted by its kind, and by its number.
@@ -97,13 +101,14 @@ fn count_call(book: &mut [u64], kind: u64, number: u32) {
 
 // A kind of call; mostly submissions and steps.
 fn some_kind(book: &mut [u64]) -> u64 {
-    match below(book, 16) {
-        0..=3 => calls::SUBMIT,
-        4..=9 => calls::STEP,
-        10 => calls::RUN,
-        11 | 12 => calls::TAKE,
-        13 => calls::REPORT,
-        14 => calls::AUDIT,
+    match below(book, 32) {
+        0..=7 => calls::SUBMIT,
+        8..=18 => calls::STEP,
+        19 | 20 => calls::RUN,
+        21..=24 => calls::TAKE,
+        25 | 26 => calls::WITHDRAW,
+        27 | 28 => calls::REPORT,
+        29 | 30 => calls::AUDIT,
         _ => calls::OPEN,
     }
 }
@@ -204,6 +209,7 @@ fn say_calls(book: &[u64]) {
 // The rest of them.
 fn say_more_calls(book: &[u64]) {
     say(b"takings: ", get(book, at(AT_CALLS, calls::TAKE)));
+    say(b"withdrawals: ", get(book, at(AT_CALLS, calls::WITHDRAW)));
     say(b"reports: ", get(book, at(AT_CALLS, calls::REPORT)));
     say(b"audits: ", get(book, at(AT_CALLS, calls::AUDIT)));
     say(

@@ -9,7 +9,7 @@ abbrev Inv-loop : tie.InvT-loop
 Inv-loop book₀ code₀ book code = (length book ≡ length book₀)
 
 abbrev μ-loop : tie.MeasureT-loop
-μ-loop book₀ code₀ book code = 10 - code
+μ-loop book₀ code₀ book code = 12 - code
 
 put-requires : tie.Need-put-requires Inv-loop μ-loop
 put-requires c κs = search needs
