@@ -36,6 +36,11 @@ void step(struct index index, uint32_t s)
     accepted(index_step(index.words, index.length, s), "a step");
 }
 
+void withdraw(struct index index, uint32_t s)
+{
+    accepted(index_withdraw(index.words, index.length, s), "a withdrawal");
+}
+
 static uint32_t *station(struct index index, uint32_t s)
 {
     return index.words + COMMON + STATION * s;

@@ -9,6 +9,9 @@
 #define STATIONS 8
 #define NONE 4294967295u
 
+// The code of a call that was taken back.
+#define WITHDRAWN 11
+
 // The calls of crate c_calls. A slice of words is lent as its first word and its length.
 uint32_t index_open(uint32_t *words, size_t length, uint32_t places, uint32_t limit);
 uint32_t index_submit(uint32_t *words, size_t length, uint32_t s, uint32_t kind, int32_t grade, int32_t weight, int32_t moisture,
@@ -16,6 +19,7 @@ uint32_t index_submit(uint32_t *words, size_t length, uint32_t s, uint32_t kind,
 uint32_t index_step(uint32_t *words, size_t length, uint32_t s);
 uint32_t index_run(uint32_t *words, size_t length, uint32_t s);
 uint32_t index_take(uint32_t *words, size_t length, uint32_t s);
+uint32_t index_withdraw(uint32_t *words, size_t length, uint32_t s);
 uint32_t index_report_number(const uint32_t *words, size_t length);
 uint64_t index_report(const uint32_t *words, size_t length);
 uint32_t index_audit_number(const uint32_t *words, size_t length);
@@ -33,6 +37,7 @@ size_t words_for(uint32_t places);
 void submit(struct index index, uint32_t s, struct call call);
 void step(struct index index, uint32_t s);
 struct answer take(struct index index, uint32_t s);
+void withdraw(struct index index, uint32_t s);
 
 // Whether the call of station s is unfinished.
 int unfinished(struct index index, uint32_t s);

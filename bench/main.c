@@ -60,17 +60,17 @@ static void calls_of(struct pair *pair, uint32_t places)
         print_times(pair, places, kind, best[kind]);
 }
 
-static void steps_of(struct pair *pair, const char *name, struct six (*measure)(struct pair *, uint32_t))
+static void singles_of(struct pair *pair, const char *name, struct timings (*measure)(struct pair *, uint32_t))
 {
     uint32_t best = LONGEST;
-    uint64_t steps = 0;
+    uint64_t count = 0;
     for (int round = 0; round < ROUNDS; round++) {
         fill(pair, MOST_PLACES, MOST_PLACES);
-        struct six six = measure(pair, CALLS);
-        best = median(&six) < best ? median(&six) : best;
-        steps = six.steps;
+        struct timings timings = measure(pair, CALLS);
+        best = median(&timings) < best ? median(&timings) : best;
+        count = timings.count;
     }
-    printf("%-14s  %8llu steps  %6u ns, the median\n", name, (unsigned long long)steps, best);
+    printf("%-26s  %8llu  %6u ns, the median\n", name, (unsigned long long)count, best);
 }
 
 static void stairs(struct index index)
@@ -80,15 +80,15 @@ static void stairs(struct index index)
         enum order order;
     } rows[] = {{256, BY_WEIGHT}, {1024, BY_WEIGHT}, {MOST_PLACES, BY_WEIGHT}, {MOST_PLACES, SHUFFLED}};
     printf("\nThe time of an audit, eight searches in turn up to the first answer, and the most bytes of stack that a call took\n");
-    printf("%7s  %-9s  %8s  %10s  %7s  %5s  %6s  %5s  %5s  %5s  %6s  %6s\n", "records", "added", "audit ms", "busy steps", "busy ms", "open",
-           "submit", "step", "run", "take", "report", "audit");
+    printf("%7s  %-9s  %8s  %10s  %7s  %5s  %6s  %5s  %5s  %5s  %8s  %6s  %6s\n", "records", "added", "audit ms", "busy steps", "busy ms",
+           "open", "submit", "step", "run", "take", "withdraw", "report", "audit");
     for (size_t i = 0; i < sizeof rows / sizeof rows[0]; i++) {
         index.length = words_for(rows[i].records);
         struct stair stair = measure_stair(index, rows[i].records, rows[i].order);
         const size_t *u = stair.used;
-        printf("%7u  %-9s  %8.3f  %10u  %7.2f  %5zu  %6zu  %5zu  %5zu  %5zu  %6zu  %6zu\n", rows[i].records,
+        printf("%7u  %-9s  %8.3f  %10u  %7.2f  %5zu  %6zu  %5zu  %5zu  %5zu  %8zu  %6zu  %6zu\n", rows[i].records,
                rows[i].order == BY_WEIGHT ? "by weight" : "shuffled", stair.audit_ns / 1e6, stair.busy_steps, stair.busy_ns / 1e6, u[OPENING],
-               u[SUBMISSION], u[STEP], u[RUN], u[TAKING], u[REPORT], u[AUDIT]);
+               u[SUBMISSION], u[STEP], u[RUN], u[TAKING], u[WITHDRAWAL], u[REPORT], u[AUDIT]);
     }
 }
 
@@ -138,10 +138,11 @@ int main(void)
     for (int i = 0; i < 2; i++)
         for (pair.spread = UNIFORM; pair.spread <= CLUSTERED; pair.spread++)
             calls_of(&pair, sizes[i]);
-    printf("\nSteps that read six rows, 4,096 places, uniform\n");
+    printf("\nSingle calls, 4,096 places, uniform\n");
     pair.spread = UNIFORM;
-    steps_of(&pair, "walk", measure_walks);
-    steps_of(&pair, "search", measure_searches);
+    singles_of(&pair, "walk steps of six rows", measure_walks);
+    singles_of(&pair, "search steps of six rows", measure_searches);
+    singles_of(&pair, "withdrawals of a search", measure_withdrawals);
     stairs(pair.index);
     scans();
     free(pair.index.words);

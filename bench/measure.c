@@ -127,72 +127,72 @@ void measure_changes(struct pair *pair, uint32_t calls, struct times *removes, s
     }
 }
 
-// The time of a step, less what reading the clock cost right before it.
-static double timed_step(struct index index, uint32_t s)
+// The time of a call of station s, less what reading the clock cost right before it.
+static double timed(void (*call)(struct index, uint32_t), struct index index, uint32_t s)
 {
     double before = now();
     double begin = now();
-    step(index, s);
+    call(index, s);
     double end = now();
     return (end - begin) - (begin - before);
 }
 
-// One more step that read six rows.
-static void took(struct six *six, double time)
+// One more call that was timed.
+static void took(struct timings *timings, double time)
 {
     uint32_t at = time <= 0 ? 0 : time >= LONGEST - 1 ? LONGEST - 1 : (uint32_t)time;
-    six->took[at]++;
-    six->steps++;
+    timings->took[at]++;
+    timings->count++;
 }
 
-uint32_t median(const struct six *six)
+uint32_t median(const struct timings *timings)
 {
     uint64_t below = 0;
     for (uint32_t time = 0; time < LONGEST; time++) {
-        below += six->took[time];
-        if (2 * below >= six->steps)
+        below += timings->took[time];
+        if (2 * below >= timings->count)
             return time;
     }
     return LONGEST;
 }
 
 // A step from a cut to a cut has read six rows.
-struct six measure_walks(struct pair *pair, uint32_t calls)
+struct timings measure_walks(struct pair *pair, uint32_t calls)
 {
-    struct six six = {0};
+    struct timings timings = {0};
     struct index index = pair->index;
     for (uint32_t n = 0; n < calls; n++) {
         submit(index, 0, (struct call){CONTAINS, held_record(pair)});
         while (unfinished(index, 0)) {
             uint32_t from = kind_of(index, cursor_of(index, 0));
-            double time = timed_step(index, 0);
+            double time = timed(step, index, 0);
             if (from == CUT && unfinished(index, 0) && kind_of(index, cursor_of(index, 0)) == CUT)
-                took(&six, time);
+                took(&timings, time);
         }
         take(index, 0);
     }
-    return six;
+    return timings;
 }
 
 // A search step that looks at a missed row and the row after it, and goes up twice, has read six rows.
-static void search_step(struct index index, uint32_t s, struct six *six)
+static void search_step(struct index index, uint32_t s, struct timings *timings)
 {
     uint32_t row = cursor_of(index, s), missed = missed_of(index, s);
     uint32_t above = row == NONE ? NONE : link_of(index, row);
     uint32_t top = above == NONE ? NONE : link_of(index, above);
     int up = phase_of(index, s) == 1 && top != NONE && missed != NONE && link_of(index, missed) != NONE;
-    double time = timed_step(index, s);
+    double time = timed(step, index, s);
     if (up && unfinished(index, s) && phase_of(index, s) == 1 && cursor_of(index, s) == top)
-        took(six, time);
+        took(timings, time);
 }
 
 // The seven searches go one step each; gives whether any is unfinished.
-static int round_of_steps(struct index index, struct six *six)
+static int round_of_steps(struct index index, struct timings *timings)
 {
     int left = 0;
     for (uint32_t s = 0; s < REMOVER; s++)
         if (unfinished(index, s)) {
-            search_step(index, s, six);
+            search_step(index, s, timings);
             left = 1;
         }
     return left;
@@ -200,9 +200,9 @@ static int round_of_steps(struct index index, struct six *six)
 
 // Seven stations search; once they are down in the tree the eighth removes eight records, one after each round of steps, and adds them
 // again when all are done.
-struct six measure_searches(struct pair *pair, uint32_t calls)
+struct timings measure_searches(struct pair *pair, uint32_t calls)
 {
-    struct six six = {0};
+    struct timings timings = {0};
     struct index index = pair->index;
     for (uint32_t n = 0; n < calls; n += REMOVER) {
         struct call removes[STATIONS];
@@ -210,7 +210,7 @@ struct six measure_searches(struct pair *pair, uint32_t calls)
         draw_removes(pair, removes);
         for (uint32_t s = 0; s < REMOVER; s++)
             submit(index, s, (struct call){NEAREST, random_record(pair->spread)});
-        while (round_of_steps(index, &six))
+        while (round_of_steps(index, &timings))
             if (++round > ROUNDS_DOWN && gone < STATIONS)
                 finish(index, REMOVER, removes[gone++]);
         for (uint32_t s = 0; s < REMOVER; s++)
@@ -218,5 +218,25 @@ struct six measure_searches(struct pair *pair, uint32_t calls)
         while (gone > 0)
             finish(index, REMOVER, (struct call){ADD, removes[--gone].record});
     }
-    return six;
+    return timings;
+}
+
+// A nearest is submitted, goes down the tree unless it is answered first, and is taken back. Its answer is 11 with the target, curve 0 and square 0.
+struct timings measure_withdrawals(struct pair *pair, uint32_t calls)
+{
+    struct timings timings = {0};
+    struct index index = pair->index;
+    for (uint32_t n = 0; n < calls; n++) {
+        struct call call = {NEAREST, random_record(pair->spread)};
+        submit(index, 0, call);
+        for (uint32_t k = 0; k < ROUNDS_DOWN && unfinished(index, 0); k++)
+            step(index, 0);
+        if (unfinished(index, 0)) {
+            took(&timings, timed(withdraw, index, 0));
+            check(take(index, 0), (struct answer){WITHDRAWN, call.record.point, 0, 0});
+        } else {
+            take(index, 0);
+        }
+    }
+    return timings;
 }

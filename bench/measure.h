@@ -1,4 +1,4 @@
-// What is measured: whole calls beside the flat scan, and single steps of six rows.
+// What is measured: whole calls beside the flat scan, single steps of six rows, and withdrawals.
 #ifndef MEASURE_H
 #define MEASURE_H
 
@@ -21,10 +21,10 @@ struct times {
     uint64_t calls;
 };
 
-// How many steps that read six rows took each number of nanoseconds; the last count has all that took longer.
+// How many single calls took each number of nanoseconds; the last count has all that took longer.
 #define LONGEST 4096
-struct six {
-    uint64_t steps;
+struct timings {
+    uint64_t count;
     uint32_t took[LONGEST];
 };
 
@@ -36,10 +36,13 @@ void measure_readings(struct pair *pair, uint32_t kind, uint32_t calls, struct t
 void measure_changes(struct pair *pair, uint32_t calls, struct times *removes, struct times *adds);
 
 // Steps of contains calls that go six rows down, and steps of nearest calls that look at two freed rows and at four of the tree.
-struct six measure_walks(struct pair *pair, uint32_t calls);
-struct six measure_searches(struct pair *pair, uint32_t calls);
+struct timings measure_walks(struct pair *pair, uint32_t calls);
+struct timings measure_searches(struct pair *pair, uint32_t calls);
 
-// The time that half of the steps did not pass: a clock that jumps or a step that was interrupted does not move it.
-uint32_t median(const struct six *six);
+// Withdrawals of nearest calls that are under way.
+struct timings measure_withdrawals(struct pair *pair, uint32_t calls);
+
+// The time that half of the calls did not pass: a clock that jumps or a call that was interrupted does not move it.
+uint32_t median(const struct timings *timings);
 
 #endif

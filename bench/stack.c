@@ -61,6 +61,11 @@ static void make_take(void)
     made.number = index_take(made.index.words, made.index.length, made.s);
 }
 
+static void make_withdraw(void)
+{
+    made.number = index_withdraw(made.index.words, made.index.length, made.s);
+}
+
 static void make_report(void)
 {
     made.number = (uint32_t)index_report(made.index.words, made.index.length);
@@ -81,8 +86,8 @@ static void make_window_update(void)
     made.number = window_update(made.window, made.reading).number;
 }
 
-static void (*const MAKE[ENTRIES])(void) = {make_nothing, make_open,   make_submit, make_step,         make_run,
-                                            make_take,    make_report, make_audit,  make_window_begin, make_window_update};
+static void (*const MAKE[ENTRIES])(void) = {make_nothing,  make_open,   make_submit, make_step,         make_run,          make_take,
+                                            make_withdraw, make_report, make_audit,  make_window_begin, make_window_update};
 
 static void make(enum entry entry, struct index index)
 {
@@ -131,6 +136,12 @@ void painted_take(struct index index, uint32_t s)
 {
     made.s = s;
     make(TAKING, index);
+}
+
+void painted_withdraw(struct index index, uint32_t s)
+{
+    made.s = s;
+    make(WITHDRAWAL, index);
 }
 
 void painted_report(struct index index)

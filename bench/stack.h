@@ -5,7 +5,7 @@
 #include "index.h"
 #include "scans.h"
 
-enum entry { NOTHING, OPENING, SUBMISSION, STEP, RUN, TAKING, REPORT, AUDIT, WINDOW_BEGIN, WINDOW_UPDATE, ENTRIES };
+enum entry { NOTHING, OPENING, SUBMISSION, STEP, RUN, TAKING, WITHDRAWAL, REPORT, AUDIT, WINDOW_BEGIN, WINDOW_UPDATE, ENTRIES };
 
 // Paints the stack of every call.
 void paint(void);
@@ -16,6 +16,7 @@ void painted_submit(struct index index, uint32_t s, struct call call);
 void painted_step(struct index index, uint32_t s);
 uint32_t painted_run(struct index index, uint32_t s);
 void painted_take(struct index index, uint32_t s);
+void painted_withdraw(struct index index, uint32_t s);
 void painted_report(struct index index);
 bool painted_audit(struct index index);
 

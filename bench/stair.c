@@ -117,7 +117,7 @@ static void busy_case(struct index index, uint32_t records, struct stair *stair)
     }
 }
 
-// One call of some station: a submission, a taking, a report, a run now and then, and mostly steps.
+// One call of some station: a submission, a taking, a report, a run or a withdrawal now and then, and mostly steps.
 static void some_call(struct index index, uint32_t records)
 {
     uint32_t s = random_below(STATIONS);
@@ -136,6 +136,9 @@ static void some_call(struct index index, uint32_t records)
         break;
     case 6:
         painted_run(index, s);
+        break;
+    case 7:
+        painted_withdraw(index, s);
         break;
     default:
         painted_step(index, s);

@@ -8,6 +8,7 @@ use steps::step::step;
 use steps::submit::submit;
 use steps::take::Taking;
 use steps::take::take;
+use steps::withdraw::withdraw;
 ghost use mathlib.Core.Path.{_≡_};
 ghost use Rattle.moves.specs.Reply.{replied};
 ghost use Rattle.steps.specs.Open.{openOf};
@@ -15,6 +16,7 @@ ghost use Rattle.steps.specs.Submit.{submitOf};
 ghost use Rattle.steps.specs.Step.{stepOf};
 ghost use Rattle.steps.specs.Run.{runOf};
 ghost use Rattle.steps.specs.Take.{numberOf, takeOf, takeWords};
+ghost use Rattle.steps.specs.Withdraw.{withdrawOf};
 ghost use Rattle.steps.specs.Report.{reportOf};
 ghost use Rattle.steps.specs.Audit.{verdictOf};
 
@@ -83,6 +85,14 @@ pub extern "C" fn index_take(words: &mut [u32], s: u32) -> u32
     ensures { λ r. ⌜ (r ≡ numberOf (takeOf (now (words .entry)) s)) × (now (words .exit) ≡ takeWords (now (words .entry)) s) ⌝ }
 {
     number_of(take(words, s))
+}
+
+// Takes back the unfinished call of station s.
+#[no_mangle]
+pub extern "C" fn index_withdraw(words: &mut [u32], s: u32) -> u32
+    ensures { λ r. ⌜ replied r (now (words .exit)) ≡ withdrawOf (now (words .entry)) s ⌝ }
+{
+    withdraw(words, s)
 }
 
 // The number of a report.
