@@ -168,13 +168,18 @@ fn apply(book: &mut [u64], due: Due) {
     }
 }
 
+// An answer waits at a station, for whose call no removal is kept any more.
+fn wait(book: &mut [u64], s: u32, due: Due) {
+    put_due(book, s, due);
+    put(book, at_station(s, 0), WAITING);
+    release(book, s);
+}
+
 // The call of a station is answered.
 fn answer(book: &mut [u64], s: u32) {
     let due = due_now(book, s);
-    put_due(book, s, due);
+    wait(book, s, due);
     apply(book, due);
-    put(book, at_station(s, 0), WAITING);
-    release(book, s);
 }
 
 // The call is written at its station. The answer of a nearest is for the records held now.
@@ -218,15 +223,7 @@ pub fn step(book: &mut [u64], s: u32, answers: bool) -> u32 {
     0
 }
 
-// The call of a station is taken back: it is answered 11, and has no part in the order of moments.
-fn take_back(book: &mut [u64], s: u32) {
-    let due = plain(11, read_spot(book, at_station(s, 2)), 0);
-    put_due(book, s, due);
-    put(book, at_station(s, 0), WAITING);
-    release(book, s);
-}
-
-// A withdrawal: the number of the first of questions 5 and 10 that fails, or 0.
+// A withdrawal, after which 11 waits: the number of the first of questions 5 and 10 that fails, or 0.
 pub fn withdraw(book: &mut [u64], s: u32) -> u32 {
     if 8 <= s {
         return 5;
@@ -234,7 +231,8 @@ pub fn withdraw(book: &mut [u64], s: u32) -> u32 {
     if state(book, s) != UNFINISHED {
         return 10;
     }
-    take_back(book, s);
+    let due = plain(11, read_spot(book, at_station(s, 2)), 0);
+    wait(book, s, due);
     0
 }
 

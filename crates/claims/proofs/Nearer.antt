@@ -34,7 +34,7 @@ not-own s (singleStep u) n = refl
 not-own s (taking u) n = refl
 not-own s (withdrawal u) n = ne-eqb u s (λ e. n (ap withdrawal e))
 
-unanswered-along : (s : ℕ) (evs : List Event) (words : List ℕ)
+pub unanswered-along : (s : ℕ) (evs : List Event) (words : List ℕ)
     → ((before rest : List Event) → before ++ (singleStep s ∷ rest) ≡ evs → answered wordIndex (after before words) (singleStep s) ≡ false)
     → ((before rest : List Event) → ¬ (before ++ (withdrawal s ∷ rest) ≡ evs)) → Unanswered wordIndex s words evs
 unfolding after

@@ -110,7 +110,10 @@ somebody-steps words places limit e evs stations f l =
 -- "neither withdrawal nor packing falls inside it": then the run is undisturbed, which asks only that no withdrawal is accepted. There is no packing yet.
 pub no-withdrawal : (words : List ℕ) (run : List Event) → ((before : List Event) (s : ℕ) (rest : List Event) → ¬ (before ++ (withdrawal s ∷ rest) ≡ run)) → Undisturbed words run
 no-withdrawal words [] n = tt
-no-withdrawal words (ev ∷ run) n = (none ev (λ s e. n [] s run (ap (λ (x : Event). x ∷ run) (sym e))), no-withdrawal (reply wordIndex words ev .next) run (λ b s r q. n (ev ∷ b) s r (ap (λ (es : List Event). ev ∷ es) q)))
+no-withdrawal words (ev ∷ run) n = (
+  none ev (λ s e. n [] s run (ap (λ (x : Event). x ∷ run) (sym e))),
+  no-withdrawal (reply wordIndex words ev .next) run (λ b s r q. n (ev ∷ b) s r (ap (λ (es : List Event). ev ∷ es) q)),
+)
   where
     none : (ev : Event) → ((s : ℕ) → ¬ (ev ≡ withdrawal s)) → NotWithdrawn words ev
     none (submission s kind p c) f = tt

@@ -2,19 +2,36 @@
 -- answered 11, withdrawn, with its point, curve 0 and square 0, and has no part in the order of moments. If it has, its ordinary answer stands waiting. A withdrawn
 -- search lets go of its places there and then."
 -- No unfinished call of this index has taken effect: an add or a remove is answered by the step that changes the held records. So each is answered 11, whatever it
--- was (`withdrawn`). That the other calls, the records held and all answers stay those of the plain table is `demand-3` of Demand3.antt; numbers and refusals are in
+-- was (`taken-back`, `withdrawn`). That the other calls, the records held and all answers stay those of the plain table is `demand-3` of Demand3.antt; numbers and refusals are in
 -- Demand1.antt, the words that are touched in Touch.antt.
 use Prim.Native.Nat.{ℕ, _+_}
 use mathlib.Core.Path.{_≡_, sym, _∙_}
 use mathlib.Core.Logic.{_↔_, _⊎_}
-use mathlib.Core.Bool.{true}
-use mathlib.Core.List.{List}
+use mathlib.Core.Bool.{true, false}
+use mathlib.Core.List.{List, _∷_, _++_}
+use mathlib.Core.Option.{some}
 use lib.ListN.{length}
-use Rattle.claims.specs.Definitions.{isUnfinished, stateAt, Table, eight, searches, others, holding, Event, openOf, withdrawOf, reportOf, after, Withdrawn}
+use Rattle.claims.specs.Definitions.{Point, isUnfinished, stateAt, answer, Table, eight, searches, others, holding, Event, singleStep, withdrawal, answered}
+use Rattle.claims.specs.Definitions.{openOf, submitOf, takeOf, withdrawOf, reportOf, givenBy, after, Withdrawn}
 use Rattle.table.proofs.Searched.{take-given}
 use Rattle.table.proofs.Taken.{taken-others}
 use Rattle.history.proofs.Withdrawn as History
-use Rattle.claims.proofs.Demand3.{Agrees}
+use Rattle.claims.proofs.Demand3.{Agrees, answersAt}
+use Rattle.claims.proofs.Nearer.{unanswered-along}
+
+module _ (words : List ℕ) (places limit : ℕ) (before during : List Event) (s kind : ℕ) (p : Point) (c : ℕ) where
+  -- the words after the submission of the call
+  abbrev pub begun : List ℕ
+  begun = submitOf (after before (openOf words places limit .words)) s kind p c .words
+
+  -- After any history a call at the point p is accepted at station s. After any more events, in which no step of s answers it and s does not withdraw it, s withdraws it:
+  -- that is accepted, and a taking then gives 11 with p, curve 0 and square 0.
+  pub taken-back : openOf words places limit .number ≡ 0 → submitOf (after before (openOf words places limit .words)) s kind p c .number ≡ 0
+      → ((b r : List Event) → b ++ (singleStep s ∷ r) ≡ during → answersAt (after b begun) (singleStep s) ≡ false)
+      → ((b r : List Event) → ¬ (b ++ (withdrawal s ∷ r) ≡ during))
+      → (withdrawOf (after during begun) s .number ≡ 0) × (givenBy (takeOf (withdrawOf (after during begun) s .words) s) ≡ some (answer 11 p 0 0))
+  unfolding answered
+  taken-back e ok n k = History.taken-back words places limit e before during s kind p c ok (unanswered-along s during begun n k)
 
 -- A history from an accepted opening, and the words after it; any station number.
 module _ (words : List ℕ) (places limit : ℕ) (e : openOf words places limit .number ≡ 0) (evs : List Event) (s : ℕ) where

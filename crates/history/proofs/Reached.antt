@@ -1,7 +1,7 @@
 -- After every history the words are related to a table (`history-related`): the relation is kept by every event, each unfinished nearest having its moment
 -- first thing at the next event.
 use Prim.Native.Nat.{ℕ}
-use mathlib.Core.Path.{_≡_, refl, sym, ap, _∙_}
+use mathlib.Core.Path.{_≡_, refl, _∙_}
 use mathlib.Core.Bool.{Bool, true, false}
 use mathlib.Core.List.{List, [], _∷_}
 use mathlib.Core.Option.{Option, none, some}

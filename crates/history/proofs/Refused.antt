@@ -1,18 +1,15 @@
 -- Refusals: the number of every call is that of the first question answered no, for all words and arguments (`open-number` to `audit-number`), and a
 -- refused call leaves every word as it was (`open-refused` to `take-refused`); a refused audit does not say yes (`audit-refused`).
 use Prim.Native.Nat.{ℕ}
-use mathlib.Core.Path.{_≡_, refl, sym, ap, _∙_}
+use mathlib.Core.Path.{_≡_, refl, ap}
 use mathlib.Core.Logic.{_≢_, _⊎_, inl, inr}
 use mathlib.Core.Bool.{Bool, true, false, cond, _&&_, _||_}
-use mathlib.Core.List.{List, [], _∷_}
-use native.Mathlib.Omega.{arith}
+use mathlib.Core.List.{List}
 use lib.Dec.{eqb, leb, ltb}
 use lib.ListN.{length}
-use borrow.Author.Tests.{eqb-true, eqb-false}
 use Rattle.points.specs.declared.point.Point.{Point}
 use Rattle.points.specs.Point.{inRange}
 use Rattle.points.specs.Word.{NONE}
-use Rattle.rows.specs.declared.row.Row.{Row}
 use Rattle.rows.specs.declared.call.Call.{Call}
 use Rattle.rows.specs.declared.answer.Waiting.{Waiting}
 use Rattle.rows.specs.declared.answer.Waiting.the-variants.{Nothing, Given}
@@ -25,17 +22,14 @@ use Rattle.rows.specs.Call.{callAt}
 use Rattle.rows.specs.Answer.{waitingAt}
 use Rattle.steps.specs.declared.take.Taking.{Taking}
 use Rattle.steps.specs.declared.take.Taking.the-variants.{Refused as Refusal, Given as Taken}
-use Rattle.moves.specs.declared.insert.Room.{Room}
-use Rattle.moves.specs.declared.unlink.Around.{Around}
-use Rattle.moves.specs.declared.search.Progress.{Progress}
 use Rattle.moves.specs.Reply.{Reply, done, refused, pickReply, ask, isOpened, rowsIn}
 use Rattle.moves.specs.Link.{isLeaf, isCut}
 use Rattle.steps.specs.Open.{openedWords, openOf}
 use Rattle.steps.specs.Submit.{kindIn, curveFits, submittedWords, submitOf}
-use Rattle.moves.specs.Search.{seek, progressAt, searchTo, searchOf}
-use Rattle.moves.specs.Insert.{roomAt, roomSound, insertTo, insertOf}
-use Rattle.moves.specs.Unlink.{aroundAt, aroundSound, unlinkTo, unlinkOf}
-use Rattle.moves.specs.Walk.{sixDown, walkTo, codeAt, concludeAs, conclude, standsAt, walkFrom, walkOf}
+use Rattle.moves.specs.Search.{seek, progressAt, searchOf}
+use Rattle.moves.specs.Insert.{roomAt, roomSound, insertOf}
+use Rattle.moves.specs.Unlink.{aroundAt, aroundSound, unlinkOf}
+use Rattle.moves.specs.Walk.{sixDown, codeAt, conclude, standsAt, walkOf}
 use Rattle.steps.specs.Step.{recordsSound, workOf, askUnfinished, stepOf}
 use Rattle.steps.specs.Withdraw.{withdrawnWords, withdrawOf}
 use Rattle.steps.specs.Take.{takingOf, takeOf, numberOf, takenWords, takeWords}
@@ -46,7 +40,7 @@ use Rattle.audits.specs.Queue.{queueIn}
 use Rattle.audits.specs.Whole.{allRows}
 use Rattle.steps.specs.Audit.{auditOf, verdictOf}
 use Rattle.steps.specs.Run.{isGiven}
-use Rattle.history.specs.Questions.{Question, asked, orElse, firstNo, openQuestions, stationQuestions, submitQuestions, stepQuestions, withdrawQuestions, takeQuestions, sliceQuestions}
+use Rattle.history.specs.Questions.{orElse, firstNo, openQuestions, submitQuestions, stepQuestions, withdrawQuestions, takeQuestions, sliceQuestions}
 
 -- ---- the work of a step is done or refused with 11
 

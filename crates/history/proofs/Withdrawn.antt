@@ -1,35 +1,40 @@
 -- Withdrawals after a history: one is accepted exactly if its station has an unfinished call (`withdraw-accepted`), and refused by 5 or 10 otherwise, never by 11
--- (`withdraw-numbers`, `withdraw-never-11`); what it leaves (`withdrawn`).
+-- (`withdraw-numbers`, `withdraw-never-11`); what it leaves (`withdrawn`); and a call from its submission to its withdrawal (`taken-back`).
 use Prim.Native.Nat.{ℕ, _<_}
 use mathlib.Core.Path.{_≡_, refl, sym, ap, _∙_}
 use mathlib.Core.Logic.{_↔_, inl, inr}
-use mathlib.Core.Bool.{Bool, true, false, true≢false}
-use mathlib.Core.List.{List, [], map}
-use mathlib.Core.Option.{Option, some}
+use mathlib.Core.Bool.{Bool, true, false, cond, true≢false}
+use mathlib.Core.List.{List, [], _∷_, _++_}
+use mathlib.Core.Option.{Option, some, Option·some-injective}
 use native.Mathlib.Omega.{arith}
 use native.Mathlib.Decide.{decLt, ℕ-discrete}
-use lib.Dec.{eqb, ltb}
+use lib.Dec.{eqb}
 use lib.ListN.{length, length-map}
-use borrow.Author.Tests.{lt-ltb, eq-eqb}
+use borrow.Author.Tests.{lt-ltb}
+use Rattle.points.specs.declared.point.Point.{Point}
 use Rattle.rows.specs.Station.{isUnfinished, stateAt}
 use Rattle.rows.specs.Call.{callAt}
 use Rattle.moves.specs.Reply.{Reply}
-use Rattle.table.specs.Call.{Call, add, remove, contains, nearest, isSearch, Answer, answer, withdrawnAnswer}
+use Rattle.table.specs.Call.{Call, add, remove, contains, nearest, callOf, isSearch, pointOf, Answer, answer, isChange, withdrawnAnswer}
 use Rattle.table.specs.Table.{Station, idle, unfinished, waiting, Table, put, withStations, searching}
-use Rattle.table.specs.Event.{Event, takeAt, take}
+use Rattle.table.specs.Event.{Event, submission, takeAt, take}
+use Rattle.table.specs.History.{reply, after as afterEvents}
 use Rattle.table.proofs.Stations.{put-same, put-other}
 use Rattle.table.proofs.Reached.{sound-wait}
-use Rattle.table.proofs.Retract.{retract, retract-all}
+use Rattle.table.proofs.Retract.{retract-all}
 use Rattle.table.proofs.Settled.{retract-ends}
 use Rattle.table.proofs.Taken.{taken-held}
+use Rattle.table.proofs.Searched.{Unanswered}
+use Rattle.table.proofs.Withdrawn.{TakenBack, withdrawn-waits}
 use Rattle.trees.specs.Tree.{entriesOf}
 use Rattle.trees.proofs.ShapeLaws.{entries-count}
 use Rattle.steps.specs.Open.{openOf}
+use Rattle.steps.specs.Submit.{submitOf}
 use Rattle.steps.specs.Take.{takeOf}
 use Rattle.steps.specs.Report.{reportOf}
 use Rattle.steps.specs.Held.{heldIn}
 use Rattle.steps.specs.Withdraw.{withdrawnWords, withdrawOf}
-use Rattle.history.specs.Index.{recordOf as heldRecord, givenBy}
+use Rattle.history.specs.Index.{recordOf as heldRecord, givenBy, wordIndex}
 use Rattle.history.specs.View.{placeAt, seatAt}
 use Rattle.history.specs.Related.{recordOf, Related}
 use Rattle.history.specs.After.{after}
@@ -38,7 +43,7 @@ use Rattle.history.proofs.RelatedLaws.{related-passes, related-busy, re
 use Rattle.history.proofs.HeldLaws.{held-entries}
 use Rattle.history.proofs.RelatedTake.{related-takes}
 use Rattle.history.proofs.RelatedWithdraw.{point-is, withdrawn-related, withdrawal-done, related-withdraws}
-use Rattle.history.proofs.Demand3.{accepted, quiet-state}
+use Rattle.history.proofs.Demand3.{accepted, quiet-state, demand-3}
 use Rattle.history.proofs.Reached.{Stands, history-related}
 use Rattle.history.proofs.Solo.{outside-state}
 use Rattle.history.proofs.StepNumbers.{StepNumber, not-11}
@@ -148,3 +153,45 @@ module _ (words : List ℕ) (places limit : ℕ) (e : openOf words places limit 
       told z =
           let b = retract-ends (stands .table) s (sym (related-withdraws s (stands .sound) (stands .related) .number) ∙ z) in
           unfinished-same (stands .related) s (b .0) ∙ b .1
+
+-- ---- a call from its submission to its withdrawal
+
+after-both : (before rest : List Event) (words : List ℕ) → after (before ++ rest) words ≡ after rest (after before words)
+unfolding after afterEvents
+after-both [] rest words = refl
+after-both (ev ∷ before) rest words = after-both before rest (reply wordIndex words ev .next)
+
+point-of : (kind : ℕ) (p : Point) (c : ℕ) → pointOf (callOf kind p c) ≡ p
+unfolding callOf
+point-of kind p c = go (eqb kind 1) (eqb kind 2) (eqb kind 3)
+  where
+    go : (x y z : Bool) → pointOf (cond x (add p c) (cond y (remove p) (cond z (contains p) (nearest p)))) ≡ p
+    go true y z = refl
+    go false true z = refl
+    go false false true = refl
+    go false false false = refl
+
+module _ (words : List ℕ) (places limit : ℕ) (e : openOf words places limit .number ≡ 0) (before during : List Event) (s kind : ℕ) (p : Point) (c : ℕ) where
+  abbrev start : List ℕ
+  start = openOf words places limit .words
+
+  -- the words after the submission
+  abbrev begun : List ℕ
+  begun = submitOf (after before start) s kind p c .words
+
+  -- After any history a call is accepted at station s; after any more events, in which nothing ends it, s withdraws it: that is accepted, and a taking gives 11 with the
+  -- point of the submission.
+  pub taken-back : submitOf (after before start) s kind p c .number ≡ 0 → Unanswered wordIndex s begun during
+      → (withdrawOf (after during begun) s .number ≡ 0) × (givenBy (takeOf (withdrawOf (after during begun) s .words) s) ≡ some (answer 11 p 0 0))
+  unfolding after reply isChange withdrawnAnswer
+  taken-back ok n =
+      let x = withdrawn-waits wordIndex start places limit (demand-3 words places limit e) before during s kind p c begun ok refl n in
+      let same : after (before ++ (submission s kind p c ∷ during)) start ≡ after during begun = after-both before (submission s kind p c ∷ during) start in
+      let u : isUnfinished (stateAt (after during begun) s) ≡ true =
+      rw same at (withdraw-accepted words places limit e (before ++ (submission s kind p c ∷ during)) s .0 (rw same (x .0))) in
+      let w : Withdrawn (after during begun) s = rw same at (withdrawn words places limit e (before ++ (submission s kind p c ∷ during)) s (rw same u)) in
+      (x .0, x .1 .2 ∙ ap some (which (x .1 .0) (callAt (after during begun) s .point) (x .1 .1) (Option·some-injective _ _ (sym (x .1 .2) ∙ w .gives))))
+    where
+      which : (a : Answer) (q : Point) → TakenBack (callOf kind p c) a → a ≡ answer 11 q 0 0 → a ≡ answer 11 p 0 0
+      which a q (inl f) g = f ∙ ap (λ r. answer 11 r 0 0) (point-of kind p c)
+      which a q (inr f) g = absurd (true≢false (sym f ∙ ap isChange g))

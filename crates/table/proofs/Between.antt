@@ -14,7 +14,8 @@ use Rattle.points.specs.declared.point.Point.{Point}
 use Rattle.points.specs.Point.{inRange}
 use Rattle.table.specs.Call.{Call, callOf, kindInRange, Answer, isChange}
 use Rattle.table.specs.Table.{Station, idle, unfinished, waiting, Table, put, withStations, answerOf, changedIf}
-use Rattle.table.specs.Event.{Event, submission, singleStep, taking, withdrawal, Reply, accept, refuse, isIdle, curveFits, enter, submit, setDown, ownStep, mayFall, moment, stepAt, step, takeAt, take, withdraw, ownWithdrawal, perform, moments}
+use Rattle.table.specs.Event.{Event, submission, singleStep, taking, withdrawal, Reply, accept, refuse, isIdle, curveFits, enter}
+use Rattle.table.specs.Event.{submit, setDown, ownStep, mayFall, moment, stepAt, step, takeAt, take, ownWithdrawal, perform, moments}
 use Rattle.table.proofs.Stations.{put-other}
 use Rattle.table.proofs.Moments.{Moment, moment-is, moments-keep, moment-own, moment-other}
 use Rattle.table.proofs.Reached.{ask-all, withdraw-all}

@@ -14,7 +14,8 @@ use Rattle.points.specs.declared.point.Point.{Point}
 use Rattle.points.specs.Point.{inRange}
 use Rattle.table.specs.Call.{Call, callOf, kindInRange, Answer, isChange, withdrawnAnswer}
 use Rattle.table.specs.Table.{Station, idle, unfinished, waiting, Table, eight, opened, put, withStations, searching, searches, holding, taken}
-use Rattle.table.specs.Event.{Event, submission, singleStep, taking, withdrawal, Reply, accept, refuse, ask, isIdle, curveFits, enter, submit, stepAt, step, takeAt, take, replyIf, withdrawAt, withdraw, perform, feed}
+use Rattle.table.specs.Event.{Event, submission, singleStep, taking, withdrawal, Reply, accept, refuse, ask, isIdle, curveFits}
+use Rattle.table.specs.Event.{enter, submit, stepAt, step, takeAt, take, replyIf, withdrawAt, withdraw, perform, feed}
 use Rattle.table.proofs.Stations.{put-cases, put-each, identityOf, searches-in, searches-out}
 use Rattle.table.proofs.Removals.{since-new, numbered-new, holding-le}
 use Rattle.table.proofs.Moments.{Moment, moments-keep, feed-inv}

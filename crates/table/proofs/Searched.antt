@@ -78,14 +78,14 @@ module _ (I : Index) where
   now P st [] h = h
   now P st (ev ∷ evs) h = inl h
 
-  follows-agree : (did : ℕ → Type 0) (evs : List Event) (mss : List (List ℕ)) (st : State) (t : Table) → Follows I did st t evs mss → Agree I st t
+  pub follows-agree : (did : ℕ → Type 0) (evs : List Event) (mss : List (List ℕ)) (st : State) (t : Table) → Follows I did st t evs mss → Agree I st t
   follows-agree did [] [] st t h = h .0
   follows-agree did [] (ms ∷ mss) st t h = absurd h
   follows-agree did (ev ∷ evs) [] st t h = absurd h
   follows-agree did (ev ∷ evs) (ms ∷ mss) st t h = h .0
 
   -- the rest of a history that follows
-  follows-after : (X : Type 0) (before rest : List Event) (did : ℕ → Type 0) (mss : List (List ℕ)) (st : State) (t : Table)
+  pub follows-after : (X : Type 0) (before rest : List Event) (did : ℕ → Type 0) (mss : List (List ℕ)) (st : State) (t : Table)
       → Follows I did st t (before ++ rest) mss
       → ((did : ℕ → Type 0) (mss : List (List ℕ)) (t : Table) → Follows I did (after I st before) t rest mss → X) → X
   unfolding after
