@@ -12,7 +12,7 @@ use lib.Dec.{ltb}
 use borrow.Author.Tests.{ltb-true}
 use Rattle.points.specs.declared.point.Point.{Point}
 use Rattle.points.specs.Point.{inRange}
-use Rattle.table.specs.Call.{Call, callOf, kindInRange, Answer, isChange, withdrawnAnswer}
+use Rattle.table.specs.Call.{Call, callOf, kindInRange, Answer, withdrawnAnswer}
 use Rattle.table.specs.Table.{Station, idle, unfinished, waiting, Table, eight, opened, put, withStations, searching, searches, holding, taken}
 use Rattle.table.specs.Event.{Event, submission, singleStep, taking, withdrawal, Reply, accept, refuse, ask, isIdle, curveFits}
 use Rattle.table.specs.Event.{enter, submit, stepAt, step, takeAt, take, replyIf, withdrawAt, withdraw, perform, feed}
@@ -134,19 +134,24 @@ sound-step t s answers r h = go (ltb s 8) refl answers (t .stations s)
     go true l true (unfinished i c none) e = absurd (Option·none-ne-some r e)
     go true l true (unfinished i c (some a)) e = is (accept (withStations t (put (t .stations) s (waiting a)))) (sound-wait t s a (ltb-true s 8 l) h) e
 
+-- a reply that is defined where a test passes
+pub reply-if : {b : Bool} {q r : Reply Table} → replyIf b q ≡ some r → (b ≡ true) × (q ≡ r)
+unfolding replyIf
+reply-if {b} {q} {r} = go b
+  where
+    go : (b : Bool) → replyIf b q ≡ some r → (b ≡ true) × (q ≡ r)
+    go true e = (refl, Option·some-injective _ _ e)
+    go false e = absurd (Option·none-ne-some r e)
+
 -- what holds of a refusal, and of an answer that waits in the place of an unfinished call, holds of a withdrawal's reply
 pub withdraw-all : (P : Reply Table → Type 0) (t : Table) (s : ℕ) (r : Reply Table) → P (refuse 5 t) → P (refuse 10 t)
     → (s < 8 → (i : ℕ) (c : Call) (o : Option Answer) (b : Answer) → t .stations s ≡ unfinished i c o → P (accept (withStations t (put (t .stations) s (waiting b)))))
     → withdraw t s ≡ some r → P r
-unfolding withdraw withdrawAt replyIf
+unfolding withdraw withdrawAt
 withdraw-all P t s r five ten waits = go (ltb s 8) refl (t .stations s) refl
   where
     is : (q : Reply Table) → P q → _≡_ {A = Option (Reply Table)} (some q) (some r) → P r
     is q g d = rw (Option·some-injective _ _ d) at g
-
-    only : (b : Bool) (q : Reply Table) → P q → replyIf b q ≡ some r → P r
-    only true q g e = is q g e
-    only false q g e = absurd (Option·none-ne-some r e)
 
     go : (b : Bool) → ltb s 8 ≡ b → (x : Station) → t .stations s ≡ x → withdrawAt t s b x ≡ some r → P r
     go false l x q e = is (refuse 5 t) five e
@@ -154,7 +159,7 @@ withdraw-all P t s r five ten waits = go (ltb s 8) refl (t .stations s) refl
     go true l (waiting a) q e = is (refuse 10 t) ten e
     go true l (unfinished i c none) q e =
         is (accept (withStations t (put (t .stations) s (waiting (withdrawnAnswer c))))) (waits (ltb-true s 8 l) i c none (withdrawnAnswer c) q) e
-    go true l (unfinished i c (some a)) q e = only (isChange a) (accept (withStations t (put (t .stations) s (waiting a)))) (waits (ltb-true s 8 l) i c (some a) a q) e
+    go true l (unfinished i c (some a)) q e = rw (reply-if e .1) at (waits (ltb-true s 8 l) i c (some a) a q)
 
 pub sound-withdraw : (t : Table) (s : ℕ) (r : Reply Table) → Sound t → withdraw t s ≡ some r → Sound (r .next)
 sound-withdraw t s r h = withdraw-all (λ q. Sound (q .next)) t s r h h (λ l i c o b e. sound-wait t s b l h)

@@ -2,8 +2,8 @@
 -- waits then is 11 with its point, or the change that it has made.
 use mathlib.Core.Path.{_≡_, refl, sym, _∙_, ap}
 use mathlib.Core.Logic.{_⊎_, inl, inr}
-use mathlib.Core.Bool.{Bool, true, false}
-use mathlib.Core.Option.{Option, none, some, Option·none-ne-some, Option·some-injective}
+use mathlib.Core.Bool.{true}
+use mathlib.Core.Option.{Option, none, some, Option·some-injective}
 use mathlib.Core.List.{List, [], _∷_, _++_}
 use Prim.Native.Nat.{ℕ, _<_}
 use native.Mathlib.Omega.{arith}
@@ -12,11 +12,11 @@ use borrow.Author.Tests.{lt-ltb, ltb-true}
 use Rattle.points.specs.declared.point.Point.{Point}
 use Rattle.table.specs.Call.{Call, callOf, Answer, isChange, withdrawnAnswer}
 use Rattle.table.specs.Table.{unfinished, waiting, Table, opened, put, withStations, answerOf}
-use Rattle.table.specs.Event.{Event, submission, withdrawal, Reply, accept, enter, submit, moments, takeAt, take, replyIf, withdrawAt, withdraw, perform}
+use Rattle.table.specs.Event.{Event, submission, withdrawal, Reply, accept, enter, submit, moments, takeAt, take, withdrawAt, withdraw, perform}
 use Rattle.table.specs.History.{Index, reply, after, wouldGive, answered, Agree, effects, Follows, Linear}
 use Rattle.table.proofs.Stations.{put-same}
 use Rattle.table.proofs.Moments.{feed-inv}
-use Rattle.table.proofs.Reached.{ask-all}
+use Rattle.table.proofs.Reached.{ask-all, reply-if}
 use Rattle.table.proofs.Between.{sets-stay, between, perform-stays}
 use Rattle.table.proofs.Searched.{submit-accepted, Unanswered, follows-agree, follows-after}
 
@@ -35,7 +35,7 @@ TakenBack c a = (a ≡ withdrawnAnswer c) ⊎ (isChange a ≡ true)
 -- a withdrawal of an unfinished call, where it is defined
 withdraw-ends : (t : Table) (s i : ℕ) (c : Call) (o : Option Answer) (r : Reply Table) → s < 8 → t .stations s ≡ unfinished i c o → withdraw t s ≡ some r
     → (r .number ≡ 0) × ((a : Answer) × TakenBack c a × (r .next .stations s ≡ waiting a))
-unfolding withdraw withdrawAt replyIf
+unfolding withdraw withdrawAt
 withdraw-ends t s i c o r l e d = go o (rw (lt-ltb s 8 l, e) at d)
   where
     waits : (a : Answer) → TakenBack c a → some (accept (withStations t (put (t .stations) s (waiting a)))) ≡ some r
@@ -44,14 +44,9 @@ withdraw-ends t s i c o r l e d = go o (rw (lt-ltb s 8 l, e) at d)
         let z = Option·some-injective _ _ q in
         (ap (λ (x : Reply Table). x .number) (sym z), (a, b, ap (λ (x : Reply Table). x .next .stations s) (sym z) ∙ put-same (t .stations) s (waiting a)))
 
-    only : (a : Answer) (b : Bool) → isChange a ≡ b → replyIf b (accept (withStations t (put (t .stations) s (waiting a)))) ≡ some r
-        → (r .number ≡ 0) × ((a : Answer) × TakenBack c a × (r .next .stations s ≡ waiting a))
-    only a true k q = waits a (inr k) q
-    only a false k q = absurd (Option·none-ne-some r q)
-
     go : (o : Option Answer) → withdrawAt t s true (unfinished i c o) ≡ some r → (r .number ≡ 0) × ((a : Answer) × TakenBack c a × (r .next .stations s ≡ waiting a))
     go none q = waits (withdrawnAnswer c) (inl refl) q
-    go (some a) q = only a (isChange a) refl q
+    go (some a) q = let z = reply-if q in waits a (inr (z .0)) (ap some (z .1))
 
 taking-gives : (t : Table) (s : ℕ) (a : Answer) → s < 8 → t .stations s ≡ waiting a → take t s .given ≡ some a
 unfolding take takeAt
