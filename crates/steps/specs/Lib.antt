@@ -7,3 +7,4 @@ pub mod Run
 pub mod Held
 pub mod Audit
 pub mod Withdraw
+pub mod Advance

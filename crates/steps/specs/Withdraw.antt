@@ -17,5 +17,9 @@ withdrawnAnswer call = answer 11 (call .point) 0 0
 abbrev pub withdrawnWords : List ℕ → ℕ → Call → List ℕ
 withdrawnWords words s call = answeredWords words s (withdrawnAnswer call)
 
+-- the call is taken back
+abbrev pub withdrawnReply : List ℕ → ℕ → Call → Reply
+withdrawnReply words s call = done (withdrawnWords words s call)
+
 unfoldable pub withdrawOf : List ℕ → ℕ → Reply
-withdrawOf words s = askUnfinished words s (done (withdrawnWords words s (callAt words s)))
+withdrawOf words s = askUnfinished words s (withdrawnReply words s (callAt words s))

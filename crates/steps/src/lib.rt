@@ -1,4 +1,6 @@
-// The calls on an index: opening, submission, step, run, taking, withdrawal, report and audit, each in a module of its own.
+// The calls on an index: opening, submission, step, run, taking, withdrawal, report and audit, each in a module of its own; `advance` is what a step and
+// a withdrawal share.
+mod advance;
 pub mod audit;
 pub mod open;
 pub mod report;

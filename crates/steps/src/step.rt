@@ -1,12 +1,11 @@
-// A step: its questions, and the work of its call. All that it needs is read and checked before anything is written.
+// A step: its questions, and the work of its call.
+use crate::advance::advance;
 use moves::reply::is_opened;
 use moves::reply::pick;
-use moves::reply::rows_in;
 use moves::search::search;
 use moves::walk::walk;
 use rows::call::Call;
 use rows::call::call_sound;
-use rows::call::read_call;
 use rows::common::common_sound;
 use rows::common::opened;
 use rows::layout::AT_CHANGES;
@@ -33,7 +32,7 @@ pub(crate) fn first_failed(words: &[u32], rows: u32, s: u32, call: Call) -> u32
 }
 
 // The work of a nearest, and of any other call.
-fn work(words: &mut [u32], rows: u32, s: u32, call: Call) -> u32
+pub(crate) fn work(words: &mut [u32], rows: u32, s: u32, call: Call) -> u32
     ensures { λ r. ⌜ replied r (now (words .exit)) ≡ workOf (now (words .entry)) rows s call ⌝ }
 {
     if call.kind == 4 {
@@ -47,12 +46,5 @@ fn work(words: &mut [u32], rows: u32, s: u32, call: Call) -> u32
 pub fn step(words: &mut [u32], s: u32) -> u32
     ensures { λ r. ⌜ replied r (now (words .exit)) ≡ stepOf (now (words .entry)) s ⌝ }
 {
-    let rows = rows_in(words);
-    let call = read_call(words, s);
-    let failed = first_failed(words, rows, s, call);
-    if failed == 0 {
-        work(words, rows, s, call)
-    } else {
-        failed
-    }
+    advance(words, s, false)
 }

@@ -1,13 +1,11 @@
 // A withdrawal: the questions of a step, and the call is answered 11. It reads no row.
-use crate::step::first_failed;
+use crate::advance::advance;
 use moves::answer::write_answered;
-use moves::reply::rows_in;
 use rows::answer::Answer;
 use rows::call::Call;
-use rows::call::read_call;
 ghost use mathlib.Core.Path.{_≡_};
 ghost use Rattle.moves.specs.Reply.{replied};
-ghost use Rattle.steps.specs.Withdraw.{withdrawnAnswer, withdrawOf};
+ghost use Rattle.steps.specs.Withdraw.{withdrawnAnswer, withdrawnReply, withdrawOf};
 
 // The answer of a withdrawn call.
 fn withdrawn_answer(call: Call) -> Answer
@@ -22,15 +20,17 @@ fn withdrawn_answer(call: Call) -> Answer
     }
 }
 
+// The call is taken back.
+pub(crate) fn take_back(words: &mut [u32], s: u32, call: Call) -> u32
+    ensures { λ r. ⌜ replied r (now (words .exit)) ≡ withdrawnReply (now (words .entry)) s call ⌝ }
+{
+    write_answered(words, s, withdrawn_answer(call));
+    0
+}
+
 // Takes back a station's unfinished call; 0, or the number of the first question that fails.
 pub fn withdraw(words: &mut [u32], s: u32) -> u32
     ensures { λ r. ⌜ replied r (now (words .exit)) ≡ withdrawOf (now (words .entry)) s ⌝ }
 {
-    let rows = rows_in(words);
-    let call = read_call(words, s);
-    let failed = first_failed(words, rows, s, call);
-    if failed == 0 {
-        write_answered(words, s, withdrawn_answer(call));
-    }
-    failed
+    advance(words, s, true)
 }

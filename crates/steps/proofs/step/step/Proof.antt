@@ -2,63 +2,18 @@
 use borrow.Author.Needs.{needs}
 use Rattle.steps.proofs.step.step.Statement.{statement}
 use Rattle.steps.proofs.step.step.Tie as tie
-use mathlib.Core.List.{List}
-use mathlib.Core.Path.{_≡_, ap₂, _∙_}
-use Prim.Native.Nat.{ℕ}
-use borrow.Author.Tests.{ne-eqb}
-use denote.Ref.{now}
-use Rattle.steps.specs.Step.{workOf, stepOf}
-use Rattle.steps.proofs.Questions.{failedIn, passes, refuses}
+use Rattle.steps.specs.Step.{stepOf}
+use Rattle.steps.specs.Advance.{advanceOf}
 
-abbrev start : tie.After-first-failed → tie.Start
-start c = c .before .before .before .before .before .before .before
-
-abbrev words : tie.After-first-failed → List ℕ
-words c = now (start c .args .words)
-
-failed-is : (c : tie.After-first-failed) → failedIn (words c) (start c .args .s) ≡ c .first-failed .result
-failed-is c = cc
-
-rows-in-requires : tie.Need-rows-in-requires
-rows-in-requires c κs = search needs
-
-read-call-requires : tie.Need-read-call-requires
-read-call-requires c κs = search needs
-
-first-failed-requires : tie.Need-first-failed-requires
-first-failed-requires c κs = search needs
-
-work-requires : tie.Need-work-requires
-work-requires c κs = search needs
+advance-requires : tie.Need-advance-requires
+advance-requires c κs = search needs
 
 same-length : tie.Need-same-length
 same-length c = search needs
 
 returns : tie.Need-returns
-unfolding stepOf
-returns c =
-    let t = c .before .before .before .before in
-    let f = t .before in
-    c .before .before .work .ensures
-    ∙ ap₂ (λ rows call. workOf (words f) rows (start f .args .s) call) (f .before .before .before .before .rows-in .ensures) (f .before .before .read-call .ensures)
-    ∙ passes (words f) (start f .args .s) _ _ (failed-is f) (t .if1 .taken)
-
-same-length-2 : tie.Need-same-length-2
-same-length-2 c = search needs
-
-returns-2 : tie.Need-returns-2
-unfolding stepOf
-returns-2 c = refuses (words (c .before)) (start (c .before) .args .s) _ _ (failed-is (c .before)) (ne-eqb _ _ (c .if1 .left))
+unfolding stepOf advanceOf
+returns c = c .before .before .advance .ensures
 
 pub step-spec : {M : Type 1} → statement M
-step-spec =
-    tie.close
-    (tie.spec
-    rows-in-requires
-    read-call-requires
-    first-failed-requires
-    work-requires
-    same-length
-    returns
-    same-length-2
-    returns-2)
+step-spec = tie.close (tie.spec advance-requires same-length returns)
