@@ -70,8 +70,9 @@ not-searching {words} {t} u l r e = go (t .stations u) refl
     go (unfinished i (nearest p) o) q = absurd (true≢false (sym (rw (related-busy r l q .state, related-busy r l q .kind) refl) ∙ e))
 
 module _ {words : List ℕ} {places limit : ℕ} (w : Stands words places limit) {s i : ℕ} {c : Call} {o : Option Answer} (l : s < 8) (q : w .table .stations s ≡ unfinished i c o) where
-  abbrev left : List ℕ
-  left = withdrawnWords words s (callAt words s)
+  -- the words after it, and the table
+  abbrev words′ : List ℕ
+  words′ = withdrawnWords words s (callAt words s)
 
   abbrev t : Table
   t = withStations (w .table) (put (w .table .stations) s (waiting (withdrawnAnswer c)))
@@ -79,16 +80,16 @@ module _ {words : List ℕ} {places limit : ℕ} (w : Stands words places limit)
   waits : t .stations s ≡ waiting (withdrawnAnswer c)
   waits = put-same (w .table .stations) s (waiting (withdrawnAnswer c))
 
-  next : Related left t
+  next : Related words′ t
   next = withdrawn-related (w .sound) l q (w .related)
 
-  taking-given : givenBy (takeOf left s) ≡ some (answer 11 (callAt words s .point) 0 0)
+  taking-given : givenBy (takeOf words′ s) ≡ some (answer 11 (callAt words s .point) 0 0)
   unfolding take takeAt withdrawnAnswer
   taking-given =
       related-takes s (sound-wait (w .table) s (withdrawnAnswer c) l (w .sound)) next .given
       ∙ rw (lt-ltb s 8 l, waits) (ap (λ p. some (answer 11 p 0 0)) (sym (point-is (w .sound) l q (w .related))))
 
-  taken-alone : ((u : ℕ) → ¬ (u ≡ s) → isSearching words u ≡ false) → reportOf left .taken ≡ length (heldIn left)
+  taken-alone : ((u : ℕ) → ¬ (u ≡ s) → isSearching words u ≡ false) → reportOf words′ .taken ≡ length (heldIn words′)
   unfolding reportOf searching
   taken-alone f =
       rw (related-passes next) (related-taken next (sound-wait (w .table) s (withdrawnAnswer c) l (w .sound)) ∙ taken-held t others ∙ sym (held-number next))
