@@ -147,7 +147,7 @@ unfolding drained
 all-drained places zero = refl
 all-drained places (suc k) = refl
 
--- at most that much is left to all stations together
+-- what is left to all stations together is at most 32 × places
 most-within : {words : List ℕ} {places limit : ℕ} → Stands words places limit → Within words places limit (32 * places)
 most-within a = record { stands = a; few = omega (arith, potential-most (a .related), a .places-same) }
 
