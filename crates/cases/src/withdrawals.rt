@@ -58,7 +58,7 @@ pub fn orders(words: &mut [u32], spare: &mut [u32], book: &mut [u64]) {
         s 0 4 12 12000; t 0; w 0; k 0;|
         c 5 2 12 2000 0 41; c 5 1 12 5000 44;",
     );
-    // A search of station 3 is under way throughout, and holds the place too.
+    // A search of station 3 holds the place too. It is run to its end after the withdrawal.
     run_case(
         words,
         spare,

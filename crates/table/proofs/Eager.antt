@@ -37,7 +37,7 @@ performed t (singleStep s) answers = perform t (singleStep s) answers
 performed t (taking s) answers = perform t (taking s) answers
 performed t (withdrawal s) answers = some (retract t s)
 
--- there are eight stations
+-- from station 8 on all are idle
 abbrev pub Eight : Table → Type 0
 Eight t = (s : ℕ) → 8 ≤ s → t .stations s ≡ idle
 
@@ -217,7 +217,7 @@ fed-inv t ev answers r e = go (moments ev t (own t ev answers)) refl
     go none q = absurd (Option·none-ne-some r (rw (q, fed) at e))
     go (some u) q = (u, q, rw (q, fed) at e)
 
--- moments leave the other stations
+-- moments leave those stations idle
 own-eight : (t : Table) (ev : Event) (answers : Bool) (u : Table) → Eight t → moments ev t (own t ev answers) ≡ some u → Eight u
 unfolding isIdle
 own-eight t ev answers u o e s l = moments-keep ev (λ x. x .stations s ≡ idle)
