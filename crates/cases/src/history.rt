@@ -53,9 +53,18 @@ fn some_curve(book: &mut [u64]) -> u32 {
     low(below(book, 1000020))
 }
 
+// Grade 1, 2 or 128, as its distance from the least. The first and the last share a slot of the cuts' grades.
+fn some_grade(book: &mut [u64]) -> u64 {
+    match below(book, 3) {
+        0 => 0,
+        1 => 1,
+        _ => 127,
+    }
+}
+
 // A point of the plan; now and then one out of range.
 fn new_spot(book: &mut [u64], plan: Plan) -> Spot {
-    let grade = below(book, 2);
+    let grade = some_grade(book);
     let weight = below(book, plan.weights);
     let moisture = below(book, 3);
     let speed = below(book, 3);

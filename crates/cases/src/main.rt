@@ -3,6 +3,7 @@ mod book;
 mod cases;
 mod drive;
 mod framed;
+mod grades;
 mod history;
 mod list;
 mod orders;
@@ -49,6 +50,12 @@ fn cases_of_withdrawals(words: &mut [u32], spare: &mut [u32], book: &mut [u64]) 
     withdrawals::orders(words, spare, book);
 }
 
+// Grades that share a slot, and the marks of adds.
+fn cases_of_grades(words: &mut [u32], spare: &mut [u32], book: &mut [u64]) {
+    grades::shared_slots(words, spare, book);
+    grades::marked_ways(words, spare, book);
+}
+
 // Random histories.
 fn cases_of_histories(words: &mut [u32], spare: &mut [u32], book: &mut [u64]) {
     cases::busy_stations(words, spare, book);
@@ -64,6 +71,7 @@ fn main() {
     cases_of_refusals(&mut words, &mut spare, &mut book);
     cases_of_stations(&mut words, &mut spare, &mut book);
     cases_of_withdrawals(&mut words, &mut spare, &mut book);
+    cases_of_grades(&mut words, &mut spare, &mut book);
     cases_of_histories(&mut words, &mut spare, &mut book);
     tally::end(&book);
 }

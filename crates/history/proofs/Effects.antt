@@ -1,7 +1,7 @@
 -- What each call writes, seen through the view: counts, seats and rows. Proved from the laws of `rows` alone.
 
 -- rows
-pub use Rattle.history.proofs.RowEffects.{reads-put, put-none, row-written, reads-in}
+pub use Rattle.history.proofs.RowEffects.{reads-put, put-none, region-written, row-written, reads-in}
 -- the station's own record
 pub use Rattle.history.proofs.StationEffects.{submit-written, submit-rows, take-written, take-rows, answer-written, answer-rows, kept-written, kept-rows, walk-written, walk-rows}
 -- insert and unlink

@@ -3,13 +3,16 @@ use Prim.Native.Nat.{ℕ, _<_}
 use mathlib.Core.Path.{_≡_}
 use mathlib.Core.List.{List}
 use native.Mathlib.Omega.{arith}
+use Rattle.points.specs.declared.point.Point.{Point}
 use Rattle.rows.specs.Layout.{atChanges, atHeld, atRoot, atHead, atTail, atRemovals, atCursor, atPhase, atSince, atMissed}
 use Rattle.rows.specs.Words.{get}
 use Rattle.rows.specs.Agree.{inCommon, inStation, inRow, AgreeIn, OnlyIn}
+use Rattle.rows.specs.Grades.{slotOf}
 use Rattle.rows.specs.Station.{stateAt}
 use Rattle.rows.specs.Call.{callAt}
 use Rattle.rows.specs.Answer.{answerAt}
 use Rattle.rows.proofs.AgreeLaws.{row-common, station-common}
+use Rattle.rows.proofs.GradeLaws.{slot-below}
 use Rattle.rows.proofs.UnseenLaws.{StationReads, reads-unseen}
 use Rattle.history.specs.View.{Place, Seat, countsAt, placeAt, seatAt, SameRows}
 
@@ -56,9 +59,16 @@ pub place-agree : {v w : List ℕ} → AgreeIn v w inCommon → (s : ℕ) → s 
 place-agree {v} {w} g s l =
     place-same v w s (g .words (atCursor s) (omega arith) (omega arith)) (g .words (atPhase s) (omega arith) (omega arith)) (g .words (atSince s) (omega arith) (omega arith)) (g .words (atMissed s) (omega arith) (omega arith))
 
+-- the slot of a point is one of those that a row has room for
+pub slot-fits : (p : Point) → slotOf p < 128
+slot-fits p = omega (arith, slot-below p)
+
 -- a write to the common record leaves the stations' records and the rows
 pub common-stations : {v w : List ℕ} → OnlyIn v w inCommon → (s : ℕ) → StationReads v w s
 common-stations g s = reads-unseen inCommon (inStation s) g (station-common s)
 
 pub common-rows : {v w : List ℕ} → OnlyIn v w inCommon → (rows : ℕ) → SameRows w v rows
-common-rows g rows r l = reads-unseen inCommon (inRow r) g (row-common r) rows
+common-rows g rows = record {
+  row = λ r l. reads-unseen inCommon (inRow r) g (row-common r) .row rows;
+  marks = λ x side p. reads-unseen inCommon (inRow x) g (row-common x) .grades side (slotOf p) (slot-fits p);
+}

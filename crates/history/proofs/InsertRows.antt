@@ -22,6 +22,7 @@ use Rattle.rows.specs.Range.{curveIn}
 use Rattle.rows.specs.Row.{rowAt, putRow, inRows}
 use Rattle.rows.proofs.RangeLaws.{or-right, link-none, link-row}
 use Rattle.rows.proofs.RowLaws.{rowAt-outside}
+use Rattle.rows.proofs.GradeLaws.{begin-outside}
 use Rattle.trees.specs.Row.{Entry, Row, spareRow, removedRow, leafRow, cutRow, Heap, pickRow, parentOf, nextOf, replaceChild}
 use Rattle.trees.specs.Tree.{Tree, Has, countOf}
 use Rattle.trees.specs.Queue.{Free, headOf, InQueue}
@@ -35,11 +36,11 @@ use Rattle.trees.proofs.ReadLaws.{read-above, link-head}
 use Rattle.trees.proofs.WriteLaws.{insert-apart, insert-writes, insert-write}
 use Rattle.moves.specs.declared.insert.Room.{Room}
 use Rattle.moves.specs.Link.{nextOf as nextIn, linksTo, leafPoint, replaced}
-use Rattle.moves.specs.Insert.{roomAt, roomSound, newLeaf, cutWith, newCut as cutIn, insertRows}
+use Rattle.moves.specs.Insert.{roomAt, roomSound, newLeaf, cutWith, newSide, newCut as cutIn, putCut, insertRows}
 use Rattle.history.specs.View.{wordRow, Reads, heapPut}
-use Rattle.history.proofs.Effects.{reads-in}
+use Rattle.history.proofs.Effects.{reads-in, put-none}
 use Rattle.history.proofs.RowLinks.{LeafIn, leaf-tells, leaf-of, leaf-in, cut-of, child-words, child-in}
-use Rattle.history.proofs.RowWrites.{heap-wrote, Holding, put-row, put-nothing}
+use Rattle.history.proofs.RowWrites.{heap-wrote, Holding, put-row, put-grades, put-nothing}
 
 -- ---- rows of the words and of the heap
 
@@ -107,7 +108,7 @@ besideRoom words rows h a b l = record {
 
 -- the new cut, in the words
 cut-word : (room : Room) (point old : Point) → leafPoint (room .leaf) ≡ old → cutIn room point ≡ wordRow (newCut (room .over) point old (room .first) (room .at))
-unfolding cutIn
+unfolding cutIn newSide
 cut-word room point old e = rw e (go (cutOf point old) (goesLeft (cutOf point old) point))
   where
     go : (k : Cut) (side : Bool)
@@ -165,7 +166,7 @@ module _ (words : List ℕ) {places : ℕ} {h : Heap} {a b : ℕ} {l : Leaf} (w 
   -- the rows written over a slice with the same rows
   pub beside-writes : {base : List ℕ} {limit : ℕ} (new : Entry) → inRange (new .point) ≡ true → curveIn (new .curve) ≡ true → Holding base base places limit h
       → (h′ : Heap) × Holding base (insertRows base (besideRoom words (2 * places) h a b l) (new .added) (new .point) (new .curve)) places limit h′ × InsertBeside h h′ a b new l
-  unfolding insertRows newLeaf
+  unfolding insertRows newLeaf putCut cutIn
   beside-writes {base} {limit} new i c v = elim (w .above) [
     | inl e ↦ (
       h₃,
@@ -200,15 +201,24 @@ module _ (words : List ℕ) {places : ℕ} {h : Heap} {a b : ℕ} {l : Leaf} (w 
       w₁ : List ℕ
       w₁ = putRow base a (wordRow (leafRow b new))
 
+      room : Room
+      room = besideRoom words (2 * places) h a b l
+
       w₂ : List ℕ
-      w₂ = putRow w₁ b (cutIn (besideRoom words (2 * places) h a b l) (new .point))
+      w₂ = putCut w₁ room (new .point)
 
       v₁ : Holding base w₁ places limit h₁
       v₁ = put-row v a (wordRow (leafRow b new)) (leafRow b new) refl (w .first-row)
           (leaf-of (2 * places) b new (record { link-in = link-row (2 * places) b (w .second-row); point-in = i; curve-in = c }))
 
+      cut-put : Holding base (putRow w₁ b (cutIn room (new .point))) places limit h₂
+      cut-put = put-row v₁ b (cutIn room (new .point)) cut (cut-word room (new .point) (l .entry .point) refl) (w .second-row) (new-cut-in new i)
+
+      cut-reads : rowAt (putRow w₁ b (cutIn room (new .point))) (2 * places) b ≡ cutIn room (new .point)
+      cut-reads = cut-put .reads b (w .second-row) ∙ ap wordRow (heap-wrote h₁ b cut .here) ∙ sym (cut-word room (new .point) (l .entry .point) refl)
+
       v₂ : Holding base w₂ places limit h₂
-      v₂ = put-row v₁ b (cutIn (besideRoom words (2 * places) h a b l) (new .point)) cut (cut-word (besideRoom words (2 * places) h a b l) (new .point) (l .entry .point) refl) (w .second-row) (new-cut-in new i)
+      v₂ = put-grades cut-put b (newSide room (new .point)) (new .point) (l .entry .point) cut-reads
 
       v₃ : Holding base (putRow w₂ (l .row) (wordRow (leafRow b (l .entry)))) places limit h₃
       v₃ = put-row v₂ (l .row) (wordRow (leafRow b (l .entry))) (leafRow b (l .entry)) refl (w .leaf-row)
@@ -238,6 +248,13 @@ module _ (words : List ℕ) (places : ℕ) (h : Heap) (a : ℕ) (first-row : a <
   unfolding roomSound
   sound-alone n = rw (next-word (h a), ne-eqb (nextOf (h a)) NONE n)
 
+  -- no cut is written
+  cut-nothing : {base w : List ℕ} {limit : ℕ} {h′ : Heap} → Holding base w places limit h′ → (p : Point) → Holding base (putCut w (aloneRoom h a) p) places limit h′
+  unfolding putCut
+  cut-nothing {base} {w} v p =
+      let same : putCut w (aloneRoom h a) p ≡ w = begin-outside (putRow w NONE (cutIn (aloneRoom h a) p)) NONE _ _ _ (omega arith) ∙ put-none w (cutIn (aloneRoom h a) p) in
+      rw same v
+
   pub alone-writes : {base : List ℕ} {limit : ℕ} (new : Entry) → inRange (new .point) ≡ true → curveIn (new .curve) ≡ true → Holding base base places limit h
       → (h′ : Heap) × Holding base (insertRows base (aloneRoom h a) (new .added) (new .point) (new .curve)) places limit h′ × InsertAlone h h′ a new
   unfolding insertRows newLeaf
@@ -245,6 +262,6 @@ module _ (words : List ℕ) (places : ℕ) (h : Heap) (a : ℕ) (first-row : a <
       let v₁ = put-row v a (wordRow (leafRow NONE new)) (leafRow NONE new) refl first-row
       (leaf-of (2 * places) NONE new (record { link-in = link-none (2 * places); point-in = i; curve-in = c })) in (
         heapPut h a (leafRow NONE new),
-        put-nothing (put-nothing (put-nothing v₁ NONE (cutIn (aloneRoom h a) (new .point)) refl) NONE Bad refl) NONE Bad refl,
+        put-nothing (put-nothing (cut-nothing v₁ (new .point)) NONE Bad refl) NONE Bad refl,
         insert-write (heap-wrote h a (leafRow NONE new)),
       )

@@ -23,10 +23,12 @@ use Rattle.trees.specs.Stand.{Stand, pickStand, afterInsert}
 use Rattle.trees.specs.Tour.{searchAfterInsert}
 use Rattle.trees.specs.Reads.{Leaf}
 use Rattle.trees.specs.Insert.{leafOf, cutFor, Inserted}
+use Rattle.trees.specs.Below.{Marks, Grows}
+use Rattle.trees.proofs.MarkLaws.{pass-grows}
 use Rattle.trees.proofs.RouteLaws.{walk-insert}
 use Rattle.trees.proofs.SearchLaws.{search-insert}
 use Rattle.history.specs.View.{Seat, phaseOf, progressOf}
-use Rattle.history.specs.Related.{Quiet, Set, Walks, Works, Says}
+use Rattle.history.specs.Related.{Quiet, Set, Walks, Works, Says, Marking}
 use Rattle.history.proofs.BusyLaws.{busy-on}
 use Rattle.history.proofs.Effects.{movedCursor}
 use Rattle.history.proofs.Readings.{nearest-fresh, insert-stand}
@@ -104,3 +106,13 @@ module _ {h h′ : Heap} {tree : Option Tree} {queue : List Free} {released : �
   says-insert idle l n f v = record { state = v .state; quiet = quiet-moved (leafOf place) (cutFor place b) seat n (v .quiet) }
   says-insert (waiting r) l n f v = record { state = v .state; sound = v .sound; answer = v .answer; quiet = quiet-moved (leafOf place) (cutFor place b) seat n (v .quiet) }
   says-insert (unfinished i c set) l n f v = busy-on v (moved .place) (omega (arith, v .asof)) (v .phase) (works-insert i c set l f (v .works))
+
+  -- an add has marked its way down to the row where its cursor is
+  pub marking-insert : (marks marks′ : Marks) → Grows marks marks′ tree → (x : Station) → Marking marks tree (seat .place .cursor) x → Marking marks′ (w .tree) (moved .place .cursor) x
+  marking-insert marks marks′ g idle m = tt
+  marking-insert marks marks′ g (waiting r) m = tt
+  marking-insert marks marks′ g (unfinished i (add p c) set) m =
+      rw (stand-moved (leafOf place) (cutFor place b) seat) at (w .passes marks′ p (progressOf seat .stand) (pass-grows marks marks′ tree p (seat .place .cursor) g m))
+  marking-insert marks marks′ g (unfinished i (remove p) set) m = tt
+  marking-insert marks marks′ g (unfinished i (contains p) set) m = tt
+  marking-insert marks marks′ g (unfinished i (nearest p) set) m = tt

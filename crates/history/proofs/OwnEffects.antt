@@ -11,15 +11,15 @@ use borrow.Author.Tests.{eqb-true, eqb-false}
 use Rattle.rows.specs.Layout.{atCursor, atPhase, atSince, atMissed}
 use Rattle.rows.specs.Words.{get}
 use Rattle.rows.specs.Agree.{inCommon, inStation, inRow, OnlyIn}
-use Rattle.rows.specs.Row.{rowAt}
+use Rattle.rows.specs.Grades.{slotOf}
 use Rattle.rows.specs.Station.{hasStation, putPlace, putSince, putMissed}
 use Rattle.rows.proofs.AgreeLaws.{only-trans, row-common, common-station, station-station, row-station, elsewhere}
 use Rattle.rows.proofs.OpeningLaws.{openedIn-first}
 use Rattle.rows.proofs.StationLaws.{there-length, putPlace-only, putSince-only, putMissed-only}
 use Rattle.rows.proofs.PlaceLaws.{get-putPlace-cursor, get-putPlace-phase, get-putSince-same, get-putMissed-same, get-putPlace-other, get-putSince-other, get-putMissed-other}
-use Rattle.rows.proofs.UnseenLaws.{StationReads, reads-unseen}
+use Rattle.rows.proofs.UnseenLaws.{StationReads, RowReads, reads-unseen}
 use Rattle.history.specs.View.{Place, Seat, countsAt, placeAt, seatAt, seatPut, SameRows, Written}
-use Rattle.history.proofs.Frame.{place-of, counts-same, place-same, seat-same, common-stations}
+use Rattle.history.proofs.Frame.{place-of, counts-same, place-same, seat-same, slot-fits, common-stations}
 
 -- ---- what is the station's own
 
@@ -28,7 +28,7 @@ pub record Own (v w : List ℕ) (s : ℕ) : Type 0 where
   pub lengths : length v ≡ length w
   pub words : (k : ℕ) → k < 96 → ¬ (k ≡ atCursor s) → ¬ (k ≡ atPhase s) → ¬ (k ≡ atSince s) → ¬ (k ≡ atMissed s) → get v k ≡ get w k
   pub stations : (u : ℕ) → ¬ (u ≡ s) → StationReads v w u
-  pub rows : (rows r : ℕ) → rowAt v rows r ≡ rowAt w rows r
+  pub rows : (r : ℕ) → RowReads v w r
 
 pub own-trans : {u v w : List ℕ} {s : ℕ} → Own u v s → Own v w s → Own u w s
 own-trans g h = record {
@@ -38,7 +38,7 @@ own-trans g h = record {
       let a = g .stations u n in
       let b = h .stations u n in
       record { state = a .state ∙ b .state; call = a .call ∙ b .call; answer = a .answer ∙ b .answer; waiting = a .waiting ∙ b .waiting };
-  rows = λ rows r. g .rows rows r ∙ h .rows rows r;
+  rows = λ r. record { row = λ rows. g .rows r .row rows ∙ h .rows r .row rows; grades = λ side k l. g .rows r .grades side k l ∙ h .rows r .grades side k l };
 }
 
 pub own-station : {v w : List ℕ} (s : ℕ) → OnlyIn v w (inStation s) → Own v w s
@@ -46,7 +46,7 @@ own-station s g = record {
   lengths = g .lengths;
   words = λ k l c p n m. elsewhere (inStation s) inCommon g (common-station s) .words k (omega arith) (omega arith);
   stations = λ u n. reads-unseen (inStation s) (inStation u) g (station-station u s n);
-  rows = λ rows r. reads-unseen (inStation s) (inRow r) g (row-station r s) rows;
+  rows = λ r. reads-unseen (inStation s) (inRow r) g (row-station r s);
 }
 
 own-common : {v w : List ℕ} (s : ℕ) → OnlyIn v w inCommon → ((k : ℕ) → ¬ (k ≡ atCursor s) → ¬ (k ≡ atPhase s) → ¬ (k ≡ atSince s) → ¬ (k ≡ atMissed s) → get v k ≡ get w k) → Own v w s
@@ -54,12 +54,12 @@ own-common s g f = record {
   lengths = g .lengths;
   words = λ k l c p n m. f k c p n m;
   stations = λ u n. common-stations g u;
-  rows = λ rows r. reads-unseen inCommon (inRow r) g (row-common r) rows;
+  rows = λ r. reads-unseen inCommon (inRow r) g (row-common r);
 }
 
 -- such a write leaves the rows, and of counts and seats what is not the station's
 pub own-rows : {v w : List ℕ} {s : ℕ} → Own v w s → (rows : ℕ) → SameRows w v rows
-own-rows g rows r l = g .rows rows r
+own-rows g rows = record { row = λ r l. g .rows r .row rows; marks = λ x side p. g .rows x .grades side (slotOf p) (slot-fits p) }
 
 own-counts : {v w : List ℕ} {s : ℕ} → Own v w s → countsAt v ≡ countsAt w
 own-counts {v} {w} {s} g =

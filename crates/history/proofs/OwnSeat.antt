@@ -26,8 +26,8 @@ use Rattle.trees.specs.Route.{OnRoute}
 use Rattle.trees.specs.Measure.{walkLeft}
 use Rattle.moves.specs.Answer.{answeredWords}
 use Rattle.history.specs.Index.{answerOf}
-use Rattle.history.specs.View.{Seat, countsAt, placeAt, seatAt, withPlace, noPlace}
-use Rattle.history.specs.Related.{Works, Busy, Says, Related}
+use Rattle.history.specs.View.{Seat, countsAt, placeAt, seatAt, withPlace, noPlace, marksIn}
+use Rattle.history.specs.Related.{Works, Busy, Says, Marking, Related}
 use Rattle.history.proofs.BusyLaws.{busy-on}
 use Rattle.history.proofs.Effects.{answer-written, answer-rows, walk-written, walk-rows}
 use Rattle.history.proofs.Readings.{nearest-search}
@@ -90,8 +90,10 @@ module _ {words : List ℕ} {t : Table} (s : ℕ) (l : s < 8) (r : Related words
       (omega (arith, least-removals words, r .counted .removals))
       (λ u d. put-other (t .stations) s u (waiting (answerOf a)) d)
       (rw (put-same (t .stations) s (waiting (answerOf a))) (record { state = refl; sound = e; answer = refl; quiet = record { cursor = refl; phase = refl; since = refl; missed = refl } }))
+      (rw (put-same (t .stations) s (waiting (answerOf a))) tt)
 
-  module _ {i : ℕ} {c : Call} (to : ℕ) (q : t .stations s ≡ unfinished i c none) (e : isSearch c ≡ false) (o : OnRoute (r .tree) (pointOf c) to) where
+  module _ {i : ℕ} {c : Call} (to : ℕ) (q : t .stations s ≡ unfinished i c none) (e : isSearch c ≡ false) (o : OnRoute (r .tree) (pointOf c) to)
+      (marked : Marking (marksIn words) (r .tree) to (unfinished i c none)) where
     -- the seat of the walk
     abbrev walkSeat : Seat
     walkSeat = withPlace (seatAt words s) (record { cursor = to; phase = 0; since = get words (atSince s); missed = get words (atMissed s) })
@@ -112,7 +114,7 @@ module _ {words : List ℕ} {t : Table} (s : ℕ) (l : s < 8) (r : Related words
       where
         next : Related (putPlace words s to 0) t
         next = related-seat words (putPlace words s to 0) t (t .stations) s walkSeat r (walk-written words (t .places) (t .limit) (r .opened) s l to) (walk-rows words (t .places) (t .limit) (r .opened) s l to)
-            (least-since words s l) (λ u d. refl) walk-busy
+            (least-since words s l) (λ u d. refl) walk-busy (rw q marked)
 
         seated : seatAt (putPlace words s to 0) s ≡ walkSeat
         seated = walk-written words (t .places) (t .limit) (r .opened) s l to .seated s l ∙ seat-put-same (λ u. seatAt words u) s walkSeat

@@ -29,7 +29,7 @@ use Rattle.steps.specs.Submit.{kindIn, curveFits, submittedWords, submitOf}
 use Rattle.moves.specs.Search.{seek, progressAt, searchOf}
 use Rattle.moves.specs.Insert.{roomAt, roomSound, insertOf}
 use Rattle.moves.specs.Unlink.{aroundAt, aroundSound, unlinkOf}
-use Rattle.moves.specs.Walk.{sixDown, codeAt, conclude, standsAt, walkOf}
+use Rattle.moves.specs.Walk.{wayOf, codeAt, conclude, standsAt, walkOf}
 use Rattle.steps.specs.Step.{recordsSound, workOf, askUnfinished, stepOf}
 use Rattle.steps.specs.Withdraw.{withdrawnWords, withdrawOf}
 use Rattle.steps.specs.Take.{takingOf, takeOf, numberOf, takenWords, takeWords}
@@ -71,7 +71,7 @@ walk-settles words rows s call =
     let at = standsAt words s in
     let row = rowAt words rows at in
     let code = codeAt words call row in
-    pick-settles (isCut row) (pick-settles (eqb (sixDown words rows (call .point) at) NONE) (is-refused refl) (is-done refl))
+    pick-settles (isCut row) (pick-settles (eqb (wayOf words rows (call .point) at .to) NONE) (is-refused refl) (is-done refl))
     (pick-settles (eqb at NONE || isLeaf row)
     (pick-settles (eqb code 1) (insert-settles words rows s call at) (pick-settles (eqb code 5) (unlink-settles words rows s call at) (is-done refl)))
     (is-refused refl))

@@ -71,6 +71,8 @@ module _ {words : List ℕ} {places limit : ℕ} (w : OpenedAs words places limi
         records = λ r. (λ m. m, λ m. m);
         number = refl;
         seats = λ s l. record { state = w .states s l; quiet = open-quiet s l };
+        covered = λ x side e b. absurd b;
+        marking = λ s l. tt;
       }
 
 -- The words that an accepted opening leaves are related to the table at first.

@@ -79,6 +79,8 @@ settled-related {words} {t} {s} {i} {p} h l q r =
             (subst (λ z. Says u (r .tree) (r .queue) (seatAt words z) x) (sym (w .0)) (says-kept t u refl refl (r .tree) (r .queue) (seatAt words s) x (settled-busy s h r (related-busy r l q))))
         | inr w ↦ subst (Says u (r .tree) (r .queue) (seatAt words v)) (sym (w .1)) (says-kept t u refl refl (r .tree) (r .queue) (seatAt words v) (t .stations v) (r .seats v k))
       ];
+      covered = r .covered;
+      marking = λ v k. elim (put-cases (t .stations) s v x) [ inl w ↦ rw (w .1) tt | inr w ↦ rw (w .1) (r .marking v k) ];
     }
 
 -- The moment of a nearest call keeps the relation; no word changes.

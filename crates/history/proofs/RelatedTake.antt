@@ -19,12 +19,12 @@ use Rattle.table.proofs.Simulation.{Matches}
 use Rattle.steps.specs.declared.take.Taking.the-variants.{Refused, Given as Taken}
 use Rattle.steps.specs.Take.{takeOf, takeWords}
 use Rattle.history.specs.Index.{wordIndex}
-use Rattle.history.specs.View.{Seat, countsAt, placeAt, seatAt}
+use Rattle.history.specs.View.{Seat, countsAt, placeAt, seatAt, marksIn}
 use Rattle.history.specs.Related.{Waits, Related}
 use Rattle.history.proofs.Effects.{take-written, take-rows}
 use Rattle.history.proofs.RelatedLaws.{related-passes, related-idle, related-busy, related-waits}
 use Rattle.history.proofs.LeastLaws.{least-up}
-use Rattle.history.proofs.SaysLaws.{seat-put-agrees, says-put, written-since, written-removals, related-written}
+use Rattle.history.proofs.SaysLaws.{seat-put-agrees, says-put, marking-put, written-since, written-removals, related-written}
 
 -- ---- what is given
 
@@ -57,6 +57,7 @@ take-left {words} {t} s a r l e =
     omega (arith, written-since w u k, seat-put-agrees (λ (y : Seat). y .place .since) (λ v. seatAt words v) s x refl u)))
     (says-put t (withStations t (put (t .stations) s idle)) refl refl (r .tree) (r .queue) (λ u. seatAt words u) (t .stations) (r .seats) s x idle
     (record { state = refl; quiet = related-waits r l e .quiet }))
+    (marking-put (marksIn words) (r .tree) (λ u. seatAt words u) (t .stations) (r .marking) s x idle tt)
 
 -- ---- the taking
 

@@ -8,7 +8,7 @@ use borrow.Author.Tests.{eqb-true, eqb-false}
 use Rattle.points.specs.Word.{NONE}
 use Rattle.rows.specs.declared.common.Opening.the-variants.{Opened}
 use Rattle.rows.specs.declared.row.Row.{Row as WordRow}
-use Rattle.rows.specs.Agree.{inCommon, inStation, inRow}
+use Rattle.rows.specs.Agree.{inCommon, inStation, inRow, OnlyIn}
 use Rattle.rows.specs.Row.{Room}
 use Rattle.rows.specs.Row.{rowAt, putRow, isRow, inRows}
 use Rattle.rows.specs.Common.{openedIn}
@@ -37,16 +37,18 @@ reads-put words places limit h r row o l e w q k = go (eqb q r) refl
 pub put-none : (words : List ℕ) (row : WordRow) → putRow words NONE row ≡ words
 put-none words row = putRow-none words row
 
--- a row written leaves the counts and the seats
-pub row-written : (words : List ℕ) (r : ℕ) (row : WordRow) → Written words (putRow words r row) (countsAt words) (λ s. seatAt words s)
-row-written words r row =
-    let only = putRow-only words r row in
+-- what is written in a row leaves the counts and the seats
+pub region-written : {v w : List ℕ} (r : ℕ) → OnlyIn v w (inRow r) → Written w v (countsAt w) (λ s. seatAt w s)
+region-written {v} {w} r only =
     let common = elsewhere (inRow r) inCommon only (common-row r) in
     record {
       opened = reads-unseen (inRow r) inCommon only (common-row r) .opened;
       counted = counts-agree common;
-      seated = λ s l. seat-same (putRow words r row) words s (place-agree common s l) (reads-unseen (inRow r) (inStation s) only (station-row s r));
+      seated = λ s l. seat-same v w s (place-agree common s l) (reads-unseen (inRow r) (inStation s) only (station-row s r));
     }
+
+pub row-written : (words : List ℕ) (r : ℕ) (row : WordRow) → Written words (putRow words r row) (countsAt words) (λ s. seatAt words s)
+row-written words r row = region-written r (putRow-only words r row)
 
 -- a row of a heap is a row
 is-row : (row : Row) → isRow (wordRow row) ≡ true

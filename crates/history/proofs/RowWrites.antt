@@ -2,17 +2,29 @@
 -- seats stay.
 use Prim.Native.Nat.{ℕ, _*_, _<_}
 use mathlib.Core.Path.{_≡_, refl, ap, _∙_}
-use mathlib.Core.Bool.{true}
+use mathlib.Core.Bool.{Bool, true, false≢true}
 use mathlib.Core.List.{List}
+use native.Mathlib.Decide.{ℕ-discrete}
 use borrow.Author.Tests.{eq-eqb, ne-eqb}
+use Rattle.points.specs.declared.point.Point.{Point}
+use Rattle.points.specs.declared.cut.Cut.{Cut as PointCut}
 use Rattle.points.specs.Word.{NONE}
 use Rattle.rows.specs.declared.common.Opening.the-variants.{Opened}
 use Rattle.rows.specs.declared.row.Row.{Row as WordRow}
-use Rattle.rows.specs.Row.{putRow, inRows}
+use Rattle.rows.specs.declared.row.Row.the-variants.{Bad, Spare, Removed, Leaf, Cut}
+use Rattle.rows.specs.Agree.{inRow}
+use Rattle.rows.specs.Row.{rowAt, putRow, inRows}
+use Rattle.rows.specs.Grades.{slotOf, beginGrades}
+use Rattle.rows.proofs.AgreeLaws.{row-row}
+use Rattle.rows.proofs.RowLaws.{putRow-only}
+use Rattle.rows.proofs.GradeLaws.{admits-putRow, begin-only, begin-rows}
+use Rattle.rows.proofs.UnseenLaws.{reads-unseen}
 use Rattle.rows.specs.Common.{openedIn}
 use Rattle.trees.specs.Row.{Row, Heap, Wrote}
-use Rattle.history.specs.View.{countsAt, seatAt, wordRow, Reads, heapPut, Written}
-use Rattle.history.proofs.Effects.{reads-put, put-none, row-written}
+use Rattle.moves.specs.Link.{isCut}
+use Rattle.history.specs.View.{countsAt, seatAt, wordRow, Reads, heapPut, marksIn, Written}
+use Rattle.history.proofs.Frame.{slot-fits}
+use Rattle.history.proofs.Effects.{reads-put, put-none, region-written, row-written}
 
 pub heap-wrote : (h : Heap) (r : ℕ) (row : Row) → Wrote h (heapPut h r row) r row
 unfolding heapPut
@@ -43,8 +55,49 @@ put-row {before} {words} {places} {limit} {h} w r x row e l i =
       reads = rw e (reads-put words places limit h r row (w .opened) l i (w .reads));
     }
 
+-- a cut gets its grades
+pub put-grades : {before words : List ℕ} {places limit : ℕ} {h : Heap} → Holding before words places limit h → (r : ℕ) (left : Bool) (p q : Point) {parent : ℕ} {cut : PointCut} {one two : ℕ}
+    → rowAt words (2 * places) r ≡ Cut parent cut one two → Holding before (beginGrades words r left (slotOf p) (slotOf q)) places limit h
+put-grades {before} {words} {places} w r left p q e =
+    let v = region-written r (begin-only words r left (slotOf p) (slotOf q) (slot-fits p) (slot-fits q)) in
+    record {
+      opened = v .opened ∙ w .opened;
+      written = record {
+        opened = v .opened ∙ w .written .opened;
+        counted = v .counted ∙ w .written .counted;
+        seated = λ s k. v .seated s k ∙ w .written .seated s k;
+      };
+      reads = λ i l. begin-rows words r left (slotOf p) (slotOf q) (slot-fits p) (slot-fits q) (2 * places) e i ∙ w .reads i l;
+    }
+
 -- a row at none is not written
 pub put-nothing : {before words : List ℕ} {places limit : ℕ} {h : Heap} → Holding before words places limit h → (r : ℕ) (x : WordRow) → r ≡ NONE → Holding before (putRow words r x) places limit h
 put-nothing {before} {words} {places} {limit} {h} w r x e =
     let same : putRow words r x ≡ words = ap (λ n. putRow words n x) e ∙ put-none words x in
     rw same w
+
+-- ---- marks
+
+-- a row that is written keeps the marks of every other row, and its own where it is a cut
+pub marks-kept : (words : List ℕ) (r : ℕ) (row : WordRow) (x : ℕ) → (x ≡ r → isCut row ≡ true) → (side : Bool) (p : Point) → marksIn (putRow words r row) x side p ≡ marksIn words x side p
+marks-kept words r row x f side p = go row f (ℕ-discrete x r)
+  where
+    other : (row : WordRow) → ¬ (x ≡ r) → marksIn (putRow words r row) x side p ≡ marksIn words x side p
+    other row n = reads-unseen (inRow r) (inRow x) (putRow-only words r row) (row-row x r n) .grades side (slotOf p) (slot-fits p)
+
+    here : (row : WordRow) → isCut row ≡ true → marksIn (putRow words r row) x side p ≡ marksIn words x side p
+    here Bad e = absurd (false≢true e)
+    here (Spare next freed) e = absurd (false≢true e)
+    here (Removed next freed added point curve) e = absurd (false≢true e)
+    here (Leaf parent added point curve) e = absurd (false≢true e)
+    here (Cut parent cut left right) e = admits-putRow words r parent cut left right x side (slotOf p) (slot-fits p)
+
+    go : (row : WordRow) → (x ≡ r → isCut row ≡ true) → Dec (x ≡ r) → marksIn (putRow words r row) x side p ≡ marksIn words x side p
+    go row f (yes e) = here row (f e)
+    go row f (no n) = other row n
+
+-- a new cut's grades leave the marks of every other row
+pub marks-begun : (words : List ℕ) (r : ℕ) (left : Bool) (here there : Point) (x : ℕ) → ¬ (x ≡ r) → (side : Bool) (p : Point)
+    → marksIn (beginGrades words r left (slotOf here) (slotOf there)) x side p ≡ marksIn words x side p
+marks-begun words r left here there x n side p =
+    reads-unseen (inRow r) (inRow x) (begin-only words r left (slotOf here) (slotOf there) (slot-fits here) (slot-fits there)) (row-row x r n) .grades side (slotOf p) (slot-fits p)

@@ -18,9 +18,10 @@ use Rattle.table.specs.Table.{Station, idle, unfinished, waiting, Table, put}
 use Rattle.table.proofs.Stations.{put-cases}
 use Rattle.trees.specs.Tree.{Tree}
 use Rattle.trees.specs.Queue.{Free}
+use Rattle.trees.specs.Below.{Marks, Covered}
 use Rattle.trees.proofs.Room.{store-release}
-use Rattle.history.specs.View.{Counts, Seat, countsAt, placeAt, seatAt, seatPut, SameRows, Written}
-use Rattle.history.specs.Related.{Works, Says, Related}
+use Rattle.history.specs.View.{Counts, Seat, countsAt, placeAt, seatAt, seatPut, marksIn, SameRows, Written}
+use Rattle.history.specs.Related.{Works, Says, Marking, Related}
 use Rattle.history.proofs.BusyLaws.{busy-on}
 
 -- ---- the same table but for its stations
@@ -94,6 +95,15 @@ says-put t t′ changes removals tree queue seats stations says s x y b u l = el
       subst (Says t′ tree queue (seatPut seats s x u)) (sym (w .1)) (subst (λ z. Says t′ tree queue z (stations u)) (sym (seat-put-other seats s u x (w .0))) v)
 ]
 
+-- a seat and a station put anew: the other adds have marked what they had
+pub marking-put : (marks : Marks) (tree : Option Tree) (seats : ℕ → Seat) (stations : ℕ → Station)
+    → ((u : ℕ) → u < 8 → Marking marks tree (seats u .place .cursor) (stations u)) → (s : ℕ) (x : Seat) (y : Station) → Marking marks tree (x .place .cursor) y
+    → (u : ℕ) → u < 8 → Marking marks tree (seatPut seats s x u .place .cursor) (put stations s y u)
+marking-put marks tree seats stations each s x y b u l = elim (put-cases stations s u y) [
+  | inl w ↦ let v : seatPut seats s x u ≡ x = rw (w .0) (seat-put-same seats s x) in rw (w .1, v) b
+  | inr w ↦ rw (w .1, seat-put-other seats s u x (w .0)) (each u l)
+]
+
 -- ---- what was written
 
 module _ {words words′ : List ℕ} {counts : Counts} {seats : ℕ → Seat} (w : Written words words′ counts seats) where
@@ -106,16 +116,21 @@ module _ {words words′ : List ℕ} {counts : Counts} {seats : ℕ → Seat} (w
   unfolding seatAt placeAt
   written-since s l = ap (λ (x : Seat). x .place .since) (w .seated s l)
 
--- Where the rows and the counts are as they were, the table differs in its stations alone, no removal is awaited anew, and the seats say what
--- the stations say, words and table are related again.
+-- the marks as one function
+pub same-marks : {words words′ : List ℕ} {rows : ℕ} → SameRows words words′ rows → marksIn words′ ≡ marksIn words
+same-marks same = λ i. λ x side p. same .marks x side p i
+
+-- Where the rows and the counts are as they were, the table differs in its stations alone, no removal is awaited anew, the seats say what
+-- the stations say, and every add has marked its way, words and table are related again.
 unfoldable pub related-written : {words words′ : List ℕ} {t t′ : Table} {seats : ℕ → Seat} (r : Related words t) → Written words words′ (countsAt words) seats → SameRows words words′ (2 * t .places)
-    → Alike t t′ → leastSince words ≤ leastSince words′ → ((s : ℕ) → s < 8 → Says t′ (r .tree) (r .queue) (seats s) (t′ .stations s)) → Related words′ t′
-related-written {words} {words′} {t} {t′} {seats} r w rows a le says = record {
+    → Alike t t′ → leastSince words ≤ leastSince words′ → ((s : ℕ) → s < 8 → Says t′ (r .tree) (r .queue) (seats s) (t′ .stations s))
+    → ((s : ℕ) → s < 8 → Marking (marksIn words) (r .tree) (seats s .place .cursor) (t′ .stations s)) → Related words′ t′
+related-written {words} {words′} {t} {t′} {seats} r w rows a le says marking = record {
   opened = rw (a .places, a .limit) (w .opened ∙ r .opened);
   heap = r .heap;
   tree = r .tree;
   queue = r .queue;
-  reads = rw (a .places) (λ i l. rows i l ∙ r .reads i l);
+  reads = rw (a .places) (λ i l. rows .row i l ∙ r .reads i l);
   store = rw (a .places, a .changes, a .removals) (store-release le (omega (arith, least-removals words′, written-removals w, r .counted .removals)) (r .store));
   counted = rw (w .counted) (record {
     changes = rw (a .changes) (r .counted .changes);
@@ -128,4 +143,6 @@ related-written {words} {words′} {t} {t′} {seats} r w rows a le says = recor
   records = rw (a .held) (r .records);
   number = rw (a .held) (r .number);
   seats = λ s l. subst (λ x. Says t′ (r .tree) (r .queue) x (t′ .stations s)) (sym (w .seated s l)) (says s l);
+  covered = subst (λ m. Covered m (r .tree)) (sym (same-marks rows)) (r .covered);
+  marking = λ s l. subst (λ m. Marking m (r .tree) (seatAt words′ s .place .cursor) (t′ .stations s)) (sym (same-marks rows)) (rw (w .seated s l) (marking s l));
 }

@@ -12,8 +12,8 @@ use Rattle.rows.specs.Layout.{atSince}
 use Rattle.rows.specs.Words.{get}
 use Rattle.rows.specs.Common.{leastSince}
 use Rattle.table.specs.Table.{Station, Table, withStations}
-use Rattle.history.specs.View.{Seat, countsAt, placeAt, seatAt, seatPut, SameRows, Written}
-use Rattle.history.specs.Related.{Says, Related}
+use Rattle.history.specs.View.{Seat, countsAt, placeAt, seatAt, seatPut, marksIn, SameRows, Written}
+use Rattle.history.specs.Related.{Says, Marking, Related}
 use Rattle.rows.proofs.TakenLaws.{least-removals, least-since, least-greatest}
 use Rattle.history.proofs.SaysLaws.{says-kept, written-removals, related-written}
 
@@ -37,7 +37,8 @@ module _ {words words′ : List ℕ} {seats : ℕ → Seat} (w : Written words w
 
 module _ (words words′ : List ℕ) (t : Table) (f : ℕ → Station) (s : ℕ) (x : Seat) (r : Related words t)
     (w : Written words words′ (countsAt words) (seatPut (λ u. seatAt words u) s x)) (same : SameRows words words′ (2 * t .places))
-    (later : leastSince words ≤ x .place .since) (others : (u : ℕ) → u ≢ s → f u ≡ t .stations u) (says : Says t (r .tree) (r .queue) x (f s)) where
+    (later : leastSince words ≤ x .place .since) (others : (u : ℕ) → u ≢ s → f u ≡ t .stations u) (says : Says t (r .tree) (r .queue) x (f s))
+    (marking : Marking (marksIn words) (r .tree) (x .place .cursor) (f s)) where
   pub put-since : (u : ℕ) → u < 8 → leastSince words ≤ seatPut (λ v. seatAt words v) s x u .place .since
   unfolding seatAt placeAt
   put-since u l = elim (seat-cases (λ v. seatAt words v) s x u) [ inl c ↦ rw (c .1) later | inr c ↦ rw (c .1) (least-since words u l) ]
@@ -48,6 +49,12 @@ module _ (words words′ : List ℕ) (t : Table) (f : ℕ → Station) (s : ℕ)
     | inr c ↦ rw (c .1, others u (c .0)) (says-kept t (withStations t f) refl refl (r .tree) (r .queue) (seatAt words u) (t .stations u) (r .seats u l))
   ]
 
+  pub put-marking : (u : ℕ) → u < 8 → Marking (marksIn words) (r .tree) (seatPut (λ v. seatAt words v) s x u .place .cursor) (f u)
+  put-marking u l = elim (seat-cases (λ v. seatAt words v) s x u) [
+    | inl c ↦ rw (c .1, c .0) marking
+    | inr c ↦ rw (c .1, others u (c .0)) (r .marking u l)
+  ]
+
   unfoldable pub related-seat : Related words′ (withStations t f)
   related-seat =
-      related-written r w same (record { places = refl; limit = refl; held = refl; changes = refl; removals = refl }) (least-written w put-since) put-says
+      related-written r w same (record { places = refl; limit = refl; held = refl; changes = refl; removals = refl }) (least-written w put-since) put-says put-marking

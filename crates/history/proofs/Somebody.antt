@@ -18,7 +18,7 @@ use Rattle.table.proofs.Eager.{Settled}
 use Rattle.steps.specs.Open.{openOf}
 use Rattle.steps.specs.Step.{stepOf}
 use Rattle.history.specs.Index.{wordIndex}
-use Rattle.history.specs.View.{countsAt, seatAt}
+use Rattle.history.specs.View.{countsAt, seatAt, SameRows}
 use Rattle.history.specs.Related.{Related}
 use Rattle.history.specs.After.{after}
 use Rattle.history.specs.Somebody.{mostUnanswered, dealtStep, dealtSteps, Undisturbed, SomeAnswered}
@@ -40,11 +40,12 @@ pub record Within (words : List ℕ) (places limit n : ℕ) : Type 0 where
 
 -- the same words, however they are related: so the first moments of nearest calls leave as much
 same-within : {words : List ℕ} {places limit n : ℕ} → Within words places limit n → Stands words places limit → Within words places limit n
-same-within w b =
+same-within {words} w b =
     let a = w .stands in
+    let same : SameRows words words (2 * a .table .places) = record { row = λ i l. refl; marks = λ x side q. refl } in
     let p : b .table .places ≡ a .table .places = b .places-same ∙ sym (a .places-same) in
-    let tree = tree-same (a .related) (b .related) p (λ i l. refl) refl refl in
-    let queue = queue-same (a .related) (b .related) p (λ i l. refl) refl refl in
+    let tree = tree-same (a .related) (b .related) p same refl refl in
+    let queue = queue-same (a .related) (b .related) p same refl refl in
     record { stands = b; few = omega (arith, potential-kept (a .related) (b .related) p tree queue (λ x l. refl), w .few) }
 
 -- a submission or a taking leaves as much

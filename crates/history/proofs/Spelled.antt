@@ -21,7 +21,7 @@ module _ {v w : List ℕ} {t u : Table} (a : Related v t) (b : Related w u) (pla
   heaps : (i : ℕ) → i < 2 * t .places → b .heap i ≡ a .heap i
   heaps i l =
       let e : 2 * u .places ≡ 2 * t .places = ap (λ (p : ℕ). 2 * p) places in
-      let same : wordRow (b .heap i) ≡ wordRow (a .heap i) = sym (b .reads i (omega (arith, e))) ∙ ap (λ (n : ℕ). rowAt w n i) e ∙ rows i l ∙ a .reads i l in
+      let same : wordRow (b .heap i) ≡ wordRow (a .heap i) = sym (b .reads i (omega (arith, e))) ∙ ap (λ (n : ℕ). rowAt w n i) e ∙ rows .row i l ∙ a .reads i l in
       sym (value-word (b .heap i)) ∙ ap valueOf same ∙ value-word (a .heap i)
 
   module _ (root : countsAt w .root ≡ countsAt v .root) (head : countsAt w .head ≡ countsAt v .head) where

@@ -30,7 +30,9 @@ use Rattle.trees.specs.Queue.{headOf}
 use Rattle.trees.specs.Store.{Store}
 use Rattle.trees.specs.Route.{OnRoute}
 use Rattle.trees.specs.Reads.{Leaf}
-use Rattle.trees.specs.Insert.{leafOf, cutFor, Ends, OtherPoint, insertRoot, insertHead, Inserted}
+use Rattle.trees.specs.Insert.{leafOf, cutFor, Ends, OtherPoint, insertRoot, insertHead, InsertMarks, Inserted}
+use Rattle.trees.specs.Below.{Marks, Passed, Grows}
+use Rattle.trees.proofs.ReadLaws.{cut-has, cut-reads}
 use Rattle.trees.proofs.ShapeLaws.{entries-held}
 use Rattle.trees.proofs.RouteLaws.{on-route-has}
 use Rattle.trees.proofs.Insert.{insert}
@@ -38,15 +40,17 @@ use Rattle.moves.specs.declared.insert.Room.{Room}
 use Rattle.moves.specs.Reply.{more}
 use Rattle.moves.specs.Answer.{answer as given, answeredWords}
 use Rattle.moves.specs.Insert.{roomAt, roomSound, insertRoot as rootAfter, insertHead as headAfter, insertRows, insertCounts, cursorsMoved, insertWords, insertOf}
-use Rattle.history.specs.View.{Counts, Seat, countsAt, seatAt}
+use Rattle.history.specs.View.{Counts, Seat, countsAt, seatAt, marksIn}
 use Rattle.history.specs.Related.{recordOf, Busy, Related}
 use Rattle.history.proofs.Readings.{added-change, addedTable, changed-add}
 use Rattle.history.proofs.Effects.{movedCursor, insert-written, insert-same-rows}
 use Rattle.history.proofs.RelatedLaws.{more-is, related-is-open, removals-word, related-busy, related-taken}
 use Rattle.history.proofs.Outcome.{Outcome, ends}
 use Rattle.history.proofs.OwnSeat.{least-same, least-seat, related-answered}
-use Rattle.history.proofs.OtherSeats.{says-insert}
+use Rattle.history.proofs.OtherSeats.{says-insert, marking-insert}
 use Rattle.history.proofs.RowWrites.{Holding, held-first}
+use Rattle.history.proofs.RowKinds.{kindAt}
+use Rattle.history.proofs.InsertMarks.{marks-inserted, mark-new, mark-old}
 use Rattle.history.proofs.InsertRows.{next-word, Finds, beside-finds, besideRoom, room-beside, sound-beside, beside-writes, alone-finds, aloneRoom, room-alone, sound-alone, alone-writes}
 
 -- ---- records
@@ -73,6 +77,13 @@ records-insert tree tree′ new held same holds r = (forth, back)
           (Memᴰ·map recordOf (entries-held tree′ (u .0) .1 (holds (u .0) .1 (inl (entries-held tree (u .0) .0 (u .1))))))
     ]
 
+-- ---- marks
+
+-- what an insert makes of the marks: no cut loses one, and the new one has those of its two records
+record Gains (words words′ : List ℕ) (tree : Option Tree) (new : Entry) (place : Option Leaf) (b : ℕ) : Type 0 where
+  grown : Grows (marksIn words) (marksIn words′) tree
+  marked : InsertMarks (marksIn words) (marksIn words′) tree new place b
+
 -- ---- the relation after an insert
 
 -- the words after an insert, given what was read, what is written and what that makes of tree and queue
@@ -83,9 +94,10 @@ related-inserted : {words : List ℕ} {t : Table} {h′ : Heap} {a b : ℕ} {new
     → Holding (cursorsMoved (room .at) (room .second) 8 (insertCounts words room))
     (insertRows (cursorsMoved (room .at) (room .second) 8 (insertCounts words room)) room (new .added) (new .point) (new .curve)) (t .places) (t .limit) h′
     → Inserted (t .places) (r .heap) h′ (r .tree) (r .queue) (t .changes) (length (t .removals)) (leastSince words) new place a b
+    → Gains words (insertRows (cursorsMoved (room .at) (room .second) 8 (insertCounts words room)) room (new .added) (new .point) (new .curve)) (r .tree) new place b
     → Related (insertWords words room (new .point) (new .curve)) (addedTable t (new .point) (new .curve))
 unfolding countsAt insertWords
-related-inserted {words} {t} {h′} {a} {b} {new} place room sound settled r number below few still at second root head v w =
+related-inserted {words} {t} {h′} {a} {b} {new} place room sound settled r number below few still at second root head v w gains =
     rw (← number) record {
       opened = v .opened;
       heap = h′;
@@ -104,6 +116,10 @@ related-inserted {words} {t} {h′} {a} {b} {new} place room sound settled r num
       records = records-insert (r .tree) (w .tree) new (t .held) (r .records) (w .holds);
       number = w .count ∙ ap suc (r .number);
       seats = λ s l. rw (seated s l, at, second) (says-insert t (addedTable t (new .point) (new .curve)) w (add-one (t .changes)) refl (seatAt words s) (t .stations s) (least-seat words s l) still (settled s l) (r .seats s l));
+      covered = w .covers (marksIn words) (marksIn written) (r .covered) (gains .grown) (gains .marked);
+      marking = λ s l.
+          let e : seatAt written s ≡ movedCursor (leafOf place) (cutFor place b) (seatAt words s) = seated s l ∙ (λ j. movedCursor (at j) (second j) (seatAt words s)) in
+          rw e (marking-insert t (addedTable t (new .point) (new .curve)) w (add-one (t .changes)) refl (seatAt words s) (marksIn words) (marksIn written) (gains .grown) (t .stations s) (r .marking s l));
     }
   where
     base : List ℕ
@@ -140,6 +156,11 @@ module _ {words : List ℕ} {t : Table} (r : Related words t) (sound : Sound t) 
   unfolding countsAt
   related-room n = omega (arith, n, sound .room, related-taken r sound, taken-is words, awaiting-is words, r .counted .held, r .counted .removals)
 
+-- an add has marked its way down to the leaf where its walk ended
+abbrev pub PassedTo : Marks → Option Tree → Point → Option Leaf → Type 0
+PassedTo marks tree p none = Unit {0}
+PassedTo marks tree p (some l) = Passed marks tree p (l .row)
+
 module _ {words : List ℕ} {t : Table} {s i : ℕ} {p : Point} {c : ℕ} (sound : Sound t) (settled : Settled t) (l : s < 8) (q : t .stations s ≡ unfinished i (add p c) none) (r : Related words t) (free : curveAt p (t .held) ≡ none)
     (left : ¬ (t .changes ≡ t .limit)) (place-left : ¬ (taken t ≡ t .places)) where
   busy : Busy t (r .tree) (r .queue) (seatAt words s) i (add p c) none
@@ -168,7 +189,7 @@ module _ {words : List ℕ} {t : Table} {s i : ℕ} {p : Point} {c : ℕ} (sound
   begun room =
       held-first (cursorsMoved (room .at) (room .second) 8 (insertCounts words room)) (t .places) (t .limit) (r .heap)
       (insert-written words (t .places) (t .limit) (r .opened) room .opened ∙ r .opened)
-      (λ x lx. insert-same-rows words (t .places) (t .limit) (r .opened) room x lx ∙ r .reads x lx)
+      (λ x lx. insert-same-rows words (t .places) (t .limit) (r .opened) room .row x lx ∙ r .reads x lx)
 
   few : countOf (r .tree) < NONE
   few = omega (arith, related-room r sound place-left, related-is-open r .places-most)
@@ -185,13 +206,14 @@ module _ {words : List ℕ} {t : Table} {s i : ℕ} {p : Point} {c : ℕ} (sound
       insert (w .0) entry (r .tree) none (r .store) (related-room r sound place-left) e tt (busy .ranged) entry-number (w .2) in
       inserted-outcome NONE (aloneRoom h a) (room-alone words (t .places) h a (f .0) (r .reads) (r .store .fits) (r .counted .head))
       (sound-alone words (t .places) h a (f .0) (r .reads) (r .store .fits) (f .1))
-      (related-inserted none (aloneRoom h a) sound settled r refl (omega (arith, changes-word r sound)) few (λ d. refl) refl refl refl (next-word (h a)) (w .1) v)
+      (related-inserted none (aloneRoom h a) sound settled r refl (omega (arith, changes-word r sound)) few (λ d. refl) refl refl refl (next-word (h a)) (w .1) v
+      (record { grown = λ x m side q g. absurd (rw e at m); marked = tt }))
 
   -- beside a leaf
   beside-outcome : {n : ℕ} (leaf : Leaf) → OnRoute (r .tree) p (leaf .row) → r .heap (leaf .row) ≡ leafRow (leaf .parent) (leaf .entry) → ¬ (p ≡ leaf .entry .point)
-      → Outcome r s (add p c) none n (insertOf words (2 * t .places) s (callAt words s) (leaf .row))
+      → Passed (marksIn words) (r .tree) p (leaf .row) → Outcome r s (add p c) none n (insertOf words (2 * t .places) s (callAt words s) (leaf .row))
   unfolding countsAt rootAfter headAfter
-  beside-outcome leaf on reads other =
+  beside-outcome leaf on reads other passed =
       let h : Heap = r .heap in
       let a : ℕ = headOf (r .queue) in
       let b : ℕ = nextOf (h a) in
@@ -202,8 +224,23 @@ module _ {words : List ℕ} {t : Table} {s i : ℕ} {p : Point} {c : ℕ} (sound
       let v : Inserted (t .places) h (w .0) (r .tree) (r .queue) (t .changes) (length (t .removals)) (leastSince words) entry (some leaf) a b =
       insert (w .0) entry (r .tree) (some leaf) (r .store) (related-room r sound place-left) (on, reads) other (busy .ranged) entry-number (w .2) in
       inserted-outcome (leaf .row) room (room-beside words f (r .reads) (r .store .fits) (r .counted .head)) (sound-beside words f (r .reads) (r .store .fits))
-      (related-inserted (some leaf) room sound settled r refl (omega (arith, changes-word r sound)) few (λ d. absurd (there d)) refl refl (rw (ne-eqb (leaf .row) NONE there, r .counted .root)) (rw (ne-eqb (leaf .row) NONE there) (next-word (h b))) (w .1) v)
+      (related-inserted (some leaf) room sound settled r refl (omega (arith, changes-word r sound)) few (λ d. absurd (there d)) refl refl (rw (ne-eqb (leaf .row) NONE there, r .counted .root)) (rw (ne-eqb (leaf .row) NONE there) (next-word (h b))) (w .1) v (gains f))
     where
+      gains : {a b : ℕ} (f : Finds (t .places) (r .heap) a b leaf)
+          → Gains words
+          (insertRows (cursorsMoved (leaf .row) b 8 (insertCounts words (besideRoom words (2 * t .places) (r .heap) a b leaf))) (besideRoom words (2 * t .places) (r .heap) a b leaf) (entry .added) p c)
+          (r .tree) entry (some leaf) b
+      gains {a} {b} f =
+          let room : Room = besideRoom words (2 * t .places) (r .heap) a b leaf in
+          let base : List ℕ = cursorsMoved (leaf .row) b 8 (insertCounts words room) in
+          record {
+            grown = λ x m side q g.
+                let k = cut-reads (r .tree) (r .store) m in
+                marks-inserted words f (r .reads) (r .store .fits) base entry x (r .store .inside x (cut-has (r .tree) x m)) (ap kindAt (k .reads)) side q
+                ∙ insert-same-rows words (t .places) (t .limit) (r .opened) room .marks x side q ∙ g;
+            marked = (mark-new words f (r .reads) (r .store .fits) base entry (begun room .opened), mark-old words f (r .reads) (r .store .fits) base entry (begun room .opened), passed);
+          }
+
       finds : (tree : Option Tree) → Store (t .places) (r .heap) tree (r .queue) (t .changes) (length (t .removals)) (leastSince words)
           → countOf tree + (length (t .removals) - leastSince words) < t .places → OnRoute tree p (leaf .row)
           → Finds (t .places) (r .heap) (headOf (r .queue)) (nextOf (r .heap (headOf (r .queue)))) leaf
@@ -211,7 +248,7 @@ module _ {words : List ℕ} {t : Table} {s i : ℕ} {p : Point} {c : ℕ} (sound
       finds (some tree) store lt o = beside-finds leaf store lt (on-route-has (some tree) p (leaf .row) o) reads
 
   -- The record is inserted where the walk of its point ended.
-  pub insert-outcome : {n : ℕ} (place : Option Leaf) → Ends (r .heap) (r .tree) p place → OtherPoint p place
+  pub insert-outcome : {n : ℕ} (place : Option Leaf) → Ends (r .heap) (r .tree) p place → OtherPoint p place → PassedTo (marksIn words) (r .tree) p place
       → Outcome r s (add p c) none n (insertOf words (2 * t .places) s (callAt words s) (leafOf place))
-  insert-outcome none e o = alone-outcome e
-  insert-outcome (some leaf) e o = beside-outcome leaf (e .0) (e .1) o
+  insert-outcome none e o m = alone-outcome e
+  insert-outcome (some leaf) e o m = beside-outcome leaf (e .0) (e .1) o m

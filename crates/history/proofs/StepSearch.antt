@@ -8,6 +8,7 @@ use mathlib.Core.Option.{some}
 use native.Mathlib.Omega.{arith}
 use lib.Dec.{eqb}
 use lib.ListN.{length}
+use borrow.Author.Tests.{eqb-true}
 use Rattle.points.specs.declared.point.Point.{Point}
 use Rattle.points.specs.Point.{inRange}
 use Rattle.points.specs.Word.{NONE}
@@ -17,6 +18,7 @@ use Rattle.rows.specs.declared.answer.Answer.{Answer as WordAnswer}
 use Rattle.rows.specs.Layout.{atSince}
 use Rattle.rows.specs.Words.{get}
 use Rattle.rows.specs.Common.{leastSince}
+use Rattle.rows.specs.Grades.{slotOf}
 use Rattle.rows.specs.Call.{callAt}
 use Rattle.rows.specs.Answer.{answerSound}
 use Rattle.rows.proofs.OpeningLaws.{opened-tells}
@@ -36,14 +38,14 @@ use Rattle.trees.proofs.SearchLaws.{search-finish}
 use Rattle.moves.specs.declared.search.Progress.{Progress as WordProgress}
 use Rattle.moves.specs.Answer.{answeredWords}
 use Rattle.moves.specs.Reply.{done, ask}
-use Rattle.moves.specs.Search.{look, tour, seek, progressAt, isFinished, foundAnswer, keptWords, pickWords, searchWords, searchTo, searchOf}
+use Rattle.moves.specs.Search.{look, toured, toursOf, seek, progressAt, isFinished, foundAnswer, keptWords, pickWords, searchWords, searchTo, searchOf}
 use Rattle.history.specs.Index.{answerOf}
 use Rattle.history.specs.View.{Seat, countsAt, placeAt, seatAt, progressOf, noPlace}
 use Rattle.history.specs.Related.{recordOf, Busy, Searching, Waits, Says, Related}
 use Rattle.history.proofs.Effects.{answer-written, answer-rows, kept-written, kept-rows}
 use Rattle.history.proofs.Outcome.{LeftSays, Left, Aside, Outcome, goesOn, ends}
 use Rattle.history.proofs.ProgressWords.{viewOf}
-use Rattle.history.proofs.SeekLaws.{Seeks, seek-two, seek-keeps}
+use Rattle.history.proofs.SeekLaws.{Seeks, tours-stay, seek-two, seek-keeps}
 use Rattle.history.proofs.SaysLaws.{seat-put-same, seat-put-other, related-written}
 use Rattle.history.proofs.SeatLaws.{related-seat}
 use Rattle.history.proofs.FoundAnswer.{found-is, found-sound}
@@ -120,7 +122,7 @@ module _ {words : List ℕ} {t : Table} {s i : ℕ} {p : Point} {a : Answer} (h 
     kept-related =
         related-seat words (keptWords words s g) t (t .stations) s (keptSeat (seatAt words s) g) r (kept-written words (t .places) (t .limit) (r .opened) s l g (v .fit .best))
         (kept-rows words (t .places) (t .limit) (r .opened) s l g) (least-since words s l) (λ u n. refl)
-        (subst (λ (x : Station). Says t (r .tree) (r .queue) (keptSeat (seatAt words s) g) x) (sym q) kept-busy)
+        (subst (λ (x : Station). Says t (r .tree) (r .queue) (keptSeat (seatAt words s) g) x) (sym q) kept-busy) (rw q tt)
 
     kept-left : Left (keptWords words s g) t s m
     unfolding kept-works kept-related related-seat related-written
@@ -175,6 +177,7 @@ module _ {words : List ℕ} {t : Table} {s i : ℕ} {p : Point} {a : Answer} (h 
           (answer-written words (t .places) (t .limit) (r .opened) s l x found-ranged) (answer-rows words (t .places) (t .limit) (r .opened) s l x) least-none
           (λ u n. put-other (t .stations) s u (waiting a) n)
           (subst (λ (y : Station). Says t (r .tree) (r .queue) (endedSeat (seatAt words s) x) y) (sym (put-same (t .stations) s (waiting a))) ended-waits)
+          (rw (put-same (t .stations) s (waiting a)) tt)
 
     -- what the step writes after its moves
     outcome-of : (n : ℕ) → (2 + m ≤ n) ⊎ (isFinished g ≡ true) → Outcome r s (nearest p) (some a) n (searchTo words s (callAt words s) g)
@@ -190,16 +193,17 @@ module _ {words : List ℕ} {t : Table} {s i : ℕ} {p : Point} {a : Answer} (h 
 
 -- a search that is not finished was not finished before: one with nothing left to look at stays where it is
 seek-unfinished : (words : List ℕ) (rows : ℕ) (call : Call) (g : WordProgress) → isFinished (seek words rows call g) ≡ false → isFinished g ≡ false
-unfolding seek look tour
+unfolding seek look
 seek-unfinished words rows call g e = go (isFinished g) refl
   where
     go : (b : Bool) → isFinished g ≡ b → b ≡ false
     go false f = refl
     go true f =
-        let c : eqb (g .cursor) NONE ≡ true = and-l (eqb (g .cursor) NONE) (eqb (g .missed) NONE) f in
+        let c : g .cursor ≡ NONE = eqb-true (g .cursor) NONE (and-l (eqb (g .cursor) NONE) (eqb (g .missed) NONE) f) in
         let m : eqb (g .missed) NONE ≡ true = and-r (eqb (g .cursor) NONE) (eqb (g .missed) NONE) f in
-        let z : isFinished (seek words rows call g) ≡ true = rw (m, c, c, c, m) in
-        sym z ∙ e
+        let looked : look words rows call g ≡ g = rw m in
+        let z : seek words rows call g ≡ g = ap (toured words rows (slotOf (call .point)) call (toursOf (g .missed))) looked ∙ tours-stay words rows (slotOf (call .point)) call (toursOf (g .missed)) g c in
+        sym f ∙ ap isFinished (sym z) ∙ e
 
 -- The step of an unfinished nearest call whose answer is set down: its moves, and then it is kept for the next step with less left, or ends with
 -- that answer.
@@ -221,10 +225,10 @@ search-outcome {words} {t} {s} {i} {n} {p} {a} h l q r =
         → Outcome (r .related) s (nearest p) (some a) n (searchTo words s (callAt words s) sought)
     go work few true e =
         let held : Entry → Type 0 = (λ d. List·Memᴰ d (work .entries)) in
-        let v = seek-keeps (r .related .store) words (r .related .reads) (callAt words s) (get words (atSince s)) held start n (begins h l q (r .related) work n few) in
+        let v = seek-keeps (r .related .store) words (r .related .reads) (r .related .covered) (callAt words s) (get words (atSince s)) held start n (begins h l q (r .related) work n few) in
         outcome-of h l q (r .related) work sought n v n (inr e)
     go work few false e =
         let held : Entry → Type 0 = (λ d. List·Memᴰ d (work .entries)) in
         let f : isFinished start ≡ false = seek-unfinished words (2 * t .places) (callAt words s) start e in
-        let x = seek-two (r .related .store) words (r .related .reads) (callAt words s) (get words (atSince s)) held start n f e (begins h l q (r .related) work n few) in
+        let x = seek-two (r .related .store) words (r .related .reads) (r .related .covered) (callAt words s) (get words (atSince s)) held start n f e (begins h l q (r .related) work n few) in
         outcome-of h l q (r .related) work sought (x .0) (x .2) n (inl (x .1))

@@ -44,6 +44,8 @@ use Rattle.trees.specs.Store.{Store}
 use Rattle.trees.specs.Route.{OnRoute}
 use Rattle.trees.specs.Reads.{Leaf}
 use Rattle.trees.specs.Unlink.{siblingRow, grandRow, Unlinked}
+use Rattle.trees.specs.Below.{Grows}
+use Rattle.trees.proofs.ReadLaws.{cut-has, cut-reads, unlink-reads}
 use Rattle.trees.proofs.Room.{store-release}
 use Rattle.trees.proofs.RouteLaws.{on-route-has}
 use Rattle.trees.proofs.Unlink.{unlink}
@@ -51,15 +53,17 @@ use Rattle.moves.specs.declared.unlink.Around.{Around}
 use Rattle.moves.specs.Reply.{done, more}
 use Rattle.moves.specs.Answer.{answer as wordAnswer, answeredWords}
 use Rattle.moves.specs.Unlink.{aroundAt, aroundSound, unlinkTail, unlinkRoot, unlinkCounts, unlinkRows, stationsMoved, unlinkWords, unlinkOf}
-use Rattle.history.specs.View.{Counts, Seat, countsAt, placeAt, seatAt, noPlace, seatPut, Written}
-use Rattle.history.specs.Related.{recordOf, Busy, Says, Counted, Related}
+use Rattle.history.specs.View.{Counts, Seat, countsAt, placeAt, seatAt, noPlace, seatPut, marksIn, Written}
+use Rattle.history.specs.Related.{recordOf, Busy, Says, Marking, Counted, Related}
 use Rattle.history.proofs.RelatedLaws.{more-is}
 use Rattle.history.proofs.Effects.{reads-in, answer-written, answer-rows, movedSeat, unlink-written, unlink-same-rows}
 use Rattle.history.proofs.Outcome.{Outcome, ends}
 use Rattle.history.proofs.Readings.{removed-change, removedTable, changed-remove}
-use Rattle.history.proofs.UnlinkAround.{aroundOf, around-is, around-sound}
+use Rattle.history.proofs.UnlinkAround.{aroundOf, around-is, around-sound, alone-side}
 use Rattle.history.proofs.UnlinkRows.{RowsUnlinked, rows-unlinked}
-use Rattle.history.proofs.UnlinkSeats.{says-moved}
+use Rattle.history.proofs.UnlinkSeats.{says-moved, marking-moved}
+use Rattle.history.proofs.RowKinds.{kindAt}
+use Rattle.history.proofs.UnlinkMarks.{marks-unlinked}
 use Rattle.history.proofs.UnlinkHeld.{curve-removed, records-unlinked, number-unlinked}
 
 -- the seat of a station after an answer, and the others
@@ -129,7 +133,7 @@ module _ (words : List ℕ) (t : Table) (s i : ℕ) (p : Point) (at parent : ℕ
 
   unlinked-rows : RowsUnlinked words₁ words₂ (t .places) (R .heap) (tailOf (R .queue)) number leaf
   unlinked-rows =
-      rows-unlinked words₁ (counted₁ .opened ∙ R .opened) (λ r k. unlink-same-rows words (t .places) (t .limit) (R .opened) around r k ∙ R .reads r k) (R .store) number leaf has reads
+      rows-unlinked words₁ (counted₁ .opened ∙ R .opened) (λ r k. unlink-same-rows words (t .places) (t .limit) (R .opened) around .row r k ∙ R .reads r k) (R .store) number leaf has reads
 
   counted₂ : Written words words₂ counts (λ u. movedSeat around (seatAt words u))
   counted₂ =
@@ -233,18 +237,37 @@ module _ (words : List ℕ) (t : Table) (s i : ℕ) (p : Point) (at parent : ℕ
         (seatAt words u) u (t .stations u) k (settled u k) refl (R .seats u k))
   ]
 
+  -- every cut of the tree keeps its marks
+  grown : Grows (marksIn words) (marksIn words₃) (after .tree)
+  grown x m side d g =
+      let c = cut-reads (after .tree) (after .store) m in
+      let there : ¬ (x ≡ NONE) = λ z. omega (arith, z, after .store .inside x (cut-has (after .tree) x m), after .store .fits) in
+      let last = unlink-reads (R .tree) (R .store) has .tail in
+      let kept = marks-unlinked (unlinked-rows .writes) (last .last) (last .reads) (alone-side (R .store) leaf has reads) x there (ap kindAt (c .reads)) words₁ side d in
+      answer-rows words₂ (t .places) (t .limit) opened₂ s below given .marks x side d ∙ kept ∙ unlink-same-rows words (t .places) (t .limit) (R .opened) around .marks x side d ∙ g
+
+  marking-after : (u : ℕ) → u < 8 → Marking (marksIn words₃) (after .tree) (seatAt words₃ u .place .cursor) (stations u)
+  marking-after u k = elim (put-cases (t .stations) s u (waiting spoken)) [
+    | inl v ↦ rw (v .1) tt
+    | inr v ↦ rw (v .1, seat-other u k (v .0))
+        (marking-moved t p stations (R .heap) (unlinked-rows .heap) (R .tree) (R .queue) (leastSince words) (tailOf (R .queue)) leaf (R .store) has after removals-few
+        (marksIn words) (marksIn words₃) grown (seatAt words u) (t .stations u) (R .marking u k))
+  ]
+
   related : Related words₃ (removedTable t p stations)
   related = record {
     opened = answered .opened ∙ opened₂;
     heap = unlinked-rows .heap;
     tree = after .tree;
     queue = after .queue;
-    reads = λ r k. answer-rows words₂ (t .places) (t .limit) opened₂ s below given r k ∙ unlinked-rows .reads r k;
+    reads = λ r k. answer-rows words₂ (t .places) (t .limit) opened₂ s below given .row r k ∙ unlinked-rows .reads r k;
     store = rw (add-one (t .changes)) store-after;
     counted = counted-after;
     records = subst (λ (x : Point). Same (map recordOf (entriesOf (after .tree))) (without x (t .held))) same (records-unlinked after (t .held) (R .records));
     number = number-unlinked after (t .held) (R .records) (sound .once) (R .number) ∙ ap (λ (x : Point). length (without x (t .held))) same;
     seats = seats-after;
+    covered = after .covers (marksIn words) (marksIn words₃) (R .covered) grown;
+    marking = marking-after;
   }
 
   -- ---- the reply

@@ -24,23 +24,25 @@ use Rattle.table.proofs.Tests.{and-left, and-right}
 use Rattle.table.proofs.Sound.{Sound}
 use Rattle.table.proofs.Taken.{since-enter}
 use Rattle.trees.specs.Row.{Entry}
-use Rattle.trees.specs.Tree.{Tree, entriesOf}
+use Rattle.trees.specs.Tree.{Tree, topOf, entriesOf}
 use Rattle.trees.specs.Queue.{Free}
 use Rattle.trees.specs.Tour.{Best, Progress}
 use Rattle.trees.specs.Choice.{Choice}
 use Rattle.trees.specs.Search.{Found, Search}
+use Rattle.trees.specs.Below.{Marks}
 use Rattle.trees.proofs.ChoiceOf.{choiceOf}
+use Rattle.trees.proofs.MarkLaws.{pass-begin}
 use Rattle.trees.proofs.RouteLaws.{walk-begin}
 use Rattle.trees.proofs.SearchLaws.{search-begin}
 use Rattle.trees.proofs.ShapeLaws.{entries-held}
 use Rattle.steps.specs.Submit.{curveFits, callFor, sinceFor, submittedWords}
-use Rattle.history.specs.View.{Seat, countsAt, placeAt, seatAt}
-use Rattle.history.specs.Related.{kindOf, curveOf, CurveFits, Walks, Searching, Works, Busy, Related}
+use Rattle.history.specs.View.{Seat, countsAt, placeAt, seatAt, marksIn}
+use Rattle.history.specs.Related.{kindOf, curveOf, CurveFits, Walks, Searching, Works, Busy, Marking, Related}
 use Rattle.history.proofs.Effects.{submit-written, submit-rows}
 use Rattle.history.proofs.RelatedLaws.{word-changes, word-root, word-removals, removals-word}
 use Rattle.history.proofs.RelatedRows.{held-ranged}
 use Rattle.history.proofs.HeldLaws.{entries-once}
-use Rattle.history.proofs.SaysLaws.{seat-put-each, says-put, written-removals, written-since, related-written}
+use Rattle.history.proofs.SaysLaws.{seat-put-each, says-put, marking-put, written-removals, written-since, related-written}
 
 -- ---- a search of the same records
 
@@ -102,6 +104,17 @@ module _ {words : List ℕ} {t : Table} (s : ℕ) (p : Point) (c : ℕ) (h : Sou
   begun-busy (suc (suc (suc (suc zero)))) l m f = busy-begun 4 (nearest p) refl refl refl tt search-begun
   begun-busy (suc (suc (suc (suc (suc n))))) l m f = absurd (omega arith)
 
+-- a new add stands at the root, above which there is no cut to mark
+marking-begun : (marks : Marks) (tree : Option Tree) (i kind : ℕ) (p : Point) (c : ℕ) → Marking marks tree (topOf tree) (unfinished i (callOf kind p c) none)
+unfolding callOf
+marking-begun marks tree i kind p c = go (eqb kind 1) (eqb kind 2) (eqb kind 3)
+  where
+    go : (one two three : Bool) → Marking marks tree (topOf tree) (unfinished i (cond one (add p c) (cond two (remove p) (cond three (contains p) (nearest p)))) none)
+    go true two three = pass-begin marks tree p
+    go false true three = tt
+    go false false true = tt
+    go false false false = tt
+
 -- the since word of a new call is no less than the removals
 since-begun : (removals kind : ℕ) → removals ≤ NONE → removals ≤ sinceFor removals kind
 since-begun removals kind l = go (eqb kind 4)
@@ -124,3 +137,5 @@ related-submitted {words} {t} s kind p c h r l k ranged fits =
     rw (written-since w u m) (seat-put-each (λ (y : Seat). leastSince words ≤ y .place .since) (λ v. seatAt words v) s x low u (least-since words u m))))
     (says-put t (enter t s (callOf kind p c)) refl refl (r .tree) (r .queue) (λ u. seatAt words u) (t .stations) (r .seats) s x (unfinished (t .calls) (callOf kind p c) none)
     (begun-busy s p c h r ranged kind (leb-true 1 kind (and-left (leb 1 kind) (leb kind 4) k)) (leb-true kind 4 (and-right (leb 1 kind) (leb kind 4) k)) fits))
+    (marking-put (marksIn words) (r .tree) (λ u. seatAt words u) (t .stations) (r .marking) s x (unfinished (t .calls) (callOf kind p c) none)
+    (rw (word-root r) (marking-begun (marksIn words) (r .tree) (t .calls) kind p c)))

@@ -5,10 +5,12 @@ use mathlib.Core.Path.{_≡_, refl, ap, ap₂, _∙_}
 use mathlib.Core.Bool.{Bool, true, false, cond, _&&_}
 use mathlib.Core.List.{List, [], List·Memᴰ}
 use native.Mathlib.Omega.{arith}
-use borrow.Author.Tests.{ltb-true}
+use borrow.Author.Tests.{ltb-true, leb-true}
 use lib.Dec.{eqb, leb, ltb}
 use lib.ListN.{length}
+use Rattle.points.specs.Word.{NONE}
 use Rattle.rows.specs.Layout.{atPlaces, atChanges}
+use Rattle.rows.specs.Words.{get}
 use Rattle.rows.specs.Row.{rowAt}
 use Rattle.rows.specs.Common.{openedIn, commonSound}
 use Rattle.rows.specs.Station.{isUnfinished, stateAt}
@@ -17,6 +19,7 @@ use Rattle.rows.proofs.CommonLaws.{commonSound-agree}
 use Rattle.rows.proofs.RecordLaws.{stateAt-agree, callAt-agree}
 use Rattle.moves.specs.Reply.{Reply, isOpened, rowsIn}
 use Rattle.moves.specs.Link.{isCut}
+use Rattle.moves.specs.Search.{progressAt}
 use Rattle.moves.specs.Walk.{codeAt, standsAt}
 use Rattle.steps.specs.Step.{recordsSound, workOf, askUnfinished, stepOf}
 use Rattle.steps.specs.Withdraw.{withdrawnAnswer, withdrawOf}
@@ -39,7 +42,7 @@ step-rows v s =
     let call = callAt v s in
     let row = rowAt v (rowsIn v) (standsAt v s) in
     let needed = pickRows (eqb (call .kind) 4) (searchRows v (rowsIn v) s call) (walkRows v (rowsIn v) s call) in
-    let few : length needed ≤ 6 = pick-few (eqb (call .kind) 4) _ _ (omega arith)
+    let few : length needed ≤ 6 = pick-few (eqb (call .kind) 4) _ _ (pick-few (eqb (progressAt v s call .missed) NONE) _ _ (omega arith) (omega arith))
     (pick-few (isCut row) _ _ (omega arith)
     (pick-few (eqb (codeAt v call row) 1) _ _ (omega arith) (pick-few (eqb (codeAt v call row) 5) _ _ (omega arith) (omega arith))))
     in
@@ -71,6 +74,15 @@ module _ {v w : List ℕ} {s : ℕ} {rows : List ℕ} (a : AgreeOn v w s rows) w
       (λ l. alike-ask a (isUnfinished (stateAt v s)) (isUnfinished (stateAt w s)) 10 (ap isUnfinished (stateAt-agree s (a .station)))
       (λ u. alike-ask a (recordsSound v s) (recordsSound w s) 11 sound-same (λ r. x (ltb-true s 8 l)))))
 
+-- no row has the number of none
+rows-few : (v : List ℕ) → rowsIn v ≤ NONE
+unfolding rowsIn
+rows-few v = go (leb (get v atPlaces) 4096) refl
+  where
+    go : (b : Bool) → leb (get v atPlaces) 4096 ≡ b → cond b (2 * get v atPlaces) 0 ≤ NONE
+    go true e = omega (arith, leb-true (get v atPlaces) 4096 e)
+    go false e = omega arith
+
 -- ---- one step
 
 work-alike : {v w : List ℕ} {s : ℕ} → s < 8 → AgreeOn v w s (stepRows v s)
@@ -78,7 +90,7 @@ work-alike : {v w : List ℕ} {s : ℕ} → s < 8 → AgreeOn v w s (stepRows v 
 unfolding stepRows
 work-alike {v} {w} {s} h a =
     rw (← rows-same a, ← callAt-agree s (a .station))
-    (alike-rows (rowsIn v) (eqb (callAt v s .kind) 4) _ _ a (search-alike h (rowsIn v) (callAt v s)) (walk-alike h (rowsIn v) (callAt v s)))
+    (alike-rows (rowsIn v) (eqb (callAt v s .kind) 4) _ _ a (search-alike h (rowsIn v) (callAt v s)) (walk-alike h (rowsIn v) (rows-few v) (callAt v s)))
 
 step-alike : {v w : List ℕ} {s : ℕ} → AgreeOn v w s (stepRows v s) → Alike v w (stepOf v s) (stepOf w s) s (stepRows v s)
 unfolding stepOf

@@ -16,12 +16,12 @@ use Rattle.rows.specs.Words.{get}
 use Rattle.rows.specs.Row.{rowAt}
 use Rattle.rows.proofs.RowLaws.{rowAt-outside}
 use Rattle.moves.specs.declared.insert.Room.{Room}
-use Rattle.moves.specs.Link.{nextOf, parentOf, linksTo, isLeaf, withParent, replaced}
+use Rattle.moves.specs.Link.{nextOf, parentOf, linksTo, isLeaf, withParent, replaced, leafPoint}
 use Rattle.moves.specs.Reply.{more}
-use Rattle.moves.specs.Insert.{roomAt, roomSound, insertRows, insertRoot, insertCounts, cursorsMoved, insertWords, insertTo, insertOf}
+use Rattle.moves.specs.Insert.{roomAt, roomSound, newSide, putCut, insertRows, insertRoot, insertCounts, cursorsMoved, insertWords, insertTo, insertOf}
 use Rattle.history.specs.Touch.{AgreeOn, Leaves, roomRows, rowsBelow}
 use Rattle.history.proofs.TouchLaws.{get-same, leaves-nothing, leaves-put}
-use Rattle.history.proofs.TouchRows.{the-first, the-second, the-third, the-fourth, row-alike, leaves-below, none-idle, bad-idle}
+use Rattle.history.proofs.TouchRows.{the-first, the-second, the-third, the-fourth, row-alike, leaves-below, leaves-begun, none-idle, bad-idle}
 use Rattle.history.proofs.TouchReply.{Alike, alike-done, alike-ask, leaves-answered}
 
 -- ---- what is read
@@ -104,13 +104,16 @@ module _ {v w v′ w′ : List ℕ} {s : ℕ} {rows : List ℕ} (l : Leaves v w 
 insert-rows-leaves : {v w v′ w′ : List ℕ} {s : ℕ} (rows : ℕ) (room : Room) → InRoom rows room → roomSound room ≡ true
     → Leaves v w v′ w′ s (rowsBelow rows (roomRows room)) → (added : ℕ) (point : Point) (curve : ℕ)
     → Leaves v w (insertRows v′ room added point curve) (insertRows w′ room added point curve) s (rowsBelow rows (roomRows room))
-unfolding insertRows
+unfolding insertRows putCut
 insert-rows-leaves rows room inside sound l added point curve =
+    let alone : rows ≤ room .second → room .second ≡ NONE = λ h. inside .alone (spare-there room sound (inside .spare h)) in
     leaves-below rows
     (leaves-below rows
+    (leaves-begun rows
     (leaves-below rows
     (leaves-below rows l (room .first) _ the-second (λ h. absurd (fresh-there room sound (inside .fresh h))))
-    (room .second) _ the-third (λ h. none-idle (inside .alone (spare-there room sound (inside .spare h))) _))
+    (room .second) _ the-third (λ h. none-idle (alone h) _))
+    (room .second) (newSide room point) point (leafPoint (room .leaf)) the-third alone)
     (room .at) _ the-first (λ h. bad-idle (ap (withParent (room .second)) (inside .leaf h)) (room .at)))
     (room .over) _ the-fourth (λ h. bad-idle (ap (replaced (room .at) (room .second)) (inside .above h)) (room .over))
 

@@ -1,6 +1,7 @@
 -- What is read alike in two slices that agree, and what single writes leave (`Leaves`): the parts of which the theorems on touching are made.
 use Prim.Native.Nat.{ℕ, _<_}
 use mathlib.Core.Path.{_≡_, refl, _∙_}
+use mathlib.Core.Bool.{Bool}
 use mathlib.Core.List.{List, List·Memᴰ}
 use native.Mathlib.Omega.{arith}
 use Rattle.rows.specs.declared.row.Row.{Row}
@@ -11,12 +12,14 @@ use Rattle.rows.specs.declared.answer.Answer.{Answer}
 use Rattle.rows.specs.Words.{get, put}
 use Rattle.rows.specs.Agree.{Agree, Region, inCommon, inStation, inRow, OnlyIn}
 use Rattle.rows.specs.Row.{rowAt, putRow}
+use Rattle.rows.specs.Grades.{admits, markToward, beginGrades}
 use Rattle.rows.specs.Common.{openedIn}
 use Rattle.rows.specs.Station.{putState, putPlace, putSince, putMissed}
 use Rattle.rows.specs.Call.{putBest, putCall}
 use Rattle.rows.specs.Answer.{putAnswer}
 use Rattle.rows.proofs.AgreeLaws.{put-agree}
 use Rattle.rows.proofs.RowLaws.{putRow-only, putRow-agree, rowAt-agree}
+use Rattle.rows.proofs.GradeLaws.{admits-agree, toward-only, toward-agree, begin-only, begin-agree}
 use Rattle.rows.proofs.OpeningLaws.{openedIn-agree}
 use Rattle.rows.proofs.StationLaws.{putState-only, putState-agree, putBest-only, putBest-agree, putCall-only, putCall-agree, putAnswer-only, putAnswer-agree, putPlace-only, putPlace-agree, putSince-only, putSince-agree, putMissed-only, putMissed-agree, put-common}
 use Rattle.history.specs.Touch.{AgreeOn, KeepsOthers, Leaves}
@@ -32,6 +35,9 @@ module _ {v w : List ℕ} {s : ℕ} {rows : List ℕ} (a : AgreeOn v w s rows) w
 
   pub row-same : (count r : ℕ) → List·Memᴰ r rows → rowAt v count r ≡ rowAt w count r
   row-same count r m = rowAt-agree count r (a .row r m)
+
+  pub admits-same : (r : ℕ) (side : Bool) (k : ℕ) → k < 128 → List·Memᴰ r rows → admits v r side k ≡ admits w r side k
+  admits-same r side k h m = admits-agree r side k h (a .row r m)
 
 -- ---- writes
 
@@ -89,3 +95,11 @@ module _ {v w v′ w′ : List ℕ} {s : ℕ} {rows : List ℕ} (l : Leaves v w 
 
   pub leaves-row : (r : ℕ) (x : Row) → List·Memᴰ r rows → Leaves v w (putRow v′ r x) (putRow w′ r x) s rows
   leaves-row r x m = more-leaves (inRow r) (a-row m) (λ i n a. putRow-agree a r x) (putRow-only v′ r x) (putRow-only w′ r x) l
+
+  -- the marks of a row
+  pub leaves-toward : (r to k : ℕ) → k < 128 → List·Memᴰ r rows → Leaves v w (markToward v′ r to k) (markToward w′ r to k) s rows
+  leaves-toward r to k h m = more-leaves (inRow r) (a-row m) (λ i n a. toward-agree a r to k h (l .agree .row r m)) (toward-only v′ r to k h) (toward-only w′ r to k h) l
+
+  pub leaves-begin : (r : ℕ) (left : Bool) (here there : ℕ) → here < 128 → there < 128 → List·Memᴰ r rows → Leaves v w (beginGrades v′ r left here there) (beginGrades w′ r left here there) s rows
+  leaves-begin r left here there h h′ m =
+      more-leaves (inRow r) (a-row m) (λ i n a. begin-agree a r left here there h h′ (l .agree .row r m)) (begin-only v′ r left here there h h′) (begin-only w′ r left here there h h′) l

@@ -10,13 +10,17 @@ use native.Mathlib.Decide.{decLt}
 use borrow.Author.Tests.{ltb-true, lt-ltb}
 use lib.Dec.{ltb}
 use lib.ListN.{length}
+use Rattle.points.specs.declared.point.Point.{Point}
 use Rattle.points.specs.Word.{NONE}
 use Rattle.rows.specs.declared.row.Row.{Row}
 use Rattle.rows.specs.declared.row.Row.the-variants.{Bad}
 use Rattle.rows.specs.Row.{rowAt, putRow}
+use Rattle.rows.specs.Grades.{slotOf, markToward, beginGrades}
 use Rattle.rows.proofs.RowLaws.{rowAt-outside, putRow-bad, putRow-none}
+use Rattle.rows.proofs.GradeLaws.{begin-outside}
 use Rattle.history.specs.Touch.{AgreeOn, Leaves, pickRows, rowsBelow}
-use Rattle.history.proofs.TouchLaws.{row-same, leaves-row}
+use Rattle.history.proofs.Frame.{slot-fits}
+use Rattle.history.proofs.TouchLaws.{row-same, leaves-row, leaves-toward, leaves-begin}
 
 -- ---- the places in a list
 
@@ -96,6 +100,22 @@ module _ {v w : List ℕ} {s : ℕ} (count : ℕ) where
       go : Dec (r < count) → Leaves v w (putRow v′ r x) (putRow w′ r x) s (rowsBelow count list)
       go (yes h) = leaves-row l r x (below-has count h m)
       go (no n) = rw (idle (omega arith) v′, idle (omega arith) w′) l
+
+  -- a row below the number of rows is marked
+  pub leaves-marked : {v′ w′ list : List ℕ} → Leaves v w v′ w′ s (rowsBelow count list) → (r to : ℕ) (p : Point) → List·Memᴰ r list → r < count
+      → Leaves v w (markToward v′ r to (slotOf p)) (markToward w′ r to (slotOf p)) s (rowsBelow count list)
+  leaves-marked l r to p m h = leaves-toward l r to (slotOf p) (slot-fits p) (below-has count h m)
+
+  -- a new cut gets its grades: it is among the rows, or nothing is written
+  pub leaves-begun : {v′ w′ list : List ℕ} → Leaves v w v′ w′ s (rowsBelow count list) → (r : ℕ) (left : Bool) (p q : Point) → List·Memᴰ r list → (count ≤ r → r ≡ NONE)
+      → Leaves v w (beginGrades v′ r left (slotOf p) (slotOf q)) (beginGrades w′ r left (slotOf p) (slotOf q)) s (rowsBelow count list)
+  leaves-begun {v′} {w′} {list} l r left p q m idle = go (decLt r count)
+    where
+      go : Dec (r < count) → Leaves v w (beginGrades v′ r left (slotOf p) (slotOf q)) (beginGrades w′ r left (slotOf p) (slotOf q)) s (rowsBelow count list)
+      go (yes h) = leaves-begin l r left (slotOf p) (slotOf q) (slot-fits p) (slot-fits q) (below-has count h m)
+      go (no n) =
+          let none : r ≡ NONE = idle (omega arith) in
+          rw (begin-outside v′ r left (slotOf p) (slotOf q) (omega (arith, none)), begin-outside w′ r left (slotOf p) (slotOf q) (omega (arith, none))) l
 
 -- nothing is written at none, and `Bad` nowhere
 pub none-idle : {r : ℕ} → r ≡ NONE → (x : Row) (u : List ℕ) → putRow u r x ≡ u

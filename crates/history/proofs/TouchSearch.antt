@@ -1,21 +1,32 @@
 -- What a step of a nearest touches: at most six rows beside the two records (`search-alike`).
-use Prim.Native.Nat.{ℕ, _<_}
-use mathlib.Core.Path.{_≡_, refl, ap, _∙_}
-use mathlib.Core.Bool.{Bool, true, false}
-use mathlib.Core.List.{List, List·Memᴰ}
+use Prim.Native.Nat.{ℕ, suc, _<_}
+use mathlib.Core.Path.{_≡_, refl, sym, ap, _∙_}
+use mathlib.Core.Bool.{Bool, true, false, cond, not, false≢true}
+use mathlib.Core.List.{List, [], _∷_, List·Memᴰ}
+use native.Mathlib.Decide.{decLt}
 use native.Mathlib.Omega.{arith}
+use borrow.Author.Tests.{eq-eqb, eqb-true}
 use lib.Dec.{eqb}
+use Rattle.points.specs.declared.cut.Cut.{Cut as PointCut}
+use Rattle.points.specs.Cut.{goesLeft}
+use Rattle.points.specs.Choice.{excluded}
 use Rattle.points.specs.Word.{NONE}
+use Rattle.rows.specs.declared.row.Row.{Row}
+use Rattle.rows.specs.declared.row.Row.the-variants.{Bad, Spare, Removed, Leaf, Cut}
+use Rattle.rows.specs.declared.call.Best.{Best}
 use Rattle.rows.specs.declared.call.Call.{Call}
 use Rattle.rows.specs.Layout.{atCursor, atPhase, atMissed}
 use Rattle.rows.specs.Row.{rowAt}
+use Rattle.rows.specs.Grades.{slotOf, admits}
+use Rattle.rows.proofs.RowLaws.{rowAt-outside}
 use Rattle.moves.specs.declared.search.Progress.{Progress}
 use Rattle.moves.specs.Link.{nextOf, parentOf, isTree}
-use Rattle.moves.specs.Search.{pickProgress, onward, unsound, lookAt, look, tourDown, tourAbove, tour, seek, progressAt, isFinished, foundAnswer, keptWords, pickWords, searchWords, searchTo, searchOf}
+use Rattle.moves.specs.Search.{pickProgress, onward, unsound, lookAt, look, bestSquare, farShut, tourDown, fromNear, fromChild, tourAbove, tourUp, tour, toured, seek, progressAt, isFinished, foundAnswer, keptWords, pickWords, searchWords, searchTo, searchOf}
 use Rattle.moves.specs.Answer.{answeredWords}
-use Rattle.history.specs.Touch.{AgreeOn, Leaves, searchRows, rowsBelow}
-use Rattle.history.proofs.TouchLaws.{get-same, leaves-nothing, leaves-best, leaves-place, leaves-missed}
-use Rattle.history.proofs.TouchRows.{the-first, the-second, the-third, the-fourth, the-fifth, the-sixth, row-alike}
+use Rattle.history.specs.Touch.{AgreeOn, Leaves, pickRows, lookRows, tourRows, newRow, searchRows, rowsBelow}
+use Rattle.history.proofs.Frame.{slot-fits}
+use Rattle.history.proofs.TouchLaws.{get-same, admits-same, leaves-nothing, leaves-best, leaves-place, leaves-missed}
+use Rattle.history.proofs.TouchRows.{the-first, the-second, the-third, the-fourth, the-fifth, the-sixth, below-has, row-alike}
 use Rattle.history.proofs.TouchReply.{Alike, alike-done, alike-ask, leaves-answered}
 
 -- ---- what is read
@@ -40,28 +51,216 @@ look-same count a call p m n =
     let after = row-alike count a _ _ n (ap nextOf row) in
     λ i. pickProgress (eqb (p .missed) NONE) p (lookAt call p (row i) (after i))
 
--- the row of the cursor and the row above it
-tour-same : {v w list : List ℕ} {s : ℕ} (count : ℕ) → AgreeOn v w s (rowsBelow count list) → (call : Call) (p : Progress)
-    → List·Memᴰ (p .cursor) list → List·Memᴰ (parentOf (rowAt v count (p .cursor))) list → tour v count call p ≡ tour w count call p
-unfolding tour
-tour-same count a call p m n =
-    let row = row-alike count a _ _ m refl in
-    let above = row-alike count a _ _ n (ap parentOf row) in
-    λ i. pickProgress (eqb (p .cursor) NONE) p
-    (pickProgress (eqb (p .phase) 0) (tourDown call p (row i))
-    (pickProgress (isTree (row i))
-    (pickProgress (eqb (parentOf (row i)) NONE) (onward p NONE 1 (p .best)) (tourAbove call p (parentOf (row i)) (above i)))
-    (unsound p)))
+-- where nothing was missed no row is looked at
+look-none : (v : List ℕ) (count : ℕ) (call : Call) (p : Progress) → eqb (p .missed) NONE ≡ true → look v count call p ≡ p
+unfolding look
+look-none v count call p e = rw e
 
--- look, tour, tour
+-- ---- one tour
+
+-- what a tour reads is in the list
+data Known (words : List ℕ) (count : ℕ) (list : List ℕ) (p : Progress) : Type 0 where
+  is-over : p .cursor ≡ NONE → Known words count list p
+  goes-down : p .phase ≡ 0 → List·Memᴰ (p .cursor) list → Known words count list p
+  goes-up : List·Memᴰ (p .cursor) list → List·Memᴰ (parentOf (rowAt words count (p .cursor))) list → Known words count list p
+
+-- the moves at a row, from slices that admit the same there
+module _ (v w : List ℕ) (slot : ℕ) (call : Call) (p : Progress) (x : ℕ) (same : (side : Bool) → admits v x side slot ≡ admits w x side slot) where
+  shut-same : (best : Best) (cut : PointCut) (goes : Bool) → farShut v slot call best x cut goes ≡ farShut w slot call best x cut goes
+  shut-same best cut goes = ap (λ b. cond b (excluded cut (call .point) (bestSquare (call .point) best)) true) (same (not goes))
+
+  down-same : x ≡ p .cursor → (row : Row) → tourDown v slot call p row ≡ tourDown w slot call p row
+  down-same e Bad = refl
+  down-same e (Spare next freed) = refl
+  down-same e (Removed next freed added point curve) = refl
+  down-same e (Leaf parent added point curve) = refl
+  down-same e (Cut parent cut left right) =
+      let goes = goesLeft cut (call .point) in
+      rw (← e) (λ i. pickProgress (same goes i) (onward p (cond goes left right) 0 (p .best))
+      (pickProgress (shut-same (p .best) cut goes i) (onward p x 1 (p .best)) (onward p (cond goes right left) 0 (p .best))))
+
+  above-same : (row : Row) → tourAbove v slot call p x row ≡ tourAbove w slot call p x row
+  above-same Bad = refl
+  above-same (Spare next freed) = refl
+  above-same (Removed next freed added point curve) = refl
+  above-same (Leaf parent added point curve) = refl
+  above-same (Cut parent cut left right) =
+      let goes = goesLeft cut (call .point) in
+      λ i. fromChild p x (cond goes left right) (cond goes right left) (shut-same (p .best) cut goes i)
+
+module _ {v w list : List ℕ} {s : ℕ} (count slot : ℕ) (fits : slot < 128) (a : AgreeOn v w s (rowsBelow count list)) (call : Call) (p : Progress) where
+  -- at a row of the index that is in the list; at any other there is no row
+  down-alike : List·Memᴰ (p .cursor) list → tourDown v slot call p (rowAt v count (p .cursor)) ≡ tourDown w slot call p (rowAt w count (p .cursor))
+  down-alike m = go (decLt (p .cursor) count)
+    where
+      go : Dec (p .cursor < count) → tourDown v slot call p (rowAt v count (p .cursor)) ≡ tourDown w slot call p (rowAt w count (p .cursor))
+      go (yes h) =
+          down-same v w slot call p (p .cursor) (λ side. admits-same a (p .cursor) side slot fits (below-has count h m)) refl (rowAt v count (p .cursor))
+          ∙ ap (tourDown w slot call p) (row-alike count a (p .cursor) (p .cursor) m refl)
+      go (no n) = rw (rowAt-outside v count (p .cursor) (omega arith), rowAt-outside w count (p .cursor) (omega arith))
+
+  above-alike : (x y : ℕ) → List·Memᴰ x list → x ≡ y → tourAbove v slot call p x (rowAt v count x) ≡ tourAbove w slot call p y (rowAt w count y)
+  above-alike x y m e = go (decLt x count) ∙ ap (λ z. tourAbove w slot call p z (rowAt w count z)) e
+    where
+      go : Dec (x < count) → tourAbove v slot call p x (rowAt v count x) ≡ tourAbove w slot call p x (rowAt w count x)
+      go (yes h) = above-same v w slot call p x (λ side. admits-same a x side slot fits (below-has count h m)) (rowAt v count x) ∙ ap (tourAbove w slot call p x) (row-alike count a x x m refl)
+      go (no n) = rw (rowAt-outside v count x (omega arith), rowAt-outside w count x (omega arith))
+
+  tour-same : Known v count list p → tour v count slot call p ≡ tour w count slot call p
+  unfolding tour
+  tour-same (is-over e) = rw (eq-eqb (p .cursor) NONE e)
+  tour-same (goes-down e m) = rw (eq-eqb (p .phase) 0 e) (ap (pickProgress (eqb (p .cursor) NONE) p) (down-alike m))
+  tour-same (goes-up m n) =
+      let row = row-alike count a (p .cursor) (p .cursor) m refl in
+      let down = down-alike m in
+      let above = above-alike (parentOf (rowAt v count (p .cursor))) (parentOf (rowAt w count (p .cursor))) n (ap parentOf row) in
+      λ i. pickProgress (eqb (p .cursor) NONE) p
+      (pickProgress (eqb (p .phase) 0) (down i)
+      (pickProgress (isTree (row i)) (pickProgress (eqb (parentOf (row i)) NONE) (onward p NONE 1 (p .best)) (above i)) (unsound p)))
+
+-- after a tour: a search that goes up stands on a row that was read
+data Later (list : List ℕ) (p : Progress) : Type 0 where
+  has-gone : p .cursor ≡ NONE → Later list p
+  descends : p .phase ≡ 0 → Later list p
+  seen : List·Memᴰ (p .cursor) list → Later list p
+
+module _ {list : List ℕ} (words : List ℕ) (count slot : ℕ) (call : Call) (p : Progress) where
+  cut-later : (near far : ℕ) (wide shut : Bool) → List·Memᴰ (p .cursor) list
+      → Later list (pickProgress wide (onward p near 0 (p .best)) (pickProgress shut (onward p (p .cursor) 1 (p .best)) (onward p far 0 (p .best))))
+  cut-later near far true shut m = descends refl
+  cut-later near far false true m = seen m
+  cut-later near far false false m = descends refl
+
+  down-later : (row : Row) → List·Memᴰ (p .cursor) list → Later list (tourDown words slot call p row)
+  down-later Bad m = seen m
+  down-later (Spare next freed) m = seen m
+  down-later (Removed next freed added point curve) m = seen m
+  down-later (Leaf parent added point curve) m = seen m
+  down-later (Cut parent cut left right) m =
+      let goes = goesLeft cut (call .point) in
+      cut-later (cond goes left right) (cond goes right left) (admits words (p .cursor) goes slot) (farShut words slot call (p .best) (p .cursor) cut goes) m
+
+  child-later : (above far : ℕ) (near over shut : Bool) → List·Memᴰ (p .cursor) list → List·Memᴰ above list
+      → Later list (pickProgress near (fromNear p above far shut) (pickProgress over (onward p above 1 (p .best)) (unsound p)))
+  child-later above far true over true m n = seen n
+  child-later above far true over false m n = descends refl
+  child-later above far false true shut m n = seen n
+  child-later above far false false shut m n = seen m
+
+  above-later : (above : ℕ) (row : Row) → List·Memᴰ (p .cursor) list → List·Memᴰ above list → Later list (tourAbove words slot call p above row)
+  above-later above Bad m n = seen m
+  above-later above (Spare next freed) m n = seen m
+  above-later above (Removed next freed added point curve) m n = seen m
+  above-later above (Leaf parent added point curve) m n = seen m
+  above-later above (Cut parent cut left right) m n =
+      let goes = goesLeft cut (call .point) in
+      child-later above (cond goes right left) (eqb (cond goes left right) (p .cursor)) (eqb (cond goes right left) (p .cursor)) (farShut words slot call (p .best) above cut goes) m n
+
+  up-later : (row : Row) → List·Memᴰ (p .cursor) list → List·Memᴰ (parentOf row) list → Later list (tourUp words count slot call p row)
+  up-later row m n = go (isTree row) (eqb (parentOf row) NONE)
+    where
+      go : (b d : Bool)
+          → Later list (pickProgress b (pickProgress d (onward p NONE 1 (p .best)) (tourAbove words slot call p (parentOf row) (rowAt words count (parentOf row)))) (unsound p))
+      go true true = has-gone refl
+      go true false = above-later (parentOf row) (rowAt words count (parentOf row)) m n
+      go false d = seen m
+
+  either-later : (b d : Bool) {x y : Progress} → Later list p → Later list x → Later list y → Later list (pickProgress b p (pickProgress d x y))
+  either-later true d l x y = l
+  either-later false true l x y = x
+  either-later false false l x y = y
+
+  tour-later : Known words count list p → Later list (tour words count slot call p)
+  unfolding tour
+  tour-later (is-over e) = rw (eq-eqb (p .cursor) NONE e) (has-gone e)
+  tour-later (goes-down e m) =
+      rw (eq-eqb (p .phase) 0 e)
+      (either-later (eqb (p .cursor) NONE) true {x = tourDown words slot call p (rowAt words count (p .cursor))} {y = p} (seen m)
+      (down-later (rowAt words count (p .cursor)) m) (seen m))
+  tour-later (goes-up m n) =
+      let row = rowAt words count (p .cursor) in
+      either-later (eqb (p .cursor) NONE) (eqb (p .phase) 0) {x = tourDown words slot call p row} {y = tourUp words count slot call p row} (seen m) (down-later row m) (up-later row m n)
+
+-- so a later tour needs one row more
+later-known : {list words : List ℕ} {count : ℕ} {p : Progress} → Later list p → List·Memᴰ (newRow words count p) list → Known words count list p
+later-known (has-gone e) m = is-over e
+later-known {list} {words} {count} {p} (descends e) m = go (eqb (p .phase) 0) (eq-eqb (p .phase) 0 e) m
+  where
+    go : (b : Bool) → b ≡ true → List·Memᴰ (cond b (p .cursor) (parentOf (rowAt words count (p .cursor)))) list → Known words count list p
+    go true f n = goes-down e n
+    go false f n = absurd (false≢true f)
+later-known {list} {words} {count} {p} (seen n) m = go (eqb (p .phase) 0) refl m
+  where
+    go : (b : Bool) → eqb (p .phase) 0 ≡ b → List·Memᴰ (cond b (p .cursor) (parentOf (rowAt words count (p .cursor)))) list → Known words count list p
+    go true f o = goes-down (eqb-true (p .phase) 0 f) o
+    go false f o = goes-up n o
+
+-- ---- so many tours
+
+none-same : (v w : List ℕ) (count slot : ℕ) (call : Call) (p : Progress) → toured v count slot call 0 p ≡ toured w count slot call 0 p
+unfolding toured
+none-same v w count slot call p = refl
+
+-- after so many of a call
+abbrev after : ℕ → Call → Progress → List ℕ → ℕ → Progress
+after count call p words n = toured words count (slotOf (call .point)) call n p
+
+-- one tour more
+module _ {v w list : List ℕ} {s : ℕ} (count : ℕ) (a : AgreeOn v w s (rowsBelow count list)) (call : Call) (p : Progress) where
+  more-known : (n : ℕ) → Known v count list (after count call p v n) → List·Memᴰ (newRow v count (after count call p v (suc n))) list → Known v count list (after count call p v (suc n))
+  unfolding toured
+  more-known n k m = later-known (tour-later v count (slotOf (call .point)) call (after count call p v n) k) m
+
+  more-same : (n : ℕ) → Known v count list (after count call p v n) → after count call p v n ≡ after count call p w n → after count call p v (suc n) ≡ after count call p w (suc n)
+  unfolding toured
+  more-same n k e = tour-same count (slotOf (call .point)) (slot-fits (call .point)) a call (after count call p v n) k ∙ ap (tour w count (slotOf (call .point)) call) e
+
+  -- the first tour, from a row in the list whose parent is there too
+  none-known : List·Memᴰ (p .cursor) list → List·Memᴰ (parentOf (rowAt v count (p .cursor))) list → Known v count list (after count call p v 0)
+  unfolding toured
+  none-known m n = goes-up m n
+
+-- five tours, or a look and three
 seek-same : {v w : List ℕ} {s : ℕ} (count : ℕ) (call : Call) → AgreeOn v w s (rowsBelow count (searchRows v count s call))
     → seek v count call (progressAt v s call) ≡ seek w count call (progressAt v s call)
 unfolding seek
-seek-same {v} {w} {s} count call a =
-    let begun = progressAt v s call in
-    let looked = look-same count a call begun the-first the-second in
-    let toured = tour-same count a call (look v count call begun) the-third the-fourth ∙ ap (tour w count call) looked in
-    tour-same count a call (tour v count call (look v count call begun)) the-fifth the-sixth ∙ ap (tour w count call) toured
+seek-same {v} {w} {s} count call a = go (eqb (begun .missed) NONE) refl a
+  where
+    slot : ℕ
+    slot = slotOf (call .point)
+
+    begun : Progress
+    begun = progressAt v s call
+
+    looked : Progress
+    looked = look v count call begun
+
+    fresh : ℕ → ℕ
+    fresh n = newRow v count (toured v count slot call n looked)
+
+    go : (b : Bool) → eqb (begun .missed) NONE ≡ b
+        → AgreeOn v w s
+        (rowsBelow count
+        (pickRows b (tourRows v count looked (fresh 1 ∷ (fresh 2 ∷ (fresh 3 ∷ (fresh 4 ∷ []))))) (lookRows v count begun (tourRows v count looked (fresh 1 ∷ (fresh 2 ∷ []))))))
+        → toured v count slot call (cond b 5 3) (look v count call begun) ≡ toured w count slot call (cond b 5 3) (look w count call begun)
+    go true e g =
+        let k0 = none-known count g call looked the-first the-second in
+        let k1 = more-known count g call looked 0 k0 the-third in
+        let k2 = more-known count g call looked 1 k1 the-fourth in
+        let k3 = more-known count g call looked 2 k2 the-fifth in
+        let k4 = more-known count g call looked 3 k3 the-sixth in
+        let e1 = more-same count g call looked 0 k0 (none-same v w count slot call looked) in
+        let e2 = more-same count g call looked 1 k1 e1 in
+        let e3 = more-same count g call looked 2 k2 e2 in
+        let e4 = more-same count g call looked 3 k3 e3 in
+        more-same count g call looked 4 k4 e4 ∙ ap (toured w count slot call 5) (look-none v count call begun e ∙ sym (look-none w count call begun e))
+    go false e g =
+        let k0 = none-known count g call looked the-third the-fourth in
+        let k1 = more-known count g call looked 0 k0 the-fifth in
+        let k2 = more-known count g call looked 1 k1 the-sixth in
+        let e1 = more-same count g call looked 0 k0 (none-same v w count slot call looked) in
+        let e2 = more-same count g call looked 1 k1 e1 in
+        more-same count g call looked 2 k2 e2 ∙ ap (toured w count slot call 3) (look-same count g call begun the-first the-second)
 
 -- ---- what is written
 

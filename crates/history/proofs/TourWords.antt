@@ -1,5 +1,5 @@
 -- `tour` over words is `tour` over the rows that they read as (`tour-words`).
-use Prim.Native.Nat.{ℕ, _<_}
+use Prim.Native.Nat.{ℕ, _≤_, _<_}
 use mathlib.Core.Path.{_≡_, refl, sym, _∙_}
 use mathlib.Core.Logic.{_⊎_, inl, inr}
 use mathlib.Core.Bool.{Bool, true, false, cond, _&&_}
@@ -10,20 +10,20 @@ use lib.Dec.{eqb, ltb}
 use borrow.Author.Tests.{eqb-false}
 use Rattle.points.specs.declared.cut.Cut.{Cut}
 use Rattle.points.specs.Cut.{goesLeft}
-use Rattle.points.specs.Choice.{excluded}
 use Rattle.points.specs.Word.{NONE, cutInRange}
 use Rattle.points.proofs.Tests.{and-l}
+use Rattle.rows.specs.declared.call.Best.{Best as WordBest}
 use Rattle.rows.specs.declared.call.Call.{Call}
 use Rattle.rows.specs.Range.{linkIn}
 use Rattle.rows.specs.Row.{rowAt, inRows}
+use Rattle.rows.specs.Grades.{admits}
 use Rattle.trees.specs.Row.{Row, spareRow, removedRow, leafRow, cutRow, Heap}
-use Rattle.trees.specs.Choice.{bestSquare}
-use Rattle.trees.specs.Tour.{pointOf, considered, pickProgress, goTo, tourDown, tourParent, tourAbove, tourUp, tourRow, tour}
+use Rattle.trees.specs.Tour.{considered, pickProgress, goTo, Opens, shut, tourDown, tourParent, tourAbove, tourUp, tourRow, tour}
 use Rattle.trees.specs.Stand.{Down, Up}
 use Rattle.trees.proofs.ChoiceOf.{choiceOf}
 use Rattle.moves.specs.declared.search.Progress.{Progress as WordProgress}
-use Rattle.moves.specs.Search.{considered as consideredWord, onward, unsound, pickProgress as pickWordProgress, fromNear, tourDown as tourWordDown, tourAbove as tourWordParent, tourUp as tourWordUp, tour as tourWord}
-use Rattle.history.specs.View.{wordRow, Reads, phaseOf, bestOf}
+use Rattle.moves.specs.Search.{considered as consideredWord, onward, unsound, pickProgress as pickWordProgress, farShut, fromNear, tourDown as tourWordDown, tourAbove as tourWordParent, tourUp as tourWordUp, tour as tourWord}
+use Rattle.history.specs.View.{wordRow, Reads, phaseOf, bestOf, opensIn}
 use Rattle.history.proofs.Effects.{reads-in}
 use Rattle.rows.proofs.RowLaws.{in-rows-cut}
 use Rattle.rows.proofs.RangeLaws.{link-tells}
@@ -37,73 +37,94 @@ cut-link rows parent k l r i =
     let b = cutInRange k in
     and-l a b (and-l (a && b) (ltb l rows) (and-l ((a && b) && ltb l rows) (ltb r rows) (sym (in-rows-cut rows parent k l r) ∙ i)))
 
-module _ (words : List ℕ) (rows : ℕ) (h : Heap) (reads : Reads words rows h) (call : Call) where
+module _ (words : List ℕ) (rows : ℕ) (h : Heap) (reads : Reads words rows h) (call : Call) (slot : ℕ) where
+  abbrev opens : Opens
+  opens = opensIn words slot
+
+  -- the far side of a cut is shut for the words and for the rows alike
+  shut-words : (k : Cut) (x : ℕ) (best : WordBest) → farShut words slot call best x k (goesLeft k (call .point)) ≡ shut (choiceOf (call .point)) opens k x (bestOf best)
+  shut-words k x best = rw (square-words (call .point) best)
+
+  -- to a row in a phase, with the same best
+  goes : (p : WordProgress) → Fit p → (x n : ℕ) → n ≤ 1 → Keeps (onward p x n (p .best)) (goTo x (phaseOf n) (p .missed) (bestOf (p .best)))
+  goes p f x n l = keeps-onward p x n (p .best) (bestOf (p .best)) f l (f .best) refl
+
   -- phase down
   tour-down : (x : Row) (p : WordProgress) → Fit p → inRows rows (wordRow x) ≡ true
-      → Keeps (tourWordDown call p (wordRow x)) (tourDown (choiceOf (call .point)) (call .asof) x (p .cursor) (p .missed) (bestOf (p .best)))
+      → Keeps (tourWordDown words slot call p (wordRow x)) (tourDown (choiceOf (call .point)) opens (call .asof) x (p .cursor) (p .missed) (bestOf (p .best)))
   tour-down (spareRow next n) p f i = keeps-none (unsound p)
   tour-down (removedRow next n e) p f i = keeps-none (unsound p)
   tour-down (leafRow parent e) p f i =
       let w = leaf-in rows parent e i in
       keeps-onward p (p .cursor) 1 (consideredWord call (p .best) (e .added) (e .point) (e .curve)) (considered (choiceOf (call .point)) (call .asof) (bestOf (p .best)) e) f
       (omega arith) (considered-ranged call (p .best) e (f .best) (w .point)) (considered-words call (p .best) e (w .curve))
-  tour-down (cutRow parent k l r) p f i = keeps-onward p (cond (goesLeft k (call .point)) l r) 0 (p .best) (bestOf (p .best)) f (omega arith) (f .best) refl
+  tour-down (cutRow parent k l r) p f i =
+      let near : ℕ = cond (goesLeft k (call .point)) l r in
+      let far : ℕ = cond (goesLeft k (call .point)) r l in
+      let closed : Bool = shut (choiceOf (call .point)) opens k (p .cursor) (bestOf (p .best)) in
+      rw (shut-words k (p .cursor) (p .best))
+      (keeps-pick (admits words (p .cursor) (goesLeft k (call .point)) slot) (onward p near 0 (p .best)) (pickWordProgress closed (onward p (p .cursor) 1 (p .best)) (onward p far 0 (p .best)))
+      (goTo near Down (p .missed) (bestOf (p .best)))
+      (pickProgress closed (goTo (p .cursor) Up (p .missed) (bestOf (p .best))) (goTo far Down (p .missed) (bestOf (p .best))))
+      (λ e. goes p f near 0 (omega arith))
+      (λ e. keeps-pick closed (onward p (p .cursor) 1 (p .best)) (onward p far 0 (p .best)) (goTo (p .cursor) Up (p .missed) (bestOf (p .best))) (goTo far Down (p .missed) (bestOf (p .best)))
+      (λ g. goes p f (p .cursor) 1 (omega arith)) (λ g. goes p f far 0 (omega arith))))
 
   -- phase up, at the cut above
   tour-parent : (x : Row) (p : WordProgress) (parent : ℕ) → Fit p
-      → Keeps (tourWordParent call p parent (wordRow x)) (tourParent (choiceOf (call .point)) x parent (p .cursor) (p .missed) (bestOf (p .best)))
+      → Keeps (tourWordParent words slot call p parent (wordRow x)) (tourParent (choiceOf (call .point)) opens x parent (p .cursor) (p .missed) (bestOf (p .best)))
   tour-parent (spareRow next n) p parent f = keeps-none (unsound p)
   tour-parent (removedRow next n e) p parent f = keeps-none (unsound p)
   tour-parent (leafRow above e) p parent f = keeps-none (unsound p)
   tour-parent (cutRow above k l r) p parent f =
       let near : ℕ = cond (goesLeft k (call .point)) l r in
       let far : ℕ = cond (goesLeft k (call .point)) r l in
-      let excludes : Bool = excluded k (call .point) (bestSquare (call .point) (pointOf (bestOf (p .best)))) in
-      let up = keeps-onward p parent 1 (p .best) (bestOf (p .best)) f (omega arith) (f .best) refl in
-      let over = keeps-onward p far 0 (p .best) (bestOf (p .best)) f (omega arith) (f .best) refl in
-      rw (square-words (call .point) (p .best))
-      (keeps-pick (eqb near (p .cursor)) (fromNear call p parent far excludes) (pickWordProgress (eqb far (p .cursor)) (onward p parent 1 (p .best)) (unsound p))
-      (pickProgress excludes (goTo parent Up (p .missed) (bestOf (p .best))) (goTo far Down (p .missed) (bestOf (p .best))))
+      let closed : Bool = shut (choiceOf (call .point)) opens k parent (bestOf (p .best)) in
+      let up = goes p f parent 1 (omega arith) in
+      let over = goes p f far 0 (omega arith) in
+      rw (shut-words k parent (p .best))
+      (keeps-pick (eqb near (p .cursor)) (fromNear p parent far closed) (pickWordProgress (eqb far (p .cursor)) (onward p parent 1 (p .best)) (unsound p))
+      (pickProgress closed (goTo parent Up (p .missed) (bestOf (p .best))) (goTo far Down (p .missed) (bestOf (p .best))))
       (pickProgress (eqb far (p .cursor)) (goTo parent Up (p .missed) (bestOf (p .best))) none)
-      (λ e. keeps-pick excludes (onward p parent 1 (p .best)) (onward p far 0 (p .best)) (goTo parent Up (p .missed) (bestOf (p .best))) (goTo far Down (p .missed) (bestOf (p .best))) (λ g. up) (λ g. over))
+      (λ e. keeps-pick closed (onward p parent 1 (p .best)) (onward p far 0 (p .best)) (goTo parent Up (p .missed) (bestOf (p .best))) (goTo far Down (p .missed) (bestOf (p .best))) (λ g. up) (λ g. over))
       (λ e. keeps-pick (eqb far (p .cursor)) (onward p parent 1 (p .best)) (unsound p) (goTo parent Up (p .missed) (bestOf (p .best))) none (λ g. up) (λ g. keeps-none (unsound p))))
 
   tour-above : (p : WordProgress) (parent : ℕ) → Fit p → linkIn rows parent ≡ true
-      → Keeps (pickWordProgress (eqb parent NONE) (onward p NONE 1 (p .best)) (tourWordParent call p parent (rowAt words rows parent)))
-      (tourAbove (choiceOf (call .point)) h parent (p .cursor) (p .missed) (bestOf (p .best)))
+      → Keeps (pickWordProgress (eqb parent NONE) (onward p NONE 1 (p .best)) (tourWordParent words slot call p parent (rowAt words rows parent)))
+      (tourAbove (choiceOf (call .point)) opens h parent (p .cursor) (p .missed) (bestOf (p .best)))
   tour-above p parent f i =
-      keeps-pick (eqb parent NONE) (onward p NONE 1 (p .best)) (tourWordParent call p parent (rowAt words rows parent)) (goTo NONE Up (p .missed) (bestOf (p .best)))
-      (tourParent (choiceOf (call .point)) (h parent) parent (p .cursor) (p .missed) (bestOf (p .best)))
-      (λ e. keeps-onward p NONE 1 (p .best) (bestOf (p .best)) f (omega arith) (f .best) refl)
+      keeps-pick (eqb parent NONE) (onward p NONE 1 (p .best)) (tourWordParent words slot call p parent (rowAt words rows parent)) (goTo NONE Up (p .missed) (bestOf (p .best)))
+      (tourParent (choiceOf (call .point)) opens (h parent) parent (p .cursor) (p .missed) (bestOf (p .best)))
+      (λ e. goes p f NONE 1 (omega arith))
       (λ e. elim (link-tells rows parent i) [ inl z ↦ absurd (eqb-false parent NONE e z) | inr l ↦ rw (reads parent l) (tour-parent (h parent) p parent f) ])
 
   -- phase up
   tour-up : (x : Row) (p : WordProgress) → Fit p → inRows rows (wordRow x) ≡ true
-      → Keeps (tourWordUp words rows call p (wordRow x)) (tourUp (choiceOf (call .point)) h x (p .cursor) (p .missed) (bestOf (p .best)))
+      → Keeps (tourWordUp words rows slot call p (wordRow x)) (tourUp (choiceOf (call .point)) opens h x (p .cursor) (p .missed) (bestOf (p .best)))
   tour-up (spareRow next n) p f i = keeps-none (unsound p)
   tour-up (removedRow next n e) p f i = keeps-none (unsound p)
   tour-up (leafRow parent e) p f i = tour-above p parent f (leaf-in rows parent e i .link)
   tour-up (cutRow parent k l r) p f i = tour-above p parent f (cut-link rows parent k l r i)
 
   tour-row : (x : Row) (p : WordProgress) → Fit p → inRows rows (wordRow x) ≡ true
-      → Keeps (pickWordProgress (eqb (p .phase) 0) (tourWordDown call p (wordRow x)) (tourWordUp words rows call p (wordRow x)))
-      (tourRow (choiceOf (call .point)) (call .asof) h x (p .cursor) (phaseOf (p .phase)) (p .missed) (bestOf (p .best)))
+      → Keeps (pickWordProgress (eqb (p .phase) 0) (tourWordDown words slot call p (wordRow x)) (tourWordUp words rows slot call p (wordRow x)))
+      (tourRow (choiceOf (call .point)) opens (call .asof) h x (p .cursor) (phaseOf (p .phase)) (p .missed) (bestOf (p .best)))
   tour-row x p f i = go (eqb (p .phase) 0) refl
     where
       go : (b : Bool) → eqb (p .phase) 0 ≡ b
-          → Keeps (pickWordProgress (eqb (p .phase) 0) (tourWordDown call p (wordRow x)) (tourWordUp words rows call p (wordRow x)))
-          (tourRow (choiceOf (call .point)) (call .asof) h x (p .cursor) (phaseOf (p .phase)) (p .missed) (bestOf (p .best)))
+          → Keeps (pickWordProgress (eqb (p .phase) 0) (tourWordDown words slot call p (wordRow x)) (tourWordUp words rows slot call p (wordRow x)))
+          (tourRow (choiceOf (call .point)) opens (call .asof) h x (p .cursor) (phaseOf (p .phase)) (p .missed) (bestOf (p .best)))
       go true e = rw (e, phaseOf) (tour-down x p f i)
       go false e = rw (e, phaseOf) (tour-up x p f i)
 
   -- the cursor is none or a row
   pub tour-words : (p : WordProgress) → Fit p → (p .cursor ≡ NONE) ⊎ (p .cursor < rows)
-      → Keeps (tourWord words rows call p) (tour (choiceOf (call .point)) (call .asof) h (viewOf p))
+      → Keeps (tourWord words rows slot call p) (tour (choiceOf (call .point)) opens (call .asof) h (viewOf p))
   unfolding tourWord tour
   tour-words p f m =
       keeps-pick (eqb (p .cursor) NONE) p
-      (pickWordProgress (eqb (p .phase) 0) (tourWordDown call p (rowAt words rows (p .cursor))) (tourWordUp words rows call p (rowAt words rows (p .cursor))))
+      (pickWordProgress (eqb (p .phase) 0) (tourWordDown words slot call p (rowAt words rows (p .cursor))) (tourWordUp words rows slot call p (rowAt words rows (p .cursor))))
       (some (viewOf p))
-      (tourRow (choiceOf (call .point)) (call .asof) h (h (p .cursor)) (p .cursor) (phaseOf (p .phase)) (p .missed) (bestOf (p .best)))
+      (tourRow (choiceOf (call .point)) opens (call .asof) h (h (p .cursor)) (p .cursor) (phaseOf (p .phase)) (p .missed) (bestOf (p .best)))
       (λ e. keeps-some p (viewOf p) f refl)
       (λ e. elim m [ inl z ↦ absurd (eqb-false (p .cursor) NONE e z) | inr l ↦ rw (reads (p .cursor) l) (tour-row (h (p .cursor)) p f (reads-in words rows h (p .cursor) l reads)) ])

@@ -25,10 +25,12 @@ use Rattle.trees.specs.Stand.{Down, Stand, pickStand, afterUnlink, missedAfter}
 use Rattle.trees.specs.Tour.{searchAfterUnlink}
 use Rattle.trees.specs.Reads.{Leaf}
 use Rattle.trees.specs.Unlink.{siblingRow, grandRow, Unlinked}
+use Rattle.trees.specs.Below.{Marks, Grows}
+use Rattle.trees.proofs.MarkLaws.{pass-grows}
 use Rattle.trees.proofs.RouteLaws.{walk-unlink}
 use Rattle.trees.proofs.SearchLaws.{search-unlink}
 use Rattle.history.specs.View.{Seat, phaseOf, progressOf}
-use Rattle.history.specs.Related.{Quiet, Searching, Walks, Works, Busy, Says}
+use Rattle.history.specs.Related.{Quiet, Searching, Walks, Works, Busy, Says, Marking}
 use Rattle.history.proofs.BusyLaws.{busy-on}
 use Rattle.history.proofs.Effects.{movedSeat}
 use Rattle.history.proofs.Readings.{nearest-search, nearest-fresh, removedTable, unlink-stand, unlink-missed}
@@ -143,3 +145,16 @@ module _ (t : Table) (p : Point) (f : ℕ → Station) (h h′ : Heap) (tree : O
   says-moved seat u (unfinished i (contains d) set) k s e v = busy-moved seat i (contains d) set v (walks-moved seat d set (v .works))
   says-moved seat u (unfinished i (nearest d) none) k s e v = absurd (true≢false (sym (nearest-fresh i d) ∙ s))
   says-moved seat u (unfinished i (nearest d) (some a)) k s e v = busy-moved seat i (nearest d) (some a) v (search-moved seat u i d a k e (v .works))
+
+  -- and an add has marked its way down to the row where its cursor is
+  pub marking-moved : (marks marks′ : Marks) → Grows marks marks′ (w .tree) → (seat : Seat) (x : Station) → Marking marks tree (seat .place .cursor) x
+      → Marking marks′ (w .tree) (moved seat .place .cursor) x
+  marking-moved marks marks′ g seat idle v = tt
+  marking-moved marks marks′ g seat (waiting a) v = tt
+  marking-moved marks marks′ g seat (unfinished i (add d c) set) v =
+      let stand : Stand = record { cursor = seat .place .cursor; phase = phaseOf (seat .place .phase) } in
+      let e = ap (λ (x : Stand). x .cursor) (stand-moved (l .row) (l .parent) (siblingRow h l) (seat .place .cursor) (seat .place .phase)) in
+      pass-grows marks marks′ (w .tree) d (moved seat .place .cursor) g (rw e (w .passes marks d stand v))
+  marking-moved marks marks′ g seat (unfinished i (remove d) set) v = tt
+  marking-moved marks marks′ g seat (unfinished i (contains d) set) v = tt
+  marking-moved marks marks′ g seat (unfinished i (nearest d) set) v = tt

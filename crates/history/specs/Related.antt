@@ -23,9 +23,10 @@ use Rattle.trees.specs.Queue.{Free, headOf, tailOf}
 use Rattle.trees.specs.Store.{Store}
 use Rattle.trees.specs.Route.{Walking}
 use Rattle.trees.specs.Search.{Search}
+use Rattle.trees.specs.Below.{Marks, Covered, Passing}
 use Rattle.trees.proofs.ChoiceOf.{choiceOf}
 use Rattle.history.specs.Index.{answerOf}
-use Rattle.history.specs.View.{Counts, Place, Seat, countsAt, seatAt, Reads, progressOf}
+use Rattle.history.specs.View.{Counts, Place, Seat, countsAt, seatAt, Reads, progressOf, marksIn}
 
 -- the record of an entry
 abbrev pub recordOf : Entry → Record
@@ -115,6 +116,15 @@ Says t tree queue seat idle = Idle seat
 Says t tree queue seat (unfinished i call set) = Busy t tree queue seat i call set
 Says t tree queue seat (waiting a) = Waits seat a
 
+-- an unfinished add has marked its way as far as it has come
+abbrev pub Marking : Marks → Option Tree → ℕ → Station → Type 0
+Marking marks tree cursor idle = Unit {0}
+Marking marks tree cursor (waiting a) = Unit {0}
+Marking marks tree cursor (unfinished i (add p c) set) = Passing marks tree p cursor
+Marking marks tree cursor (unfinished i (remove p) set) = Unit {0}
+Marking marks tree cursor (unfinished i (contains p) set) = Unit {0}
+Marking marks tree cursor (unfinished i (nearest p) set) = Unit {0}
+
 -- the counts are those of the table, the tree and the queue
 pub record Counted (t : Table) (tree : Option Tree) (queue : List Free) (counts : Counts) : Type 0 where
   pub changes : counts .changes ≡ t .changes
@@ -135,3 +145,5 @@ pub record Related (words : List ℕ) (t : Table) : Type 0 where
   pub records : Same (map recordOf (entriesOf tree)) (t .held)
   pub number : countOf tree ≡ length (t .held)
   pub seats : (s : ℕ) → s < 8 → Says t tree queue (seatAt words s) (t .stations s)
+  pub covered : Covered (marksIn words) tree
+  pub marking : (s : ℕ) → s < 8 → Marking (marksIn words) tree (seatAt words s .place .cursor) (t .stations s)

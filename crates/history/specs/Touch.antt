@@ -1,25 +1,28 @@
 -- What an event may touch (document 01, the last paragraph of "The plain table").
 use Prim.Native.Nat.{ℕ}
 use mathlib.Core.Path.{_≡_}
-use mathlib.Core.Bool.{Bool, true, false}
+use mathlib.Core.Bool.{Bool, true, false, cond}
 use mathlib.Core.List.{List, [], _∷_, List·Memᴰ}
 use lib.Dec.{eqb, ltb}
 use lib.ListN.{length}
+use Rattle.points.specs.Word.{NONE}
 use Rattle.rows.specs.declared.row.Row.{Row}
 use Rattle.rows.specs.declared.call.Call.{Call}
 use Rattle.rows.specs.Words.{get}
 use Rattle.rows.specs.Agree.{Off, inCommon, inStation, inRow, startOf, sizeOf, AgreeIn}
 use Rattle.rows.specs.Row.{rowAt}
+use Rattle.rows.specs.Grades.{slotOf}
 use Rattle.rows.specs.Call.{callAt}
 use Rattle.moves.specs.declared.insert.Room.{Room}
 use Rattle.moves.specs.declared.unlink.Around.{Around}
 use Rattle.moves.specs.declared.search.Progress.{Progress}
+use Rattle.moves.specs.declared.walk.Way.{Way}
 use Rattle.moves.specs.Reply.{rowsIn}
 use Rattle.moves.specs.Link.{nextOf, parentOf, isCut}
-use Rattle.moves.specs.Search.{look, tour, progressAt}
+use Rattle.moves.specs.Search.{look, toured, progressAt}
 use Rattle.moves.specs.Insert.{roomAt}
 use Rattle.moves.specs.Unlink.{aroundAt}
-use Rattle.moves.specs.Walk.{down, codeAt, standsAt}
+use Rattle.moves.specs.Walk.{wayOf, codeAt, standsAt}
 
 -- "two slices of one length that agree in the common record and the station's, as far as they are there", and in some rows
 pub record AgreeOn (v w : List ℕ) (s : ℕ) (rows : List ℕ) : Type 0 where
@@ -42,14 +45,8 @@ pub record Leaves (v w v′ w′ : List ℕ) (s : ℕ) (rows : List ℕ) : Type 
 -- ---- the rows that a step needs
 
 -- of a walk that goes on: six on its way
-abbrev pub wayRows : List ℕ → ℕ → Call → ℕ → List ℕ
-wayRows words rows call at =
-    let one = down words rows (call .point) at in
-    let two = down words rows (call .point) one in
-    let three = down words rows (call .point) two in
-    let four = down words rows (call .point) three in
-    let five = down words rows (call .point) four in
-    at ∷ (one ∷ (two ∷ (three ∷ (four ∷ (five ∷ [])))))
+abbrev pub wayRows : Way → List ℕ
+wayRows way = way .at ∷ (way .one ∷ (way .two ∷ (way .three ∷ (way .four ∷ (way .five ∷ [])))))
 
 -- of an insert, and of an unlink
 abbrev pub roomRows : Room → List ℕ
@@ -70,7 +67,7 @@ endRows words rows call at row =
 
 abbrev pub walkRows : List ℕ → ℕ → ℕ → Call → List ℕ
 walkRows words rows s call =
-    pickRows (isCut (rowAt words rows (standsAt words s))) (wayRows words rows call (standsAt words s))
+    pickRows (isCut (rowAt words rows (standsAt words s))) (wayRows (wayOf words rows (call .point) (standsAt words s)))
     (endRows words rows call (standsAt words s) (rowAt words rows (standsAt words s)))
 
 -- of a look, and of a tour
@@ -80,13 +77,21 @@ lookRows words rows p rest = p .missed ∷ (nextOf (rowAt words rows (p .missed)
 abbrev pub tourRows : List ℕ → ℕ → Progress → List ℕ → List ℕ
 tourRows words rows p rest = p .cursor ∷ (parentOf (rowAt words rows (p .cursor)) ∷ rest)
 
--- of a search
+-- of a later tour the one row that was not read before it: down its own, up the one above
+abbrev pub newRow : List ℕ → ℕ → Progress → ℕ
+newRow words rows p = cond (eqb (p .phase) 0) (p .cursor) (parentOf (rowAt words rows (p .cursor)))
+
+-- of a search: five tours, or a look and three
 abbrev pub searchRows : List ℕ → ℕ → ℕ → Call → List ℕ
 searchRows words rows s call =
     let begun = progressAt words s call in
     let looked = look words rows call begun in
-    let toured = tour words rows call looked in
-    lookRows words rows begun (tourRows words rows looked (tourRows words rows toured []))
+    let one = newRow words rows (toured words rows (slotOf (call .point)) call 1 looked) in
+    let two = newRow words rows (toured words rows (slotOf (call .point)) call 2 looked) in
+    let three = newRow words rows (toured words rows (slotOf (call .point)) call 3 looked) in
+    let four = newRow words rows (toured words rows (slotOf (call .point)) call 4 looked) in
+    pickRows (eqb (begun .missed) NONE) (tourRows words rows looked (one ∷ (two ∷ (three ∷ (four ∷ [])))))
+    (lookRows words rows begun (tourRows words rows looked (one ∷ (two ∷ []))))
 
 -- those numbers that are rows of an index of so many
 unfoldable pub rowsBelow : ℕ → List ℕ → List ℕ

@@ -1,10 +1,11 @@
 -- What the words say, field by field: the counts of the common record, the seat of a station, and the rows as values.
 use Prim.Native.Nat.{ℕ, _<_}
 use mathlib.Core.Path.{_≡_}
-use mathlib.Core.Bool.{Bool, true, false, cond}
+use mathlib.Core.Bool.{Bool, true, false}
 use mathlib.Core.List.{List}
 use mathlib.Core.Option.{Option, none, some}
 use lib.Dec.{eqb}
+use Rattle.points.specs.declared.point.Point.{Point}
 use Rattle.points.specs.Word.{NONE}
 use Rattle.rows.specs.declared.row.Row.{Row as WordRow}
 use Rattle.rows.specs.declared.row.Row.the-variants.{Spare, Removed, Leaf, Cut}
@@ -14,13 +15,15 @@ use Rattle.rows.specs.declared.answer.Answer.{Answer}
 use Rattle.rows.specs.Layout.{atChanges, atHeld, atRoot, atHead, atTail, atRemovals, atCursor, atPhase, atSince, atMissed}
 use Rattle.rows.specs.Words.{get}
 use Rattle.rows.specs.Row.{rowAt}
+use Rattle.rows.specs.Grades.{slotOf, admits}
 use Rattle.rows.specs.Common.{openedIn}
 use Rattle.rows.specs.Station.{stateAt}
 use Rattle.rows.specs.Call.{callAt}
 use Rattle.rows.specs.Answer.{answerAt}
 use Rattle.trees.specs.Row.{Row, spareRow, removedRow, leafRow, cutRow, Heap}
 use Rattle.trees.specs.Stand.{Phase, Down, Up}
-use Rattle.trees.specs.Tour.{Best, Progress}
+use Rattle.trees.specs.Tour.{Best, Progress, Opens}
+use Rattle.trees.specs.Below.{Marks}
 
 -- the counts of the common record
 pub record Counts : Type 0 where
@@ -99,9 +102,18 @@ noPlace = record { cursor = NONE; phase = 0; since = NONE; missed = NONE }
 unfoldable pub heapPut : Heap → ℕ → Row → Heap
 heapPut h r row i = elim (eqb i r) [ true ↦ row | false ↦ h i ]
 
--- two slices have the same rows
-abbrev pub SameRows : List ℕ → List ℕ → ℕ → Type 0
-SameRows words words′ rows = (r : ℕ) → r < rows → rowAt words′ rows r ≡ rowAt words rows r
+-- the marks of the words: the slot of p is among the grades of a side, left or not, of row x
+abbrev pub marksIn : List ℕ → Marks
+marksIn words x side p = admits words x side (slotOf p)
+
+-- the sides of the cuts that admit a slot
+abbrev pub opensIn : List ℕ → ℕ → Opens
+opensIn words slot x side = admits words x side slot
+
+-- two slices have the same rows and the same marks
+pub record SameRows (words words′ : List ℕ) (rows : ℕ) : Type 0 where
+  pub row : (r : ℕ) → r < rows → rowAt words′ rows r ≡ rowAt words rows r
+  pub marks : (x : ℕ) (side : Bool) (p : Point) → marksIn words′ x side p ≡ marksIn words x side p
 
 -- what a call leaves of the common record and the stations
 pub record Written (words words′ : List ℕ) (counts : Counts) (seats : ℕ → Seat) : Type 0 where

@@ -15,6 +15,7 @@ use Rattle.rows.specs.declared.row.Row.the-variants.{Removed, Leaf, Cut}
 use Rattle.rows.specs.declared.call.Best.{Best}
 use Rattle.rows.specs.declared.call.Call.{Call}
 use Rattle.rows.specs.Row.{rowAt}
+use Rattle.rows.specs.Grades.{admits}
 use Rattle.moves.specs.declared.search.Progress.{Progress}
 use Rattle.moves.specs.Search.{considered, onward, look, tour}
 
@@ -25,15 +26,17 @@ unfolding considered
 considered-younger call best added point curve young = rw (lt-leb added (call .asof) young)
 
 module _ (words : List ℕ) (rows : ℕ) (call : Call) (p : Progress) where
-  -- from a leaf that is the near child the search goes over to the far child, unless the square of the best excludes that side: at an equal
-  -- distance it does not
+  -- from a leaf that is the near child the search goes over to a far child whose side admits the slot, unless the square of the best excludes that
+  -- side: at an equal distance it does not
   pub tour-over : {parent added curve above right : ℕ} {point : Point} {cut : PointCut}
       → ¬ (p .cursor ≡ NONE) → p .phase ≡ 1 → rowAt words rows (p .cursor) ≡ Leaf parent added point curve
       → ¬ (parent ≡ NONE) → rowAt words rows parent ≡ Cut above cut (p .cursor) right → goesLeft cut (call .point) ≡ true
       → ¬ (p .best .curve ≡ 0) → excluded cut (call .point) (squareOf (call .point) (p .best .point)) ≡ false
-      → tour words rows call p ≡ onward p right 0 (p .best)
+      → (slot : ℕ) → admits words parent false slot ≡ true
+      → tour words rows slot call p ≡ onward p right 0 (p .best)
   unfolding tour
-  tour-over {parent} on up leaf under cut left some near = rw (ne-eqb (p .cursor) NONE on, up, leaf, ne-eqb parent NONE under, cut, left, eq-eqb (p .cursor) (p .cursor) refl, ne-eqb (p .best .curve) 0 some, near)
+  tour-over {parent} on up leaf under cut left some near slot admitted =
+      rw (ne-eqb (p .cursor) NONE on, up, leaf, ne-eqb parent NONE under, cut, left, eq-eqb (p .cursor) (p .cursor) refl, admitted, ne-eqb (p .best .curve) 0 some, near)
 
   -- after a removed row the next removed row is the one to be looked at
   pub look-next : {next freed added curve after number older other : ℕ} {point at : Point}

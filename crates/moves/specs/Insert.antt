@@ -13,6 +13,7 @@ use Rattle.rows.specs.declared.call.Call.{Call}
 use Rattle.rows.specs.Layout.{atChanges, atHeld, atRoot, atHead, atCursor}
 use Rattle.rows.specs.Words.{get, put}
 use Rattle.rows.specs.Row.{rowAt, putRow}
+use Rattle.rows.specs.Grades.{slotOf, beginGrades}
 use Rattle.moves.specs.declared.insert.Room.{Room}
 use Rattle.moves.specs.Link.{nextOf, parentOf, linksTo, isLeaf, leafPoint, withParent, replaced}
 use Rattle.moves.specs.Reply.{Reply, done, ask, more}
@@ -55,17 +56,23 @@ newLeaf room added point curve = Leaf (room .second) added point curve
 abbrev pub cutWith : Room → PointCut → Bool → Row
 cutWith room cut left = Cut (room .over) cut (cond left (room .first) (room .at)) (cond left (room .at) (room .first))
 
+-- the new record lies on its left side
+unfoldable pub newSide : Room → Point → Bool
+newSide room point = goesLeft (cutOf point (leafPoint (room .leaf))) point
+
 unfoldable pub newCut : Room → Point → Row
-newCut room point = cutWith room (cutOf point (leafPoint (room .leaf))) (goesLeft (cutOf point (leafPoint (room .leaf))) point)
+newCut room point = cutWith room (cutOf point (leafPoint (room .leaf))) (newSide room point)
+
+-- the cut is written with the grades of the two records
+unfoldable pub putCut : List ℕ → Room → Point → List ℕ
+putCut words room point =
+    beginGrades (putRow words (room .second) (newCut room point)) (room .second) (newSide room point) (slotOf point) (slotOf (leafPoint (room .leaf)))
 
 -- the rows: the new leaf, the cut, the old leaf under it, and the cut in the old leaf's place
 unfoldable pub insertRows : List ℕ → Room → ℕ → Point → ℕ → List ℕ
 insertRows words room added point curve =
     putRow
-    (putRow
-    (putRow (putRow words (room .first) (newLeaf room added point curve)) (room .second) (newCut room point))
-    (room .at)
-    (withParent (room .second) (room .leaf)))
+    (putRow (putCut (putRow words (room .first) (newLeaf room added point curve)) room point) (room .at) (withParent (room .second) (room .leaf)))
     (room .over)
     (replaced (room .at) (room .second) (room .above))
 

@@ -1,9 +1,10 @@
--- The work of one step of a nearest call: `look`, `tour`, `tour`, and `finish` where nothing is left.
-use Prim.Native.Nat.{ℕ}
-use mathlib.Core.Bool.{Bool, true, false, cond, _&&_, _||_}
+-- The work of one step of a nearest call: five tours, or a look and three where a row was missed, and `finish` where nothing is left.
+use Prim.Native.Nat.{ℕ, zero, suc}
+use mathlib.Core.Bool.{Bool, true, false, cond, not, _&&_, _||_}
 use mathlib.Core.List.{List}
 use lib.Dec.{eqb, leb}
 use Rattle.points.specs.declared.point.Point.{Point}
+use Rattle.points.specs.declared.cut.Cut.{Cut as PointCut}
 use Rattle.points.specs.Square.{squareOf}
 use Rattle.points.specs.Cut.{goesLeft}
 use Rattle.points.specs.Choice.{sameGrade, chosenOver, excluded, noSquare}
@@ -16,6 +17,7 @@ use Rattle.rows.specs.declared.answer.Answer.{Answer}
 use Rattle.rows.specs.Layout.{atCursor, atPhase, atMissed}
 use Rattle.rows.specs.Words.{get}
 use Rattle.rows.specs.Row.{rowAt}
+use Rattle.rows.specs.Grades.{slotOf, admits}
 use Rattle.rows.specs.Station.{putPlace, putMissed}
 use Rattle.rows.specs.Call.{putBest}
 use Rattle.moves.specs.declared.search.Progress.{Progress}
@@ -87,53 +89,74 @@ look words rows call p =
 
 -- ---- tour
 
--- phase down: at a cut to the near child, at a leaf consider it
-abbrev pub tourDown : Call → Progress → Row → Progress
-tourDown call p Bad = unsound p
-tourDown call p (Spare next freed) = unsound p
-tourDown call p (Removed next freed added point curve) = unsound p
-tourDown call p (Leaf parent added point curve) = onward p (p .cursor) 1 (considered call (p .best) added point curve)
-tourDown call p (Cut parent cut left right) = onward p (cond (goesLeft cut (call .point)) left right) 0 (p .best)
-
 -- the best square; while there is no best, that which only a cut on axis 1 excludes
 abbrev pub bestSquare : Point → Best → ℕ
 bestSquare target best = cond (eqb (best .curve) 0) noSquare (squareOf target (best .point))
 
--- up at the cut above, from the near child: over to the far one unless that side is excluded
-abbrev pub fromNear : Call → Progress → ℕ → ℕ → Bool → Progress
-fromNear call p above far excludes = pickProgress excludes (onward p above 1 (p .best)) (onward p far 0 (p .best))
+-- the far side of the cut in row x is shut: the target's slot is not among its grades, or it is excluded
+abbrev pub farShut : List ℕ → ℕ → Call → Best → ℕ → PointCut → Bool → Bool
+farShut words slot call best x cut goes = cond (admits words x (not goes) slot) (excluded cut (call .point) (bestSquare (call .point) best)) true
+
+-- phase down, at a cut: to the near child where its side admits the target's slot, else to the far one unless that is shut, else the way leads up
+abbrev pub downCut : List ℕ → ℕ → Call → Progress → PointCut → ℕ → ℕ → Bool → Progress
+downCut words slot call p cut left right goes =
+    pickProgress (admits words (p .cursor) goes slot) (onward p (cond goes left right) 0 (p .best))
+    (pickProgress (farShut words slot call (p .best) (p .cursor) cut goes) (onward p (p .cursor) 1 (p .best)) (onward p (cond goes right left) 0 (p .best)))
+
+-- phase down; at a leaf consider it
+abbrev pub tourDown : List ℕ → ℕ → Call → Progress → Row → Progress
+tourDown words slot call p Bad = unsound p
+tourDown words slot call p (Spare next freed) = unsound p
+tourDown words slot call p (Removed next freed added point curve) = unsound p
+tourDown words slot call p (Leaf parent added point curve) = onward p (p .cursor) 1 (considered call (p .best) added point curve)
+tourDown words slot call p (Cut parent cut left right) = downCut words slot call p cut left right (goesLeft cut (call .point))
+
+-- up at the cut above, from the near child: over to the far one unless that side is shut
+abbrev pub fromNear : Progress → ℕ → ℕ → Bool → Progress
+fromNear p above far shut = pickProgress shut (onward p above 1 (p .best)) (onward p far 0 (p .best))
 
 -- up at the cut above, of which the row is one child
-abbrev pub fromChild : Call → Progress → ℕ → ℕ → ℕ → Bool → Progress
-fromChild call p above near far excludes =
-    pickProgress (eqb near (p .cursor)) (fromNear call p above far excludes) (pickProgress (eqb far (p .cursor)) (onward p above 1 (p .best)) (unsound p))
+abbrev pub fromChild : Progress → ℕ → ℕ → ℕ → Bool → Progress
+fromChild p above near far shut =
+    pickProgress (eqb near (p .cursor)) (fromNear p above far shut) (pickProgress (eqb far (p .cursor)) (onward p above 1 (p .best)) (unsound p))
 
-abbrev pub tourAbove : Call → Progress → ℕ → Row → Progress
-tourAbove call p above Bad = unsound p
-tourAbove call p above (Spare next freed) = unsound p
-tourAbove call p above (Removed next freed added point curve) = unsound p
-tourAbove call p above (Leaf parent added point curve) = unsound p
-tourAbove call p above (Cut parent cut left right) =
-    fromChild call p above (cond (goesLeft cut (call .point)) left right) (cond (goesLeft cut (call .point)) right left)
-    (excluded cut (call .point) (bestSquare (call .point) (p .best)))
+-- the same, with the sides of the cut told apart
+abbrev pub aboveCut : List ℕ → ℕ → Call → Progress → ℕ → PointCut → ℕ → ℕ → Bool → Progress
+aboveCut words slot call p above cut left right goes = fromChild p above (cond goes left right) (cond goes right left) (farShut words slot call (p .best) above cut goes)
+
+abbrev pub tourAbove : List ℕ → ℕ → Call → Progress → ℕ → Row → Progress
+tourAbove words slot call p above Bad = unsound p
+tourAbove words slot call p above (Spare next freed) = unsound p
+tourAbove words slot call p above (Removed next freed added point curve) = unsound p
+tourAbove words slot call p above (Leaf parent added point curve) = unsound p
+tourAbove words slot call p above (Cut parent cut left right) = aboveCut words slot call p above cut left right (goesLeft cut (call .point))
 
 -- phase up: with no parent the tour is over
-abbrev pub tourUp : List ℕ → ℕ → Call → Progress → Row → Progress
-tourUp words rows call p row =
+abbrev pub tourUp : List ℕ → ℕ → ℕ → Call → Progress → Row → Progress
+tourUp words rows slot call p row =
     pickProgress (isTree row)
-    (pickProgress (eqb (parentOf row) NONE) (onward p NONE 1 (p .best)) (tourAbove call p (parentOf row) (rowAt words rows (parentOf row))))
+    (pickProgress (eqb (parentOf row) NONE) (onward p NONE 1 (p .best)) (tourAbove words slot call p (parentOf row) (rowAt words rows (parentOf row))))
     (unsound p)
 
-unfoldable pub tour : List ℕ → ℕ → Call → Progress → Progress
-tour words rows call p =
+-- one move, with the slot of the target
+unfoldable pub tour : List ℕ → ℕ → ℕ → Call → Progress → Progress
+tour words rows slot call p =
     pickProgress (eqb (p .cursor) NONE) p
-    (pickProgress (eqb (p .phase) 0) (tourDown call p (rowAt words rows (p .cursor))) (tourUp words rows call p (rowAt words rows (p .cursor))))
+    (pickProgress (eqb (p .phase) 0) (tourDown words slot call p (rowAt words rows (p .cursor))) (tourUp words rows slot call p (rowAt words rows (p .cursor))))
+
+-- so many moves
+unfoldable pub toured : List ℕ → ℕ → ℕ → Call → ℕ → Progress → Progress
+toured words rows slot call zero p = p
+toured words rows slot call (suc n) p = tour words rows slot call (toured words rows slot call n p)
 
 -- ---- one step
 
--- look, tour, tour
+-- the moves of a step: five where no row was missed, else three, after the look
+abbrev pub toursOf : ℕ → ℕ
+toursOf missed = cond (eqb missed NONE) 5 3
+
 unfoldable pub seek : List ℕ → ℕ → Call → Progress → Progress
-seek words rows call p = tour words rows call (tour words rows call (look words rows call p))
+seek words rows call p = toured words rows (slotOf (call .point)) call (toursOf (p .missed)) (look words rows call p)
 
 -- where the search of station s stands
 unfoldable pub progressAt : List ℕ → ℕ → Call → Progress

@@ -13,8 +13,10 @@ use Rattle.rows.specs.declared.answer.Answer.{Answer}
 use Rattle.rows.specs.Layout.{atPlaces, atLimit, atChanges, atRoot, atCursor}
 use Rattle.rows.specs.Words.{get}
 use Rattle.rows.specs.Row.{rowAt}
+use Rattle.rows.specs.Grades.{slotOf, markToward}
 use Rattle.rows.specs.Common.{takenIn}
 use Rattle.rows.specs.Station.{putPlace}
+use Rattle.moves.specs.declared.walk.Way.{Way}
 use Rattle.moves.specs.Link.{isLeaf, isCut, holdsPoint, leafCurve}
 use Rattle.moves.specs.Reply.{Reply, done, pickReply, ask, refused}
 use Rattle.moves.specs.Answer.{answer, answeredWords}
@@ -31,20 +33,40 @@ downFrom point at (Removed next freed added p curve) = NONE
 downFrom point at (Leaf parent added p curve) = at
 downFrom point at (Cut parent cut left right) = cond (goesLeft cut point) left right
 
+-- one row down; none stays none
 unfoldable pub down : List ℕ → ℕ → Point → ℕ → ℕ
 down words rows point at = downFrom point at (rowAt words rows at)
 
-unfoldable pub sixDown : List ℕ → ℕ → Point → ℕ → ℕ
-sixDown words rows point at =
-    down words rows point (down words rows point (down words rows point (down words rows point (down words rows point (down words rows point at)))))
+-- six rows on the way down, and the row after them
+unfoldable pub wayOf : List ℕ → ℕ → Point → ℕ → Way
+wayOf words rows point at =
+    let one = down words rows point at in
+    let two = down words rows point one in
+    let three = down words rows point two in
+    let four = down words rows point three in
+    let five = down words rows point four in
+    record { at = at; one = one; two = two; three = three; four = four; five = five; to = down words rows point five }
 
--- the same, with the first row given
-unfoldable pub sixFrom : List ℕ → ℕ → Point → ℕ → Row → ℕ
-sixFrom words rows point at row =
-    down words rows point (down words rows point (down words rows point (down words rows point (down words rows point (downFrom point at row)))))
+-- each of the six that is a cut gets the slot on the side to which the way goes
+unfoldable pub markedWay : List ℕ → Way → ℕ → List ℕ
+markedWay words way k =
+    markToward
+    (markToward
+    (markToward
+    (markToward (markToward (markToward words (way .at) (way .one) k) (way .one) (way .two) k) (way .two) (way .three) k) (way .three) (way .four) k)
+    (way .four)
+    (way .five)
+    k)
+    (way .five)
+    (way .to)
+    k
 
-abbrev pub walkTo : List ℕ → ℕ → ℕ → Reply
-walkTo words s to = pickReply (eqb to NONE) (refused 11 words) (done (putPlace words s to 0))
+-- an add marks its way; no other call marks
+unfoldable pub passedWords : List ℕ → Call → Way → List ℕ
+passedWords words call way = cond (eqb (call .kind) 1) (markedWay words way (slotOf (call .point))) words
+
+abbrev pub walkTo : List ℕ → ℕ → Call → Way → Reply
+walkTo words s call way = pickReply (eqb (way .to) NONE) (refused 11 words) (done (putPlace (passedWords words call way) s (way .to) 0))
 
 -- ---- the decision
 
@@ -79,7 +101,7 @@ standsAt words s = cond (eqb (get words (atCursor s)) NONE) (get words atRoot) (
 
 abbrev pub walkFrom : List ℕ → ℕ → ℕ → Call → ℕ → Row → Reply
 walkFrom words rows s call at row =
-    pickReply (isCut row) (walkTo words s (sixDown words rows (call .point) at))
+    pickReply (isCut row) (walkTo words s call (wayOf words rows (call .point) at))
     (ask (eqb at NONE || isLeaf row) 11 words (conclude words rows s call at row))
 
 unfoldable pub walkOf : List ℕ → ℕ → ℕ → Call → Reply

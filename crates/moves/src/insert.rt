@@ -9,11 +9,14 @@ use crate::relink::replaced;
 use crate::relink::with_parent;
 use crate::reply::more;
 use crate::reply::pick;
+use points::cut::Cut;
 use points::cut::cut_between;
 use points::cut::goes_left;
 use points::point::Point;
 use rows::answer::Answer;
 use rows::call::Call;
+use rows::grades::begin_grades;
+use rows::grades::slot_of;
 use rows::layout::AT_CHANGES;
 use rows::layout::AT_HEAD;
 use rows::layout::AT_HELD;
@@ -27,7 +30,7 @@ use rows::word::get;
 use rows::word::put;
 ghost use mathlib.Core.Path.{_≡_};
 ghost use Rattle.moves.specs.Reply.{replied};
-ghost use Rattle.moves.specs.Insert.{roomAt, roomSound, newLeaf, newCut, insertRows, insertHead, insertRoot, insertCounts, cursorMoved, cursorsMoved, insertWords, insertOf};
+ghost use Rattle.moves.specs.Insert.{roomAt, roomSound, newLeaf, cutWith, putCut, insertRows, insertHead, insertRoot, insertCounts, cursorMoved, cursorsMoved, insertWords, insertOf};
 
 // The first two free rows, the leaf where the walk ended, and the row above it, each with its number.
 pub struct Room {
@@ -93,18 +96,27 @@ fn new_leaf(room: Room, added: u32, point: Point, curve: u32) -> Row
 }
 
 // The new cut between the two points, with the two leaves on their sides.
-fn new_cut(room: Room, point: Point) -> Row
-    ensures { λ r. ⌜ r ≡ newCut room point ⌝ }
+fn new_cut(room: Room, cut: Cut, left: bool) -> Row
+    ensures { λ r. ⌜ r ≡ cutWith room cut left ⌝ }
 {
-    let leaf = room.leaf;
-    let cut = cut_between(point, leaf_point(leaf));
-    let left = goes_left(cut, point);
     Row::Cut {
         parent: room.over,
         cut: cut,
         left: pick(left, room.first, room.at),
         right: pick(left, room.at, room.first),
     }
+}
+
+// Writes the cut with the grades of the two records. A row at `NONE` is not written.
+fn write_cut(words: &mut [u32], room: Room, point: Point)
+    ensures { λ _. ⌜ now (words .exit) ≡ putCut (now (words .entry)) room point ⌝ }
+{
+    let leaf = room.leaf;
+    let old = leaf_point(leaf);
+    let cut = cut_between(point, old);
+    let left = goes_left(cut, point);
+    write_row(words, room.second, new_cut(room, cut, left));
+    begin_grades(words, room.second, left, slot_of(point), slot_of(old));
 }
 
 // Writes the new leaf, the cut, the old leaf under it, and the cut in the old leaf's place. A row at `NONE` is not written.
@@ -114,7 +126,7 @@ fn write_rows(words: &mut [u32], room: Room, added: u32, point: Point, curve: u3
     let leaf = room.leaf;
     let above = room.above;
     write_row(words, room.first, new_leaf(room, added, point, curve));
-    write_row(words, room.second, new_cut(room, point));
+    write_cut(words, room, point);
     write_row(words, room.at, with_parent(room.second, leaf));
     write_row(words, room.over, replaced(room.at, room.second, above));
 }

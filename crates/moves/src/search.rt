@@ -1,12 +1,15 @@
-// One step of a nearest call: a missed record is looked at, the tour goes on by two rows, and the call is answered where nothing is left.
+// One step of a nearest call: the tour goes on by five rows, or a missed record is looked at and the tour goes on by three, and the call is answered where nothing
+// is left.
 use crate::answer::write_answered;
 use crate::look::look;
+use crate::reply::pick;
 use crate::tour::tour;
 use points::square::square;
 use rows::answer::Answer;
 use rows::call::Best;
 use rows::call::Call;
 use rows::call::write_best;
+use rows::grades::slot_of;
 use rows::layout::NONE;
 use rows::layout::at_cursor;
 use rows::layout::at_missed;
@@ -28,14 +31,16 @@ pub struct Progress {
     pub sound: bool,
 }
 
-// Look, tour, tour.
+// Five tours, or a look and three where a row was missed.
 fn seek(words: &[u32], rows: u32, call: Call, p: Progress) -> Progress
     ensures { λ r. ⌜ r ≡ seek (now (words .entry)) rows call p ⌝ }
 {
+    let slot = slot_of(call.point);
+    let most = pick(p.missed == NONE, 5, 3);
     let mut reached = look(words, rows, call, p);
     let mut tours: u32 = 0;
-    while tours < 2 {
-        reached = tour(words, rows, call, reached);
+    while tours < most {
+        reached = tour(words, rows, slot, call, reached);
         tours += 1;
     }
     reached

@@ -12,6 +12,8 @@ use points::point::Point;
 use rows::answer::Answer;
 use rows::call::Call;
 use rows::common::taken;
+use rows::grades::mark_toward;
+use rows::grades::slot_of;
 use rows::layout::AT_CHANGES;
 use rows::layout::AT_LIMIT;
 use rows::layout::AT_PLACES;
@@ -24,7 +26,8 @@ use rows::station::write_place;
 use rows::word::get;
 ghost use mathlib.Core.Path.{_≡_};
 ghost use Rattle.moves.specs.Reply.{replied};
-ghost use Rattle.moves.specs.Walk.{downFrom, down, sixFrom, walkTo, codeOf, codeAt, plainAnswer, conclude, standsAt, walkOf};
+ghost use Rattle.rows.specs.Row.{rowAt};
+ghost use Rattle.moves.specs.Walk.{downFrom, down, wayOf, markedWay, passedWords, walkTo, codeOf, codeAt, plainAnswer, conclude, standsAt, walkOf};
 
 // From a cut to the child on the point's side; a leaf stays; from any other row nowhere.
 fn down_from(point: Point, at: u32, row: Row) -> u32
@@ -51,26 +54,81 @@ fn down(words: &[u32], rows: u32, point: Point, at: u32) -> u32
     down_from(point, at, read_row(words, rows, at))
 }
 
+// One row further down from `at`, to which a walk came from `from`. Where it stayed it stays, and no row is read again.
+fn further(words: &[u32], rows: u32, point: Point, from: u32, at: u32) -> u32
+    requires { ⌜ at ≡ down (now words) rows point from ⌝ }
+    ensures { λ r. ⌜ r ≡ down (now (words .entry)) rows point at ⌝ }
+{
+    if at == from {
+        at
+    } else {
+        down(words, rows, point, at)
+    }
+}
+
+// Six rows on the way down, and the row after them.
+pub struct Way {
+    pub at: u32,
+    pub one: u32,
+    pub two: u32,
+    pub three: u32,
+    pub four: u32,
+    pub five: u32,
+    pub to: u32,
+}
+
 // Six rows down; the first of them is read already.
-fn six_down(words: &[u32], rows: u32, point: Point, at: u32, row: Row) -> u32
-    ensures { λ r. ⌜ r ≡ sixFrom (now (words .entry)) rows point at row ⌝ }
+fn six_down(words: &[u32], rows: u32, point: Point, at: u32, row: Row) -> Way
+    requires { ⌜ row ≡ rowAt (now words) rows at ⌝ }
+    ensures { λ r. ⌜ r ≡ wayOf (now (words .entry)) rows point at ⌝ }
 {
     let one = down_from(point, at, row);
-    let two = down(words, rows, point, one);
-    let three = down(words, rows, point, two);
-    let four = down(words, rows, point, three);
-    let five = down(words, rows, point, four);
-    down(words, rows, point, five)
+    let two = further(words, rows, point, at, one);
+    let three = further(words, rows, point, one, two);
+    let four = further(words, rows, point, two, three);
+    let five = further(words, rows, point, three, four);
+    let to = further(words, rows, point, four, five);
+    Way {
+        at: at,
+        one: one,
+        two: two,
+        three: three,
+        four: four,
+        five: five,
+        to: to,
+    }
+}
+
+// Each of the six that is a cut gets the slot on the side to which the way goes.
+fn mark_way(words: &mut [u32], way: Way, k: u32)
+    ensures { λ _. ⌜ now (words .exit) ≡ markedWay (now (words .entry)) way k ⌝ }
+{
+    mark_toward(words, way.at, way.one, k);
+    mark_toward(words, way.one, way.two, k);
+    mark_toward(words, way.two, way.three, k);
+    mark_toward(words, way.three, way.four, k);
+    mark_toward(words, way.four, way.five, k);
+    mark_toward(words, way.five, way.to, k);
+}
+
+// An add marks its way; no other call marks.
+fn pass(words: &mut [u32], call: Call, way: Way)
+    ensures { λ _. ⌜ now (words .exit) ≡ passedWords (now (words .entry)) call way ⌝ }
+{
+    if call.kind == 1 {
+        mark_way(words, way, slot_of(call.point));
+    }
 }
 
 // The walk stands there now; a row on the way was not one of the tree where that is none.
-fn walk_to(words: &mut [u32], s: u32, to: u32) -> u32
-    ensures { λ r. ⌜ replied r (now (words .exit)) ≡ walkTo (now (words .entry)) s to ⌝ }
+fn walk_to(words: &mut [u32], s: u32, call: Call, way: Way) -> u32
+    ensures { λ r. ⌜ replied r (now (words .exit)) ≡ walkTo (now (words .entry)) s call way ⌝ }
 {
-    if to == NONE {
+    if way.to == NONE {
         11
     } else {
-        write_place(words, s, to, 0);
+        pass(words, call, way);
+        write_place(words, s, way.to, 0);
         0
     }
 }
@@ -138,8 +196,8 @@ pub fn walk(words: &mut [u32], rows: u32, s: u32, call: Call) -> u32
     let at = stands_at(words, s);
     let row = read_row(words, rows, at);
     if is_cut(row) {
-        let to = six_down(words, rows, call.point, at, row);
-        walk_to(words, s, to)
+        let way = six_down(words, rows, call.point, at, row);
+        walk_to(words, s, call, way)
     } else if (at == NONE) | is_leaf(row) {
         conclude(words, rows, s, call, at, row)
     } else {

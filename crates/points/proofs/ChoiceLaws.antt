@@ -17,10 +17,11 @@ use Rattle.points.specs.declared.point.Point.{Point}
 use Rattle.points.specs.declared.cut.Cut.{Cut}
 use Rattle.points.specs.declared.order.Order.{Order}
 use Rattle.points.specs.declared.order.Order.the-variants.{Less, Equal, Greater}
-use Rattle.points.specs.Point.{coordinateOf}
+use Rattle.points.specs.Point.{rangeOf, coordinateOf}
 use Rattle.points.specs.Order.{byAxis, tieOf, isLess, isEqual}
 use Rattle.points.specs.Square.{gapOf, topped, squareOf}
 use Rattle.points.specs.Cut.{goesLeft}
+use Rattle.points.specs.Word.{storedIn, wordOf}
 use Rattle.points.specs.Choice.{sameGrade, chosenOver, Chosen, nearer, heavier, lower, farGap, excluded, noSquare}
 use Rattle.points.proofs.Tests.{no! }
 use Rattle.points.proofs.IntegerLaws.{raise, Near, near-add, near-raise, near-more, raise-add, ltZ-raise, apart-raise}
@@ -40,6 +41,11 @@ grade-equal a b e = go (byAxis a b 1) refl
 grade-same : (a b : Point) → coordinateOf a 1 ≡ coordinateOf b 1 → sameGrade a b ≡ true
 unfolding sameGrade
 grade-same a b e = ap isEqual (axis-same a b 1 e)
+
+-- points of one grade store it as one word
+pub grade-word : (a b : Point) → sameGrade a b ≡ true → wordOf a 1 ≡ wordOf b 1
+unfolding wordOf
+grade-word a b e = ap (λ x. storedIn (rangeOf 1) x) (grade-equal a b e)
 
 pub grade-refl : (a : Point) → sameGrade a a ≡ true
 grade-refl a = grade-same a a refl

@@ -1,14 +1,14 @@
 -- Rows in words: a row in range that is written is read back; every other row, record and word is as it was; `NONE` and `Bad` are
 -- harmless; slices that agree on the words of a row have the same row there.
 -- Assumes nothing.
-use mathlib.Core.Path.{_≡_, refl, ap}
+use mathlib.Core.Path.{_≡_, refl, ap, _∙_}
 use mathlib.Core.Bool.{Bool, true, false, cond, _&&_, false≢true}
 use mathlib.Core.List.{List}
 use Prim.Native.Nat.{ℕ, _+_, _≤_, _<_}
 use native.Mathlib.Omega.{arith}
 use borrow.Author.Tests.{leb-true, le-leb, lt-ltb, le-ltb}
-use lib.Dec.{leb, ltb}
-use lib.ListN.{length}
+use lib.Dec.{leb, ltb, lit<}
+use lib.ListN.{length, getD, drop}
 use Rattle.points.specs.Point.{inRange}
 use Rattle.points.specs.Word.{NONE, cutInRange}
 use Rattle.points.proofs.Tests.{and-l, and-r}
@@ -19,11 +19,12 @@ use Rattle.rows.specs.declared.row.Row.{Row}
 use Rattle.rows.specs.declared.row.Row.the-variants.{Bad, Spare, Removed, Leaf, Cut}
 use Rattle.rows.specs.Layout.{atRow, mostRows, records}
 use Rattle.rows.specs.Words.{get, put, part, splice}
-use Rattle.rows.specs.Agree.{Off, Agree, inRow, AgreeIn, OnlyIn}
+use Rattle.rows.specs.Agree.{Off, Agree, Only, inRow, AgreeIn, OnlyIn}
 use Rattle.rows.specs.Range.{linkIn, curveIn}
-use Rattle.rows.specs.Row.{pointFrom, isRow, inRows, checkedRow, rowOf, rowAt, encodeRow, putRow, Room}
-use Rattle.rows.proofs.Splice.{length-splice, splice-part}
-use Rattle.rows.proofs.AgreeLaws.{part-agree, only-apart, put-only, splice-only, splice-agree, cond-only, cond-agree, row-row, elsewhere}
+use Rattle.rows.specs.Row.{pointFrom, isRow, inRows, checkedRow, rowOf, rowAt, encodeRow, filledRow, putRow, Room}
+use lib.Seq.{getD-take, getD-drop}
+use Rattle.rows.proofs.Splice.{length-splice, splice-inside}
+use Rattle.rows.proofs.AgreeLaws.{part-agree, only-within, only-apart, put-only, splice-only, splice-agree, cond-only, cond-agree, row-row, elsewhere}
 
 -- what it means that a row is in range, by kind
 pub in-rows-bad : (rows : ℕ) → inRows rows Bad ≡ false
@@ -58,28 +59,33 @@ in-rows-row rows (Removed next freed added point curve) e = refl
 in-rows-row rows (Leaf parent added point curve) e = refl
 in-rows-row rows (Cut parent cut left right) e = refl
 
-length-encode : (row : Row) → length (encodeRow row) ≡ 16
+-- at most sixteen words are written
+encode-fits : (row : Row) → length (encodeRow row) ≤ 16
 unfolding encodeRow
-length-encode Bad = refl
-length-encode (Spare next freed) = refl
-length-encode (Removed next freed added point curve) = refl
-length-encode (Leaf parent added point curve) = refl
-length-encode (Cut parent cut left right) = refl
+encode-fits Bad = omega arith
+encode-fits (Spare next freed) = omega arith
+encode-fits (Removed next freed added point curve) = omega arith
+encode-fits (Leaf parent added point curve) = omega arith
+encode-fits (Cut parent cut left right) = omega arith
 
--- sixteen words that were made of a row give the row
-row-back : (rows : ℕ) (row : Row) → inRows rows row ≡ true → rowOf (encodeRow row) ≡ row
+-- words that begin as those of a row give the row
+row-back : (rows : ℕ) (row : Row) (x : List ℕ) → inRows rows row ≡ true
+    → ((k : ℕ) → k < length (encodeRow row) → getD x k 0 ≡ getD (encodeRow row) k 0) → rowOf x ≡ row
 unfolding inRows rowOf encodeRow pointFrom
-row-back rows Bad e = absurd (false≢true e)
-row-back rows (Spare next freed) e = refl
-row-back rows (Removed next freed added point curve) e =
-    ap (λ p. Removed next freed added p curve)
-    (point-at-words point (and-r (linkIn rows next) (inRange point) (and-l (linkIn rows next && inRange point) (curveIn curve) e)))
-row-back rows (Leaf parent added point curve) e =
-    ap (λ p. Leaf parent added p curve)
-    (point-at-words point (and-r (linkIn rows parent) (inRange point) (and-l (linkIn rows parent && inRange point) (curveIn curve) e)))
-row-back rows (Cut parent cut left right) e =
+row-back rows Bad x e h = absurd (false≢true e)
+row-back rows (Spare next freed) x e h = simp (h 0 (lit< tt), h 1 (lit< tt), h 2 (lit< tt))
+row-back rows (Removed next freed added point curve) x e h =
+    simp (h 0 (lit< tt), h 1 (lit< tt), h 2 (lit< tt), h 3 (lit< tt), h 4 (lit< tt), h 5 (lit< tt), h 6 (lit< tt), h 7 (lit< tt), h 8 (lit< tt), h 9 (lit< tt))
+    (ap (λ p. Removed next freed added p curve)
+    (point-at-words point (and-r (linkIn rows next) (inRange point) (and-l (linkIn rows next && inRange point) (curveIn curve) e))))
+row-back rows (Leaf parent added point curve) x e h =
+    simp (h 0 (lit< tt), h 1 (lit< tt), h 3 (lit< tt), h 4 (lit< tt), h 5 (lit< tt), h 6 (lit< tt), h 7 (lit< tt), h 8 (lit< tt), h 9 (lit< tt))
+    (ap (λ p. Leaf parent added p curve)
+    (point-at-words point (and-r (linkIn rows parent) (inRange point) (and-l (linkIn rows parent && inRange point) (curveIn curve) e))))
+row-back rows (Cut parent cut left right) x e h =
     let f = and-l (linkIn rows parent && cutInRange cut) (ltb left rows) (and-l ((linkIn rows parent && cutInRange cut) && ltb left rows) (ltb right rows) e) in
-    ap (λ k. Cut parent k left right) (cut-at-words cut (and-r (linkIn rows parent) (cutInRange cut) f))
+    simp (h 0 (lit< tt), h 1 (lit< tt), h 4 (lit< tt), h 5 (lit< tt), h 6 (lit< tt), h 7 (lit< tt))
+    (ap (λ k. Cut parent k left right) (cut-at-words cut (and-r (linkIn rows parent) (cutInRange cut) f)))
 
 checked-same : (rows : ℕ) (row : Row) → inRows rows row ≡ true → checkedRow rows row ≡ row
 unfolding checkedRow
@@ -115,7 +121,7 @@ pub putRow-outside : (w : List ℕ) (r : ℕ) (row : Row) → mostRows ≤ r →
 unfolding putRow
 putRow-outside w r row h = go (isRow row) (ltb r mostRows) (le-ltb r mostRows h)
   where
-    go : (b d : Bool) → d ≡ false → cond ((b && d) && leb (atRow r + 16) (length w)) (splice w (encodeRow row) (atRow r) 16) w ≡ w
+    go : (b d : Bool) → d ≡ false → cond ((b && d) && leb (atRow r + 16) (length w)) (filledRow w (atRow r) row) w ≡ w
     go true d e = rw e
     go false d e = refl
 
@@ -127,12 +133,17 @@ pub putRow-bad : (w : List ℕ) (r : ℕ) → putRow w r Bad ≡ w
 unfolding putRow
 putRow-bad w r = refl
 
+-- the words that are written fit where the row does
+fill-fits : (w : List ℕ) (a : Bool) (row : Row) (r : ℕ) → (a && leb (atRow r + 16) (length w)) ≡ true → atRow r + length (encodeRow row) ≤ length w
+fill-fits w a row r e = omega (arith, leb-true (atRow r + 16) (length w) (and-r a _ e), encode-fits row)
+
 -- writing a row touches its sixteen words alone
 pub putRow-only : (w : List ℕ) (r : ℕ) (row : Row) → OnlyIn (putRow w r row) w (inRow r)
 unfolding putRow
 putRow-only w r row =
     cond-only ((isRow row && ltb r mostRows) && leb (atRow r + 16) (length w))
-    (λ e. splice-only w (encodeRow row) (atRow r) 16 (leb-true _ _ (and-r (isRow row && ltb r mostRows) _ e)) (length-encode row))
+    (λ e. only-within (splice-only w (encodeRow row) (atRow r) (length (encodeRow row)) (fill-fits w (isRow row && ltb r mostRows) row r e) refl)
+    (atRow r) 16 (omega arith) (omega (arith, encode-fits row)))
 
 pub length-putRow : (w : List ℕ) (r : ℕ) (row : Row) → length (putRow w r row) ≡ length w
 length-putRow w r row = putRow-only w r row .lengths
@@ -146,7 +157,7 @@ unfolding putRow
 putRow-agree {v} {w} {a} {n} g r row =
     cond-agree ((isRow row && ltb r mostRows) && leb (atRow r + 16) (length v)) ((isRow row && ltb r mostRows) && leb (atRow r + 16) (length w))
     (ap (λ k. (isRow row && ltb r mostRows) && leb (atRow r + 16) k) (g .lengths))
-    (λ e. splice-agree g (encodeRow row) (atRow r) 16 (leb-true _ _ (and-r (isRow row && ltb r mostRows) _ e)) (length-encode row))
+    (λ e. splice-agree g (encodeRow row) (atRow r) (length (encodeRow row)) (fill-fits v (isRow row && ltb r mostRows) row r e) refl)
     g
 
 -- slices that agree on the words of a row have the same row there
@@ -169,5 +180,20 @@ unfolding rowAt putRow
 rowAt-putRow-same w r row rows m h e =
     let room : atRow r + 16 ≤ length w = omega (arith, m .fits) in
     let below : r < mostRows = omega (arith, m .most) in
-    simp (in-rows-row rows row e, lt-ltb r mostRows below, le-leb (atRow r + 16) (length w) room, length-splice w (encodeRow row) (atRow r) 16 room (length-encode row), lt-ltb r rows h, splice-part w (encodeRow row) (atRow r) 16 room (length-encode row), row-back rows row e)
+    let n = length (encodeRow row) in
+    let fits : atRow r + n ≤ length w = omega (arith, encode-fits row) in
+    let new = splice w (encodeRow row) (atRow r) n in
+    let first : (k : ℕ) → k < n → getD (part new (atRow r) 16) k 0 ≡ getD (encodeRow row) k 0 =
+    λ k l. getD-take 16 (drop (atRow r) new) k 0 (omega (arith, encode-fits row)) ∙ getD-drop (atRow r) new k 0
+    ∙ splice-inside w (encodeRow row) (atRow r) n fits refl k l in
+    simp (in-rows-row rows row e, lt-ltb r mostRows below, le-leb (atRow r + 16) (length w) room, length-splice w (encodeRow row) (atRow r) n fits refl, lt-ltb r rows h, row-back rows row (part new (atRow r) 16) e first)
     (checked-same rows row e)
+
+-- ---- cuts, whose last eight words are no field of the row
+
+-- writing a cut touches its first eight words alone
+pub putRow-cut-only : (w : List ℕ) (r parent : ℕ) (cut : PointCut) (left right : ℕ) → Only (putRow w r (Cut parent cut left right)) w (atRow r) 8
+unfolding putRow encodeRow
+putRow-cut-only w r parent cut left right =
+    cond-only ((true && ltb r mostRows) && leb (atRow r + 16) (length w))
+    (λ e. splice-only w (encodeRow (Cut parent cut left right)) (atRow r) 8 (omega (arith, leb-true (atRow r + 16) (length w) (and-r (true && ltb r mostRows) _ e))) refl)

@@ -2,16 +2,19 @@
 -- region (`reads-unseen`): for every pair of common record, stations and rows.
 -- Assumes nothing.
 use mathlib.Core.Path.{_≡_}
+use mathlib.Core.Bool.{Bool}
 use mathlib.Core.List.{List}
-use Prim.Native.Nat.{ℕ}
+use Prim.Native.Nat.{ℕ, _<_}
 use Rattle.rows.specs.Agree.{Region, inCommon, inStation, inRow, AgreeIn, OnlyIn}
 use Rattle.rows.specs.Row.{rowAt}
+use Rattle.rows.specs.Grades.{admits}
 use Rattle.rows.specs.Common.{openedIn, commonSound, takenIn}
 use Rattle.rows.specs.Station.{stateAt}
 use Rattle.rows.specs.Call.{callAt}
 use Rattle.rows.specs.Answer.{answerAt, waitingAt}
 use Rattle.rows.proofs.AgreeLaws.{elsewhere}
 use Rattle.rows.proofs.RowLaws.{rowAt-agree}
+use Rattle.rows.proofs.GradeLaws.{admits-agree}
 use Rattle.rows.proofs.OpeningLaws.{openedIn-agree}
 use Rattle.rows.proofs.CommonLaws.{commonSound-agree}
 use Rattle.rows.proofs.TakenLaws.{takenIn-agree}
@@ -30,11 +33,16 @@ pub record StationReads (v w : List ℕ) (s : ℕ) : Type 0 where
   pub answer : answerAt v s ≡ answerAt w s
   pub waiting : waitingAt v s ≡ waitingAt w s
 
+-- of a row: its fields, and the grades of its two sides
+pub record RowReads (v w : List ℕ) (r : ℕ) : Type 0 where
+  pub row : (rows : ℕ) → rowAt v rows r ≡ rowAt w rows r
+  pub grades : (side : Bool) (k : ℕ) → k < 128 → admits v r side k ≡ admits w r side k
+
 -- of a region
 abbrev pub Reads : List ℕ → List ℕ → Region → Type 0
 Reads v w inCommon = CommonReads v w
 Reads v w (inStation s) = StationReads v w s
-Reads v w (inRow r) = (rows : ℕ) → rowAt v rows r ≡ rowAt w rows r
+Reads v w (inRow r) = RowReads v w r
 
 -- slices that agree on a region read the same there
 pub reads-agree : {v w : List ℕ} (x : Region) → AgreeIn v w x → Reads v w x
@@ -45,7 +53,7 @@ reads-agree (inStation s) g = record {
   answer = answerAt-agree s g;
   waiting = waitingAt-agree s g;
 }
-reads-agree (inRow r) g = λ rows. rowAt-agree rows r g
+reads-agree (inRow r) g = record { row = λ rows. rowAt-agree rows r g; grades = λ side k h. admits-agree r side k h g }
 
 -- what is written in one region is not read in another
 pub reads-unseen : {v w : List ℕ} (x y : Region) → OnlyIn v w x → ¬ (y ≡ x) → Reads v w y

@@ -72,28 +72,34 @@ rowOf w =
 unfoldable pub rowAt : List ℕ → ℕ → ℕ → Row
 rowAt words rows r = cond (ltb r rows && leb (atRow r + 16) (length words)) (checkedRow rows (rowOf (part words (atRow r) 16))) Bad
 
+-- the sixteen words of a spare row: kind, next, number of its removal
+abbrev pub spareWords : ℕ → ℕ → List ℕ
+spareWords next freed = 0 ∷ next ∷ freed ∷ 0 ∷ 0 ∷ 0 ∷ 0 ∷ 0 ∷ 0 ∷ 0 ∷ 0 ∷ 0 ∷ 0 ∷ 0 ∷ 0 ∷ 0 ∷ []
+
 -- the sixteen words of a record, held or removed: kind, link, number of its removal, number of its addition, point, curve
 abbrev pub recordWords : ℕ → ℕ → ℕ → ℕ → Point → ℕ → List ℕ
 recordWords kind link freed added point curve =
     kind ∷ link ∷ freed ∷ added ∷ pointWords point (curve ∷ 0 ∷ 0 ∷ 0 ∷ 0 ∷ 0 ∷ 0 ∷ [])
 
--- the sixteen words of a cut
+-- the first eight words of a cut, which its grades follow
 abbrev pub cutWords : ℕ → PointCut → ℕ → ℕ → List ℕ
-cutWords parent cut left right =
-    3 ∷ parent ∷ 0 ∷ 0 ∷ axisWordOf cut ∷ sumWordOf cut ∷ left ∷ right ∷ 0 ∷ 0 ∷ 0 ∷ 0 ∷ 0 ∷ 0 ∷ 0 ∷ 0 ∷ []
+cutWords parent cut left right = 3 ∷ parent ∷ 0 ∷ 0 ∷ axisWordOf cut ∷ sumWordOf cut ∷ left ∷ right ∷ []
 
--- the sixteen words of a row; for Bad those of no kind
+-- the words of a row that writing it writes: all sixteen, but for the grades of a cut, which stay; none for Bad
 unfoldable pub encodeRow : Row → List ℕ
-encodeRow Bad = 4 ∷ 0 ∷ 0 ∷ 0 ∷ 0 ∷ 0 ∷ 0 ∷ 0 ∷ 0 ∷ 0 ∷ 0 ∷ 0 ∷ 0 ∷ 0 ∷ 0 ∷ 0 ∷ []
-encodeRow (Spare next freed) = 0 ∷ next ∷ freed ∷ 0 ∷ 0 ∷ 0 ∷ 0 ∷ 0 ∷ 0 ∷ 0 ∷ 0 ∷ 0 ∷ 0 ∷ 0 ∷ 0 ∷ 0 ∷ []
+encodeRow Bad = []
+encodeRow (Spare next freed) = spareWords next freed
 encodeRow (Removed next freed added point curve) = recordWords 1 next freed added point curve
 encodeRow (Leaf parent added point curve) = recordWords 2 parent 0 added point curve
 encodeRow (Cut parent cut left right) = cutWords parent cut left right
 
+-- the words with those of a row from one place on
+abbrev pub filledRow : List ℕ → ℕ → Row → List ℕ
+filledRow words at row = splice words (encodeRow row) at (length (encodeRow row))
+
 -- the words with the row r written; as they were where there is no such row, where the slice is too short, and for Bad
 unfoldable pub putRow : List ℕ → ℕ → Row → List ℕ
-putRow words r row =
-    cond ((isRow row && ltb r mostRows) && leb (atRow r + 16) (length words)) (splice words (encodeRow row) (atRow r) 16) words
+putRow words r row = cond ((isRow row && ltb r mostRows) && leb (atRow r + 16) (length words)) (filledRow words (atRow r) row) words
 
 -- the slice holds the two records and so many rows, as an opened one does
 pub record Room (words : List ℕ) (rows : ℕ) : Type 0 where

@@ -1,6 +1,6 @@
 // Rows: sixteen words each, read and written as values.
-use crate::part::copy;
 use crate::part::point_from;
+use crate::part::write_part;
 use crate::word::curve_in;
 use crate::word::link_in;
 use points::cut::Cut;
@@ -12,15 +12,16 @@ use points::word::cut_in_range;
 use points::word::sum_word;
 use points::word::word;
 ghost use mathlib.Core.Path.{_≡_};
+ghost use Prim.Native.Nat.{_+_, _≤_};
 ghost use lib.ListN.{length};
-ghost use Rattle.rows.specs.Row.{isRow, recordIn, inRows, checkedRow, asSpare, asRemoved, asLeaf, asCut, rowOf, rowAt, recordWords, cutWords, encodeRow, putRow};
+ghost use Rattle.rows.specs.Row.{isRow, recordIn, inRows, checkedRow, asSpare, asRemoved, asLeaf, asCut, rowOf, rowAt, spareWords, recordWords, cutWords, filledRow, putRow};
 
 // The word where the rows begin, the words of a row, and the rows of the greatest index.
-const FIRST_ROW: usize = 608;
+pub(crate) const FIRST_ROW: usize = 608;
 
-const ROW: usize = 16;
+pub(crate) const ROW: usize = 16;
 
-const MOST_ROWS: u32 = 8192;
+pub(crate) const MOST_ROWS: u32 = 8192;
 
 pub enum Row {
     // No row, or one with a field out of range.
@@ -192,6 +193,13 @@ pub fn read_row(words: &[u32], rows: u32, r: u32) -> Row
     Row::Bad
 }
 
+// The sixteen words of a spare row.
+fn spare_words(next: u32, freed: u32) -> [u32; 16]
+    ensures { λ r. ⌜ r ≡ spareWords next freed ⌝ }
+{
+    [0, next, freed, 0, 0, 0, 0, 0, 0, 0, 0, 0, 0, 0, 0, 0]
+}
+
 // The sixteen words of a record, held or removed.
 fn record_words(kind: u32, link: u32, freed: u32, added: u32, point: Point, curve: u32) -> [u32; 16]
     ensures { λ r. ⌜ r ≡ recordWords kind link freed added point curve ⌝ }
@@ -216,77 +224,63 @@ fn record_words(kind: u32, link: u32, freed: u32, added: u32, point: Point, curv
     ]
 }
 
-// The sixteen words of a cut.
-fn cut_words(parent: u32, cut: Cut, left: u32, right: u32) -> [u32; 16]
+// The first eight words of a cut; its grades follow.
+fn cut_words(parent: u32, cut: Cut, left: u32, right: u32) -> [u32; 8]
     ensures { λ r. ⌜ r ≡ cutWords parent cut left right ⌝ }
 {
-    [
-        3,
-        parent,
-        0,
-        0,
-        axis_word(cut),
-        sum_word(cut),
-        left,
-        right,
-        0,
-        0,
-        0,
-        0,
-        0,
-        0,
-        0,
-        0,
-    ]
+    [3, parent, 0, 0, axis_word(cut), sum_word(cut), left, right]
 }
 
-// The sixteen words of a row.
-fn encode(row: Row) -> [u32; 16]
-    ensures { λ r. ⌜ r ≡ encodeRow row ⌝ }
+// Writes a row from one place on. The grades of a cut stay.
+fn fill_row(words: &mut [u32], at: usize, row: Row)
+    requires { ⌜ at + 16 ≤ length (now words) ⌝ }
+    ensures { λ _. ⌜ now (words .exit) ≡ filledRow (now (words .entry)) at row ⌝ }
 {
     match row {
-        Row::Bad => [4, 0, 0, 0, 0, 0, 0, 0, 0, 0, 0, 0, 0, 0, 0, 0],
-        Row::Spare { next, freed } => [0, next, freed, 0, 0, 0, 0, 0, 0, 0, 0, 0, 0, 0, 0, 0],
+        Row::Bad => {}
+        Row::Spare { next, freed } => {
+            let from = spare_words(next, freed);
+            write_part(words, at, &from[..]);
+        }
         Row::Removed {
             next,
             freed,
             added,
             point,
             curve,
-        } => record_words(1, next, freed, added, point, curve),
+        } => {
+            let from = record_words(1, next, freed, added, point, curve);
+            write_part(words, at, &from[..]);
+        }
         Row::Leaf {
             parent,
             added,
             point,
             curve,
-        } => record_words(2, parent, 0, added, point, curve),
+        } => {
+            let from = record_words(2, parent, 0, added, point, curve);
+            write_part(words, at, &from[..]);
+        }
         Row::Cut {
             parent,
             cut,
             left,
             right,
-        } => cut_words(parent, cut, left, right),
+        } => {
+            let from = cut_words(parent, cut, left, right);
+            write_part(words, at, &from[..]);
+        }
     }
 }
 
-// Writes a row to its sixteen words.
-fn fill_row(part: &mut [u32], row: Row)
-    requires { ⌜ length (now part) ≡ 16 ⌝ }
-    ensures { λ _. ⌜ now (part .exit) ≡ encodeRow row ⌝ }
-{
-    let from = encode(row);
-    copy(part, &from[..]);
-}
-
-// Writes the row r; nothing where there is none, and nothing for `Bad`.
+// Writes the row r; nothing where there is none, and nothing for `Bad`. The grades of a cut stay.
 pub fn write_row(words: &mut [u32], r: u32, row: Row)
     ensures { λ _. ⌜ now (words .exit) ≡ putRow (now (words .entry)) r row ⌝ }
 {
     if is_row(row) & (r < MOST_ROWS) {
         let at = FIRST_ROW + ROW * (r as usize);
-        let end = at + ROW;
-        if end <= words.len() {
-            fill_row(&mut words[at..end], row);
+        if at + ROW <= words.len() {
+            fill_row(words, at, row);
         }
     }
 }

@@ -1,10 +1,10 @@
 -- The theorems' hypotheses can be met, and the moves compute: an index of two places is opened, a record is inserted, a search is submitted, a
 -- nearer record is inserted beside the first, and the first is unlinked; the search answers the first, the only one held at its submission, and
--- that is right (`answers`, `right`).
+-- that is right (`answers`, `right`). A search for another grade, of which the cut has no mark, passes over both its sides (`passes-over`, `none-right`).
 use Prim.Native.Nat.{ℕ}
-use mathlib.Core.Path.{_≡_, refl, sym, _∙_, ap, subst₂, subst₃}
+use mathlib.Core.Path.{_≡_, refl, sym, _∙_, ap, subst, subst₂, subst₃}
 use mathlib.Core.Logic.{inl, inr}
-use mathlib.Core.Bool.{true}
+use mathlib.Core.Bool.{Bool, true, false, true≢false}
 use mathlib.Core.List.{List, [], _∷_}
 use mathlib.Core.Option.{Option, none, some}
 use native.Mathlib.Omega.{arith}
@@ -17,12 +17,14 @@ use Rattle.points.specs.Signed.{cappedOf}
 use Rattle.points.specs.Cut.{widerOf, spreadOf, widestOf, cutOf, goesLeft}
 use Rattle.points.specs.Choice.{sameGrade}
 use Rattle.points.specs.Word.{NONE}
+use Rattle.points.proofs.ChoiceLaws.{grade-turn, grade-trans}
 use Rattle.trees.specs.Row.{Entry, spareRow, removedRow, leafRow, cutRow, Heap, nextOf, parentOf, siblingOf, setNext, setParent, write}
 use Rattle.trees.specs.Tree.{Tree, leaf, cut, top, topOf, Has, Shape, Holds, treeCount, leavesFrom, leavesLinked}
 use Rattle.trees.specs.Queue.{Free, tailOf, spareRows}
 use Rattle.trees.specs.Store.{Store}
 use Rattle.trees.specs.Stand.{Down, Up, moveCursor, afterUnlink, missedAfter}
-use Rattle.trees.specs.Tour.{Progress, considered, look, tour, seek, searchAfterInsert, searchAfterUnlink}
+use Rattle.trees.specs.Tour.{Progress, considered, look, Opens, tour, toured, seek, searchAfterInsert, searchAfterUnlink}
+use Rattle.trees.specs.Below.{Closed, Marks, Covered}
 use Rattle.trees.specs.Search.{begun, Search, Nearest}
 use Rattle.trees.specs.Reads.{UnlinkApart, Leaf}
 use Rattle.trees.specs.Insert.{firstFree, secondFree, newCut, InsertBeside, Inserted}
@@ -33,6 +35,7 @@ use Rattle.trees.proofs.WriteLaws.{write-wrote, insert-write, insert-wr
 use Rattle.trees.proofs.Insert.{insert}
 use Rattle.trees.proofs.Unlink.{unlink}
 use Rattle.trees.proofs.SearchLaws.{search-begin, search-insert, search-unlink, search-seek, search-finish}
+use Rattle.trees.proofs.MarkLaws.{closed-covered}
 use Rattle.trees.proofs.Open.{openedNext, store-open}
 use Rattle.trees.proofs.ChoiceOf.{choiceOf}
 
@@ -185,19 +188,58 @@ searching : Search (choiceOf target) 1 0 (Holds (some (leaf 0 old))) (third .tre
 searching = search-unlink (second .store) third (search-insert second (omega arith) (search-begin (choiceOf target) (some (leaf 0 old)) store-one (λ e. (λ m. m, λ m. m))))
 
 -- one step looks at the removed record, passes over the one that is younger than the search, and has nothing left
-answers : seek (choiceOf target) 1 last left ≡ some (record {
+answers : seek (choiceOf target) (λ x side. true) 1 last left ≡ some (record {
   stand = record { cursor = NONE; phase = Up };
   missed = NONE;
   best = some
       (record { point = old .point; curve = 41 });
 })
-unfolding seek look tour considered write moveCursor afterUnlink missedAfter sameGrade byAxis coordinateOf
+unfolding seek look tour toured considered write moveCursor afterUnlink missedAfter sameGrade byAxis coordinateOf
 answers = refl
 
 -- so the answer is the nearest of the records held at submission
 right : Nearest (choiceOf target) (Holds (some (leaf 0 old))) (some (record { point = old .point; curve = 41 }))
 right =
-    let w = search-seek (third .tree) (third .store) left searching in
+    let w = search-seek (third .tree) (third .store) (λ x side. true) (λ x side e f. absurd (true≢false f)) left searching in
     let e : w .to ≡ record { stand = record { cursor = NONE; phase = Up }; missed = NONE; best = some (record { point = old .point; curve = 41 }) } =
     cc (w .is, answers) in
     search-finish (third .tree) (third .store) (rw e at (w .search)) refl
+
+-- between the second insert and the unlink, a search for grade 13 where both sides of the cut have the mark of grade 12 alone
+abbrev other : Point
+other = record { grade = pos 13; weight = pos 12000; moisture = pos 550; speed = pos 9000; draw = pos 0 }
+
+abbrev marked : Marks
+marked x side p = sameGrade (old .point) p
+
+store-two : Store 2 two (some both) (second .queue) 2 0 0
+store-two = subst (λ (t : Option Tree). Store 2 two t (second .queue) 2 0 0) tree-two (second .store)
+
+covered-two : Covered marked (some both)
+unfolding sameGrade byAxis coordinateOf
+covered-two =
+    subst (λ (t : Option Tree). Covered marked t) tree-two (second .covers marked marked (λ x side e m. absurd m) (λ x m side p e. e) (refl, refl, refl))
+
+abbrev opens : Opens
+opens x side = marked x side other
+
+-- every point of grade 13 has the marks of that one
+same-marks : (p : Point) → sameGrade other p ≡ true → (b : Bool) → sameGrade (old .point) p ≡ b → sameGrade (old .point) p ≡ sameGrade (old .point) other
+unfolding sameGrade byAxis coordinateOf
+same-marks p g true e = e ∙ sym (grade-trans (old .point) p other e (grade-turn other p g))
+same-marks p g false e = e
+
+closed : Closed opens (choiceOf other) (some both)
+closed = closed-covered marked (choiceOf other) other (some both) (λ x side p g. same-marks p g (sameGrade (old .point) p) refl) covered-two
+
+-- one step comes to the cut, turns there and is at its end
+passes-over : seek (choiceOf other) opens 2 two (begun (some both)) ≡ some (record { stand = record { cursor = NONE; phase = Up }; missed = NONE; best = none })
+unfolding seek look tour toured write sameGrade byAxis coordinateOf cutOf widestOf widerOf spreadOf gapOf cappedOf goesLeft
+passes-over = refl
+
+-- and that no record has the grade is right
+none-right : Nearest (choiceOf other) (Holds (some both)) none
+none-right =
+    let w = search-seek (some both) store-two opens closed (begun (some both)) (search-begin (choiceOf other) (some both) store-two (λ e. (λ m. m, λ m. m))) in
+    let e : w .to ≡ record { stand = record { cursor = NONE; phase = Up }; missed = NONE; best = none } = cc (w .is, passes-over) in
+    search-finish (some both) store-two (rw e at (w .search)) refl

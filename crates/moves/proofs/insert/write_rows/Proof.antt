@@ -10,23 +10,20 @@ new-leaf-requires c κs = search needs
 write-row-requires : tie.Need-write-row-requires
 write-row-requires c κs = search needs
 
-new-cut-requires : tie.Need-new-cut-requires
-new-cut-requires c κs = search needs
-
-write-row-requires-2 : tie.Need-write-row-requires-2
-write-row-requires-2 c κs = search needs
+write-cut-requires : tie.Need-write-cut-requires
+write-cut-requires c κs = search needs
 
 with-parent-requires : tie.Need-with-parent-requires
 with-parent-requires c κs = search needs
 
-write-row-requires-3 : tie.Need-write-row-requires-3
-write-row-requires-3 c κs = search needs
+write-row-requires-2 : tie.Need-write-row-requires-2
+write-row-requires-2 c κs = search needs
 
 replaced-requires : tie.Need-replaced-requires
 replaced-requires c κs = search needs
 
-write-row-requires-4 : tie.Need-write-row-requires-4
-write-row-requires-4 c κs = search needs
+write-row-requires-3 : tie.Need-write-row-requires-3
+write-row-requires-3 c κs = search needs
 
 same-length : tie.Need-same-length
 same-length c = search needs
@@ -41,11 +38,10 @@ write-rows-spec =
     (tie.spec
     new-leaf-requires
     write-row-requires
-    new-cut-requires
-    write-row-requires-2
+    write-cut-requires
     with-parent-requires
-    write-row-requires-3
+    write-row-requires-2
     replaced-requires
-    write-row-requires-4
+    write-row-requires-3
     same-length
     returns)

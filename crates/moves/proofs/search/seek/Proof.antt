@@ -4,29 +4,32 @@ use Rattle.moves.proofs.search.seek.Tie as tie
 use borrow.Author.Needs.{needs}
 use mathlib.Core.Path.{_≡_, refl, ap, _∙_}
 use mathlib.Core.List.{List}
-use Prim.Native.Nat.{ℕ, _≤_, _-_, zero, suc}
+use Prim.Native.Nat.{ℕ, _≤_, _-_}
 use native.Mathlib.Omega.{arith}
 use native.Mathlib.Numerals.{add-one}
 use Rattle.rows.specs.declared.call.Call.{Call}
+use Rattle.rows.specs.Grades.{slotOf}
 use Rattle.moves.specs.declared.search.Progress.{Progress}
-use Rattle.moves.specs.Search.{tour, seek}
+use Rattle.moves.specs.Search.{look, toured, toursOf, seek}
 
--- so many tours
-unfoldable toured : List ℕ → ℕ → Call → ℕ → Progress → Progress
-toured words rows call zero p = p
-toured words rows call (suc n) p = tour words rows call (toured words rows call n p)
+-- all the tours of a step
+seek-is : (words : List ℕ) (rows : ℕ) (call : Call) (p looked : Progress) (slot most tours : ℕ)
+    → slot ≡ slotOf (call .point) → most ≡ toursOf (p .missed) → looked ≡ look words rows call p → tours ≡ most
+    → toured words rows slot call tours looked ≡ seek words rows call p
+unfolding seek
+seek-is words rows call p looked slot most tours a b d e = rw (e, b, a, d)
 
 abbrev Inv-loop : tie.InvT-loop
-Inv-loop words rows call reached₀ tours₀ reached tours = (tours ≤ 2) × (reached ≡ toured words rows call tours reached₀)
+Inv-loop words rows call slot most reached₀ tours₀ reached tours = (tours ≤ most) × (reached ≡ toured words rows slot call tours reached₀)
 
 abbrev μ-loop : tie.MeasureT-loop
-μ-loop words rows call reached₀ tours₀ reached tours = 2 - tours
+μ-loop words rows call slot most reached₀ tours₀ reached tours = most - tours
 
--- two tours
-at-two : (words : List ℕ) (rows : ℕ) (call : Call) (n : ℕ) (p : Progress) → n ≡ 2
-    → toured words rows call n p ≡ tour words rows call (tour words rows call p)
-unfolding toured
-at-two words rows call n p e = ap (λ (k : ℕ). toured words rows call k p) e
+slot-of-requires : tie.Need-slot-of-requires Inv-loop μ-loop
+slot-of-requires c κs = search needs
+
+pick-requires : tie.Need-pick-requires Inv-loop μ-loop
+pick-requires c κs = search needs
 
 look-requires : tie.Need-look-requires Inv-loop μ-loop
 look-requires c κs = search needs
@@ -39,7 +42,7 @@ tour-requires : tie.Need-tour-requires Inv-loop μ-loop
 tour-requires c κs = search needs
 
 add-tours : tie.Need-add-tours Inv-loop μ-loop
-add-tours c = omega arith
+add-tours c = search needs
 
 loop-less : tie.Need-loop-less Inv-loop μ-loop
 loop-less c = omega arith
@@ -49,8 +52,10 @@ unfolding toured
 loop-again c = (omega arith, simp add-one cc)
 
 returns : tie.Need-returns Inv-loop μ-loop
-unfolding seek
-returns c = c .before .loop .inv .1 ∙ at-two _ _ _ _ _ (omega arith) ∙ cc
+returns c =
+    let l = c .before .before in
+    c .before .loop .inv .1
+    ∙ seek-is _ _ _ _ _ _ _ _ (l .before .before .before .slot-of .ensures) (l .before .pick .ensures) (l .look .ensures) (omega arith)
 
 pub seek-spec : {M : Type 1} → statement M
 seek-spec =
@@ -58,6 +63,8 @@ seek-spec =
     (tie.spec
     Inv-loop
     μ-loop
+    slot-of-requires
+    pick-requires
     look-requires
     loop-holds
     tour-requires

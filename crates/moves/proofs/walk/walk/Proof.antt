@@ -8,18 +8,13 @@ use mathlib.Core.Path.{_≡_, refl, sym, ap, ap₂, _∙_}
 use Prim.Native.Nat.{ℕ}
 use lib.Dec.{eqb}
 use Rattle.points.specs.Word.{NONE}
-use Rattle.points.specs.declared.point.Point.{Point}
 use Rattle.rows.specs.Row.{rowAt}
 use Rattle.rows.specs.declared.call.Call.{Call}
 use Rattle.rows.specs.declared.row.Row.{Row}
-use Rattle.moves.specs.Walk.{down, sixDown, sixFrom, walkTo, conclude, standsAt, walkFrom, walkOf}
+use Rattle.moves.specs.declared.walk.Way.{Way}
+use Rattle.moves.specs.Walk.{wayOf, walkTo, conclude, standsAt, walkFrom, walkOf}
 use Rattle.moves.specs.Reply.{Reply, refused}
 use Rattle.moves.specs.Link.{isCut, isLeaf}
-
--- six rows down, the first of them read already
-six-is : (words : List ℕ) (rows : ℕ) (point : Point) (at : ℕ) → sixFrom words rows point at (rowAt words rows at) ≡ sixDown words rows point at
-unfolding sixDown sixFrom down
-six-is words rows point at = refl
 
 -- the row where the call stands is read once
 from-is : (words : List ℕ) (rows s : ℕ) (call : Call) (at : ℕ) (row : Row) → at ≡ standsAt words s → row ≡ rowAt words rows at → walkFrom words rows s call at row ≡ walkOf words rows s call
@@ -27,13 +22,13 @@ unfolding walkOf
 from-is words rows s call at row a r = ap₂ (walkFrom words rows s call) a (r ∙ ap (rowAt words rows) a)
 
 -- from a cut the walk goes down
-from-cut : (words : List ℕ) (rows s : ℕ) (call : Call) (at : ℕ) (row : Row) → isCut row ≡ true → walkTo words s (sixDown words rows (call .point) at) ≡ walkFrom words rows s call at row
+from-cut : (words : List ℕ) (rows s : ℕ) (call : Call) (at : ℕ) (row : Row) → isCut row ≡ true → walkTo words s call (wayOf words rows (call .point) at) ≡ walkFrom words rows s call at row
 from-cut words rows s call at row k = rw k refl
 
-goes-down : (words : List ℕ) (rows s : ℕ) (call : Call) (at : ℕ) (row : Row) (to : ℕ) (reply : Reply) → at ≡ standsAt words s → row ≡ rowAt words rows at → isCut row ≡ true → to ≡ sixFrom words rows (call .point) at row → reply ≡ walkTo words s to → reply ≡ walkOf words rows s call
-goes-down words rows s call at row to reply a r k t e =
+goes-down : (words : List ℕ) (rows s : ℕ) (call : Call) (at : ℕ) (row : Row) (way : Way) (reply : Reply) → at ≡ standsAt words s → row ≡ rowAt words rows at → isCut row ≡ true → way ≡ wayOf words rows (call .point) at → reply ≡ walkTo words s call way → reply ≡ walkOf words rows s call
+goes-down words rows s call at row way reply a r k t e =
     e
-    ∙ ap (walkTo words s) (t ∙ ap (sixFrom words rows (call .point) at) r ∙ six-is words rows (call .point) at)
+    ∙ ap (walkTo words s call) t
     ∙ from-cut words rows s call at row k
     ∙ from-is words rows s call at row a r
 

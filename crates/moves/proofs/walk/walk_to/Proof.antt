@@ -6,6 +6,9 @@ use mathlib.Core.Path.{ap}
 use borrow.Author.Tests.{eq-eqb, ne-eqb}
 use Rattle.moves.specs.Reply.{done}
 
+pass-requires : tie.Need-pass-requires
+pass-requires c κs = search needs
+
 write-place-requires : tie.Need-write-place-requires
 write-place-requires c κs = search needs
 
@@ -16,7 +19,7 @@ same-length : tie.Need-same-length
 same-length c = search needs
 
 returns-2 : tie.Need-returns-2
-returns-2 c = simp (ne-eqb _ _ (c .before .before .before .before .if1 .left)) (ap done cc)
+returns-2 c = simp (ne-eqb _ _ (c .before .before .before .before .before .before .before .before .if1 .left)) (ap done cc)
 
 pub walk-to-spec : {M : Type 1} → statement M
-walk-to-spec = tie.close (tie.spec write-place-requires returns same-length returns-2)
+walk-to-spec = tie.close (tie.spec pass-requires write-place-requires returns same-length returns-2)

@@ -1,0 +1,95 @@
+-- What it means that a row reads as a cut: the row is in the slice, its kind is 3, and its left link is the word that the grades go by. Slices that agree
+-- on the first eight words of a cut have the same row there.
+-- Assumes nothing.
+use mathlib.Core.Path.{_≡_, refl, sym, ap, _∙_}
+use mathlib.Core.Bool.{Bool, true, false, cond, _&&_}
+use mathlib.Core.List.{List}
+use Prim.Native.Nat.{ℕ, _+_, _≤_, _<_}
+use native.Mathlib.Omega.{arith}
+use borrow.Author.Tests.{eqb-true, eq-eqb, leb-true}
+use lib.Dec.{eqb, leb, ltb, lit<}
+use lib.ListN.{length, getD, drop}
+use lib.Seq.{getD-take, getD-drop}
+use Rattle.points.specs.declared.cut.Cut.{Cut as PointCut}
+use Rattle.points.specs.Word.{cutAt}
+use Rattle.points.proofs.Tests.{and-r}
+use Rattle.rows.specs.declared.row.Row.{Row}
+use Rattle.rows.specs.declared.row.Row.the-variants.{Bad, Spare, Removed, Leaf, Cut}
+use Rattle.rows.specs.Layout.{atRow}
+use Rattle.rows.specs.Words.{get, part}
+use Rattle.rows.specs.Agree.{Agree}
+use Rattle.rows.specs.Row.{inRows, checkedRow, asSpare, asRemoved, asLeaf, asCut, rowOf, rowAt}
+use Rattle.rows.specs.Grades.{leftAt}
+
+-- whether a row is a cut, and the left link of one
+abbrev cutOrNot : Row → ℕ
+cutOrNot Bad = 0
+cutOrNot (Spare next freed) = 0
+cutOrNot (Removed next freed added point curve) = 0
+cutOrNot (Leaf parent added point curve) = 0
+cutOrNot (Cut parent cut left right) = 1
+
+abbrev leftOf : Row → ℕ
+leftOf Bad = 0
+leftOf (Spare next freed) = 0
+leftOf (Removed next freed added point curve) = 0
+leftOf (Leaf parent added point curve) = 0
+leftOf (Cut parent cut left right) = left
+
+module _ {parent : ℕ} {cut : PointCut} {left right : ℕ} where
+  not-cut : (row : Row) → cutOrNot row ≡ 0 → row ≡ Cut parent cut left right → ⊥
+  not-cut row f g = let h : _≡_ {A = ℕ} 0 1 = sym f ∙ ap cutOrNot g in omega arith
+
+  -- sixteen words that are a cut: their kind is 3
+  kind-cut : (x : List ℕ) → rowOf x ≡ Cut parent cut left right → (getD x 0 0 ≡ 3) × (asCut x ≡ Cut parent cut left right)
+  unfolding rowOf
+  kind-cut x e = go (eqb (getD x 0 0) 0) (eqb (getD x 0 0) 1) (eqb (getD x 0 0) 2) (eqb (getD x 0 0) 3) refl e
+    where
+      go : (a b c d : Bool) → eqb (getD x 0 0) 3 ≡ d → cond a (asSpare x) (cond b (asRemoved x) (cond c (asLeaf x) (cond d (asCut x) Bad))) ≡ Cut parent cut left right
+          → (getD x 0 0 ≡ 3) × (asCut x ≡ Cut parent cut left right)
+      go true b c d f g = absurd (not-cut (asSpare x) refl g)
+      go false true c d f g = absurd (not-cut (asRemoved x) refl g)
+      go false false true d f g = absurd (not-cut (asLeaf x) refl g)
+      go false false false true f g = (eqb-true (getD x 0 0) 3 f, g)
+      go false false false false f g = absurd (not-cut Bad refl g)
+
+  -- words that begin as those of a cut are that cut
+  same-cut : (x y : List ℕ) → ((k : ℕ) → k < 8 → getD y k 0 ≡ getD x k 0) → rowOf x ≡ Cut parent cut left right → rowOf y ≡ rowOf x
+  unfolding rowOf
+  same-cut x y h e =
+      let k = kind-cut x e in
+      let k′ : getD y 0 0 ≡ 3 = h 0 (lit< tt) ∙ k .0 in
+      let same : asCut y ≡ asCut x = simp (h 1 (lit< tt), h 4 (lit< tt), h 5 (lit< tt), h 6 (lit< tt), h 7 (lit< tt)) in
+      simp (k .0, k′) same
+
+  module _ (w : List ℕ) (rows r : ℕ) (reads : rowAt w rows r ≡ Cut parent cut left right) where
+    -- the row is in the slice, and its words are a cut
+    row-there : ((ltb r rows && leb (atRow r + 16) (length w)) ≡ true) × (rowOf (part w (atRow r) 16) ≡ Cut parent cut left right)
+    unfolding rowAt checkedRow
+    row-there = go (ltb r rows && leb (atRow r + 16) (length w)) (inRows rows (rowOf (part w (atRow r) 16))) reads
+      where
+        go : (a b : Bool) → cond a (cond b (rowOf (part w (atRow r) 16)) Bad) Bad ≡ Cut parent cut left right → (a ≡ true) × (rowOf (part w (atRow r) 16) ≡ Cut parent cut left right)
+        go true true g = (refl, g)
+        go true false g = absurd (not-cut Bad refl g)
+        go false b g = absurd (not-cut Bad refl g)
+
+    pub cut-fits : atRow r + 16 ≤ length w
+    cut-fits = leb-true (atRow r + 16) (length w) (and-r (ltb r rows) _ (row-there .0))
+
+    word-at : (k : ℕ) → k < 16 → getD (part w (atRow r) 16) k 0 ≡ get w (atRow r + k)
+    unfolding get
+    word-at k l = getD-take 16 (drop (atRow r) w) k 0 l ∙ getD-drop (atRow r) w k 0
+
+    -- the left link
+    pub cut-left : leftAt w r ≡ left
+    unfolding leftAt
+    cut-left = sym (word-at 6 (lit< tt)) ∙ ap leftOf (kind-cut (part w (atRow r) 16) (row-there .1) .1)
+
+    -- the last eight words are not looked at
+    pub cut-first : {v : List ℕ} → Agree v w (atRow r) 8 → rowAt v rows r ≡ rowAt w rows r
+    unfolding rowAt get
+    cut-first {v} g = rw (g .lengths, same-cut (part w (atRow r) 16) (part v (atRow r) 16) each (row-there .1))
+      where
+        each : (k : ℕ) → k < 8 → getD (part v (atRow r) 16) k 0 ≡ getD (part w (atRow r) 16) k 0
+        each k l =
+            getD-take 16 (drop (atRow r) v) k 0 (omega arith) ∙ getD-drop (atRow r) v k 0 ∙ g .words (atRow r + k) (omega arith) (omega arith) ∙ sym (word-at k (omega arith))
