@@ -1,37 +1,11 @@
 #include "flat.h"
-#include <string.h>
-
-static int same(const struct point *a, const struct point *b)
-{
-    return memcmp(a, b, sizeof *a) == 0;
-}
-
-// Among equal squares of one grade: the heavier wins, and of two of one weight the lower.
-static int wins(const struct point *a, const struct point *b)
-{
-    if (a->axis[1] != b->axis[1])
-        return a->axis[1] > b->axis[1];
-    for (int k = 2; k < AXES; k++)
-        if (a->axis[k] != b->axis[k])
-            return a->axis[k] < b->axis[k];
-    return 0;
-}
-
-static uint64_t square(const struct point *a, const struct point *b)
-{
-    int64_t sum = 0;
-    for (int k = 1; k < AXES; k++) {
-        int64_t d = (int64_t)a->axis[k] - b->axis[k];
-        sum += d * d;
-    }
-    return (uint64_t)sum;
-}
+#include "points.h"
 
 // The place of the record with the point, or the number of records held.
 static uint32_t find(const struct flat *flat, const struct point *point)
 {
     for (uint32_t i = 0; i < flat->held; i++)
-        if (same(&flat->records[i].point, point))
+        if (same_point(&flat->records[i].point, point))
             return i;
     return flat->held;
 }

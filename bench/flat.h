@@ -1,4 +1,4 @@
-// The peer: the same records in an array, which every call scans.
+// One peer: the same records in an array, which every call scans.
 #ifndef FLAT_H
 #define FLAT_H
 

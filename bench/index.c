@@ -69,11 +69,6 @@ uint32_t cursor_of(struct index index, uint32_t s)
     return index.words[16 + s];
 }
 
-uint32_t phase_of(struct index index, uint32_t s)
-{
-    return index.words[24 + s];
-}
-
 uint32_t missed_of(struct index index, uint32_t s)
 {
     return index.words[40 + s];
@@ -82,9 +77,4 @@ uint32_t missed_of(struct index index, uint32_t s)
 uint32_t kind_of(struct index index, uint32_t row)
 {
     return index.words[FIRST_ROW + ROW * (size_t)row];
-}
-
-uint32_t link_of(struct index index, uint32_t row)
-{
-    return index.words[FIRST_ROW + ROW * (size_t)row + 1];
 }

@@ -42,13 +42,10 @@ void withdraw(struct index index, uint32_t s);
 // Whether the call of station s is unfinished.
 int unfinished(struct index index, uint32_t s);
 
-// Where the call of station s stands: row, phase of a search, and the first row that it has missed.
+// Where the call of station s stands: its row, and the first row that it has missed.
 uint32_t cursor_of(struct index index, uint32_t s);
-uint32_t phase_of(struct index index, uint32_t s);
 uint32_t missed_of(struct index index, uint32_t s);
 
-// The kind of a row, and its link: to its parent, or to the next free row.
 uint32_t kind_of(struct index index, uint32_t row);
-uint32_t link_of(struct index index, uint32_t row);
 
 #endif

@@ -1,19 +1,62 @@
-// The benchmark of the steps: an index and a flat scan of the same records, side by side in one run.
+// The benchmark: an index beside a flat scan and buckets of the same records, single calls of it, its audit, its busy case and its stack; and a
+// window of moisture readings beside a ring. All in one run.
 #define _GNU_SOURCE
 #include "measure.h"
 #include "scans.h"
+#include "singles.h"
 #include "stack.h"
 #include "stair.h"
 #include <sched.h>
 #include <stdio.h>
 #include <stdlib.h>
+#include <string.h>
 
 #define CALLS 10000
+#define SINGLE_CALLS 10000
 #define READINGS 100000
 #define ROUNDS 7
 #define KINDS 4
+#define COUNT(array) (sizeof(array) / sizeof(array)[0])
 
 static const char *const NAMES[KINDS] = {"nearest", "contains", "remove", "add"};
+
+static const uint32_t SIZES[] = {256, MOST_PLACES};
+
+// The workloads of each size; a size puts its places in.
+static const struct workload WORKLOADS[] = {
+    {"uniform", 0, 1, UNIFORM, AS_DRAWN, AS_RECORDS},
+    {"clustered", 0, 1, CLUSTERED, AS_DRAWN, AS_RECORDS},
+    {"uniform", 0, 40, UNIFORM, AS_DRAWN, AS_RECORDS},
+    {"clustered", 0, 40, CLUSTERED, AS_DRAWN, AS_RECORDS},
+    {"uniform", 0, 1000, UNIFORM, AS_DRAWN, AS_RECORDS},
+    {"clustered", 0, 1000, CLUSTERED, AS_DRAWN, AS_RECORDS},
+    {"clustered, some targets anywhere", 0, 40, CLUSTERED, AS_DRAWN, SOME_ANYWHERE},
+    {"uniform, added by weight", 0, 40, UNIFORM, IN_ORDER, AS_RECORDS},
+    {"uniform, after churn", 0, 40, UNIFORM, CHURNED, AS_RECORDS},
+};
+
+// The workload of the single calls.
+static const struct workload SINGLES = {"uniform", MOST_PLACES, 40, UNIFORM, AS_DRAWN, AS_RECORDS};
+
+// A number as the tables show it.
+struct shown {
+    char text[40];
+};
+
+// With so many decimals, and the digits before the point in threes.
+static struct shown figure(double number, int decimals)
+{
+    char plain[30];
+    struct shown shown = {""};
+    snprintf(plain, sizeof plain, "%.*f", decimals, number);
+    size_t whole = strcspn(plain, ".");
+    for (size_t i = 0, at = 0; plain[i] != 0 && at + 2 < sizeof shown.text; i++) {
+        if (i > 0 && i < whole && (whole - i) % 3 == 0)
+            shown.text[at++] = ',';
+        shown.text[at++] = plain[i];
+    }
+    return shown;
+}
 
 static double least(double a, double b)
 {
@@ -30,47 +73,81 @@ static void keep_least(struct times *best, struct times times, int round)
     best->index = least(best->index, times.index);
     best->steps_alone = least(best->steps_alone, times.steps_alone);
     best->flat = least(best->flat, times.flat);
+    best->buckets = least(best->buckets, times.buckets);
 }
 
-static void one_round(struct pair *pair, uint32_t places, struct times times[KINDS])
+static void one_round(struct sides *sides, struct times best[KINDS], int round)
 {
-    fill(pair, places, places);
-    measure_readings(pair, NEAREST, CALLS, &times[0]);
-    measure_readings(pair, CONTAINS, CALLS, &times[1]);
-    measure_changes(pair, CALLS, &times[2], &times[3]);
-}
-
-static void print_times(const struct pair *pair, uint32_t places, int kind, struct times t)
-{
-    double calls = (double)t.calls;
-    printf("%6u  %-9s  %-8s  %10.1f  %10.0f  %9.0f  %11.2f  %8.1f\n", places, pair->spread == UNIFORM ? "uniform" : "clustered", NAMES[kind],
-           (double)t.steps / calls, t.index / calls, t.flat / calls, t.index / t.flat, t.steps_alone / (double)t.steps);
-}
-
-static void calls_of(struct pair *pair, uint32_t places)
-{
-    struct times best[KINDS] = {{0}};
-    for (int round = 0; round < ROUNDS; round++) {
-        struct times times[KINDS] = {{0}};
-        one_round(pair, places, times);
-        for (int kind = 0; kind < KINDS; kind++)
-            keep_least(&best[kind], times[kind], round);
-    }
+    struct times times[KINDS] = {{0}};
+    fill(sides);
+    measure_readings(sides, NEAREST, CALLS, &times[0]);
+    measure_readings(sides, CONTAINS, CALLS, &times[1]);
+    measure_changes(sides, CALLS, &times[2], &times[3]);
     for (int kind = 0; kind < KINDS; kind++)
-        print_times(pair, places, kind, best[kind]);
+        keep_least(&best[kind], times[kind], round);
 }
 
-static void singles_of(struct pair *pair, const char *name, struct timings (*measure)(struct pair *, uint32_t))
+static void print_times(const struct workload *workload, int kind, struct times t)
+{
+    printf("| %s | %s | %s | %s | %s | %s | %s | %s |\n", figure(workload->places, 0).text, figure(workload->grades, 0).text, workload->name,
+           NAMES[kind], figure((double)t.steps / (double)t.calls, 1).text, figure(t.index / t.flat, 2).text, figure(t.index / t.buckets, 2).text,
+           figure(t.steps_alone / (double)t.steps, 0).text);
+}
+
+static void calls_of(struct sides *sides)
+{
+    struct times best[KINDS];
+    for (int round = 0; round < ROUNDS; round++)
+        one_round(sides, best, round);
+    for (int kind = 0; kind < KINDS; kind++)
+        print_times(&sides->workload, kind, less_clock(best[kind]));
+}
+
+static void whole_calls(struct sides *sides)
+{
+    printf("| places | grades | records | call | steps | index / flat | index / buckets | ns per step |\n|---|---|---|---|---|---|---|---|\n");
+    for (size_t i = 0; i < COUNT(SIZES) * COUNT(WORKLOADS); i++) {
+        sides->workload = WORKLOADS[i % COUNT(WORKLOADS)];
+        sides->workload.places = SIZES[i / COUNT(WORKLOADS)];
+        calls_of(sides);
+    }
+}
+
+// The least median of the rounds. A rule by which no call was timed says nothing, and ends the run.
+static void singles_of(struct sides *sides, const char *name, struct timings (*measure)(struct sides *, uint32_t))
 {
     uint32_t best = LONGEST;
     uint64_t count = 0;
     for (int round = 0; round < ROUNDS; round++) {
-        fill(pair, MOST_PLACES, MOST_PLACES);
-        struct timings timings = measure(pair, CALLS);
+        fill(sides);
+        struct timings timings = measure(sides, SINGLE_CALLS);
         best = median(&timings) < best ? median(&timings) : best;
         count = timings.count;
     }
-    printf("%-26s  %8llu  %6u ns, the median\n", name, (unsigned long long)count, best);
+    if (count == 0) {
+        fprintf(stderr, "bench: there were no %s\n", name);
+        exit(1);
+    }
+    printf("| %s | %s | %s |\n", name, figure((double)count, 0).text, figure(best, 0).text);
+}
+
+static void single_calls(struct sides *sides)
+{
+    printf("\n| single calls, 4,096 places, 40 grades, uniform | timed | ns, the median |\n|---|---|---|\n");
+    sides->workload = SINGLES;
+    singles_of(sides, "walk steps of six rows (add, remove, contains)", measure_walks);
+    singles_of(sides, "search steps that look at a removed record first (nearest)", measure_looks);
+    singles_of(sides, "search steps with nothing missed (nearest)", measure_searches);
+    singles_of(sides, "withdrawals of a nearest", measure_withdrawals);
+}
+
+static void print_stair(uint32_t records, enum order order, struct stair stair)
+{
+    const size_t *u = stair.used;
+    printf("| %s | %s | %s | %s | %s |", figure(records, 0).text, order == BY_WEIGHT ? "by weight" : "shuffled", figure(stair.audit_ns / 1e6, 2).text,
+           figure(stair.busy_steps, 0).text, figure(stair.busy_ns / 1e6, 2).text);
+    printf(" %zu | %zu | %zu | %zu | %zu | %zu | %zu | %zu |\n", u[OPENING], u[SUBMISSION], u[STEP], u[RUN], u[TAKING], u[WITHDRAWAL], u[REPORT],
+           u[AUDIT]);
 }
 
 static void stairs(struct index index)
@@ -79,16 +156,11 @@ static void stairs(struct index index)
         uint32_t records;
         enum order order;
     } rows[] = {{256, BY_WEIGHT}, {1024, BY_WEIGHT}, {MOST_PLACES, BY_WEIGHT}, {MOST_PLACES, SHUFFLED}};
-    printf("\nThe time of an audit, eight searches in turn up to the first answer, and the most bytes of stack that a call took\n");
-    printf("%7s  %-9s  %8s  %10s  %7s  %5s  %6s  %5s  %5s  %5s  %8s  %6s  %6s\n", "records", "added", "audit ms", "busy steps", "busy ms",
-           "open", "submit", "step", "run", "take", "withdraw", "report", "audit");
-    for (size_t i = 0; i < sizeof rows / sizeof rows[0]; i++) {
+    printf("\n| records | added | audit, ms | steps of eight searches in turn, up to the first answer | their ms | bytes of stack: open | submit | "
+           "step | run | take | withdraw | report | audit |\n|---|---|---|---|---|---|---|---|---|---|---|---|---|\n");
+    for (size_t i = 0; i < COUNT(rows); i++) {
         index.length = words_for(rows[i].records);
-        struct stair stair = measure_stair(index, rows[i].records, rows[i].order);
-        const size_t *u = stair.used;
-        printf("%7u  %-9s  %8.3f  %10u  %7.2f  %5zu  %6zu  %5zu  %5zu  %5zu  %8zu  %6zu  %6zu\n", rows[i].records,
-               rows[i].order == BY_WEIGHT ? "by weight" : "shuffled", stair.audit_ns / 1e6, stair.busy_steps, stair.busy_ns / 1e6, u[OPENING],
-               u[SUBMISSION], u[STEP], u[RUN], u[TAKING], u[WITHDRAWAL], u[REPORT], u[AUDIT]);
+        print_stair(rows[i].records, rows[i].order, measure_stair(index, rows[i].records, rows[i].order));
     }
 }
 
@@ -106,12 +178,12 @@ static struct scan_times scans_of(uint32_t length)
 static void scans(void)
 {
     static const uint32_t lengths[] = {1, 12, LONGEST_WINDOW};
-    printf("\nA moisture reading into a window, beside a ring, and the most bytes of stack that a call took\n");
-    printf("%6s  %9s  %7s  %11s  %5s  %6s\n", "length", "window ns", "ring ns", "window/ring", "begin", "update");
-    for (size_t i = 0; i < sizeof lengths / sizeof lengths[0]; i++) {
+    printf("\n| length of the window | ns a reading | ring, ns | window / ring | bytes of stack: window_begin | window_update |\n"
+           "|---|---|---|---|---|---|\n");
+    for (size_t i = 0; i < COUNT(lengths); i++) {
         struct scan_times t = scans_of(lengths[i]);
         paint_scans(lengths[i]);
-        printf("%6u  %9.1f  %7.1f  %11.2f  %5zu  %6zu\n", lengths[i], t.window / READINGS, t.ring / READINGS, t.window / t.ring,
+        printf("| %u | %.0f | %.1f | %.1f | %zu | %zu |\n", lengths[i], t.window / READINGS, t.ring / READINGS, t.window / t.ring,
                stack_used(WINDOW_BEGIN), stack_used(WINDOW_UPDATE));
     }
 }
@@ -121,30 +193,22 @@ static void stay_here(void)
 {
     cpu_set_t here;
     CPU_ZERO(&here);
-    CPU_SET(sched_getcpu(), &here);
+    CPU_SET((size_t)sched_getcpu(), &here);
     sched_setaffinity(0, sizeof here, &here);
 }
 
 int main(void)
 {
     static struct flat flat;
-    static const uint32_t sizes[] = {256, MOST_PLACES};
-    struct pair pair = {{calloc(words_for(MOST_PLACES), sizeof(uint32_t)), 0}, &flat, UNIFORM};
-    if (pair.index.words == NULL)
+    static struct buckets buckets;
+    struct sides sides = {{calloc(words_for(MOST_PLACES), sizeof(uint32_t)), 0}, &flat, &buckets, SINGLES};
+    if (sides.index.words == NULL)
         return 1;
     stay_here();
-    printf("%6s  %-9s  %-8s  %10s  %10s  %9s  %11s  %8s\n", "places", "records", "call", "steps/call", "index ns", "flat ns", "index/flat",
-           "step ns");
-    for (int i = 0; i < 2; i++)
-        for (pair.spread = UNIFORM; pair.spread <= CLUSTERED; pair.spread++)
-            calls_of(&pair, sizes[i]);
-    printf("\nSingle calls, 4,096 places, uniform\n");
-    pair.spread = UNIFORM;
-    singles_of(&pair, "walk steps of six rows", measure_walks);
-    singles_of(&pair, "search steps of six rows", measure_searches);
-    singles_of(&pair, "withdrawals of a search", measure_withdrawals);
-    stairs(pair.index);
+    whole_calls(&sides);
+    single_calls(&sides);
+    stairs(sides.index);
     scans();
-    free(pair.index.words);
+    free(sides.index.words);
     return 0;
 }

@@ -1,6 +1,5 @@
 #include "records.h"
 
-#define GRADES 40
 #define SET_POINTS 3
 
 static const int32_t LOW[AXES] = {1, 1, 0, 0, -2000};
@@ -43,10 +42,10 @@ static int32_t set_point(int32_t grade, uint32_t number, int axis)
     return LOW[axis] + REACH[axis] + (int32_t)(mix(key + 1) % width);
 }
 
-struct record random_record(enum spread spread)
+struct record random_record(enum spread spread, uint32_t grades)
 {
     struct record r;
-    int32_t grade = between(1, GRADES);
+    int32_t grade = between(1, (int32_t)grades);
     uint32_t number = random_below(SET_POINTS);
     r.point.axis[0] = grade;
     for (int a = 1; a < AXES; a++) {

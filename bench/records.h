@@ -36,7 +36,7 @@ struct answer {
 void random_seed(uint64_t seed);
 uint32_t random_below(uint32_t bound);
 
-// A record of one of 40 grades: anywhere in the ranges, or near one of the set points of its grade.
-struct record random_record(enum spread spread);
+// A record of one of so many grades, numbered from 1: anywhere in the ranges, or near one of the set points of its grade.
+struct record random_record(enum spread spread, uint32_t grades);
 
 #endif

@@ -1,8 +1,8 @@
 #include "scans.h"
+#include "clock.h"
 #include "records.h"
 #include <stdio.h>
 #include <stdlib.h>
-#include <time.h>
 
 #define WETTEST 10000u
 #define BATCH 1000
@@ -15,13 +15,6 @@ struct ring {
     uint32_t sum;
     uint32_t readings[LONGEST_WINDOW];
 };
-
-static double now(void)
-{
-    struct timespec t;
-    clock_gettime(CLOCK_MONOTONIC, &t);
-    return (double)t.tv_sec * 1e9 + (double)t.tv_nsec;
-}
 
 __attribute__((noinline)) static struct figures ring_update(struct ring *ring, uint32_t reading)
 {

@@ -1,9 +1,8 @@
-#define _POSIX_C_SOURCE 200809L
 #include "stair.h"
+#include "clock.h"
 #include "flat.h"
 #include <stdio.h>
 #include <stdlib.h>
-#include <time.h>
 
 #define ROUNDS 7
 #define EVENTS 20000
@@ -16,15 +15,11 @@
 #define OPENING_WORDS 3
 #define GRADE 12
 
+// The set of grades of a cut has so many slots; grade g is in slot (g - 1) mod SLOTS.
+#define SLOTS 127
+
 // The places of the index whose words are changed; every measured one has as many.
 #define FEW 256
-
-static double clock_ns(void)
-{
-    struct timespec t;
-    clock_gettime(CLOCK_MONOTONIC, &t);
-    return (double)t.tv_sec * 1e9 + (double)t.tv_nsec;
-}
 
 static struct call call_at(uint32_t kind, uint32_t weight)
 {
@@ -65,20 +60,21 @@ static double audit_time(struct index index)
 {
     double best = 1e18;
     for (int round = 0; round < ROUNDS; round++) {
-        double begin = clock_ns();
+        double begin = now();
         bool sound = index_audit(index.words, index.length);
-        double took = clock_ns() - begin;
+        double took = now() - begin;
         must(sound, "the audit of a stair says no");
         best = took < best ? took : best;
     }
     return best;
 }
 
-// A search for a grade that has no record: it excludes no side of a cut, and goes through the whole tree.
+// A search for a grade that has no record, and that is in one slot with the grade of the records: it excludes no side of a cut, and goes through
+// the whole tree.
 static void search_none(struct index index, uint32_t s)
 {
     struct call call = call_at(NEAREST, 1);
-    call.record.point.axis[0] = GRADE + 1;
+    call.record.point.axis[0] = GRADE + SLOTS;
     submit(index, s, call);
 }
 
@@ -107,9 +103,9 @@ static void busy_case(struct index index, uint32_t records, struct stair *stair)
     for (int round = 0; round < ROUNDS; round++) {
         for (uint32_t s = 0; s < STATIONS; s++)
             search_none(index, s);
-        double begin = clock_ns();
+        double begin = now();
         stair->busy_steps = steps_in_turn(index);
-        double took = clock_ns() - begin;
+        double took = now() - begin;
         must(stair->busy_steps <= 16 * records + 1, "nobody was answered in 16 steps for each place and one more");
         for (uint32_t s = 0; s < STATIONS; s++)
             end_call(index, s);
