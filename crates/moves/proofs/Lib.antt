@@ -1,2 +1,3 @@
 pub mod SearchLaws
+pub mod TourLaws
 pub mod UnlinkLaws

@@ -3,6 +3,7 @@
 use crate::answer::write_answered;
 use crate::look::look;
 use crate::reply::pick;
+use crate::tour::reached_at;
 use crate::tour::tour;
 use points::square::square;
 use rows::answer::Answer;
@@ -37,13 +38,13 @@ fn seek(words: &[u32], rows: u32, call: Call, p: Progress) -> Progress
 {
     let slot = slot_of(call.point);
     let most = pick(p.missed == NONE, 5, 3);
-    let mut reached = look(words, rows, call, p);
+    let mut reached = reached_at(words, rows, look(words, rows, call, p));
     let mut tours: u32 = 0;
     while tours < most {
         reached = tour(words, rows, slot, call, reached);
         tours += 1;
     }
-    reached
+    reached.progress
 }
 
 // Where the search of station s stands.

@@ -1,5 +1,6 @@
 // A search goes around the tree: down to the near child of each cut, and up again, over to the far child where that side may hold a record
-// that is chosen over the best. It goes to no side whose grades do not admit the target's slot.
+// that is chosen over the best. It goes to no side whose grades do not admit the target's slot. On the way up it keeps the parent link of the row where it
+// stands, so that each move reads one row, and every function but the last is called from one place, so that a step's moves are compiled in line.
 use crate::link::is_tree;
 use crate::link::parent_of;
 use crate::look::consider;
@@ -16,12 +17,11 @@ use rows::grades::admits;
 use rows::layout::NONE;
 use rows::row::Row;
 use rows::row::read_row;
+use rows::tree::child_at;
+use rows::tree::read_tree;
 ghost use mathlib.Core.Path.{_≡_};
-ghost use lib.Dec.{eqb};
-ghost use Rattle.points.specs.Cut.{goesLeft};
-ghost use Rattle.rows.specs.Row.{rowAt};
-ghost use Rattle.points.specs.Word.{NONE};
-ghost use Rattle.moves.specs.Search.{pickProgress, considered, onward, unsound, bestSquare, farShut, downCut, tourDown, fromNear, fromChild, aboveCut, tourAbove, tourUp, tour};
+ghost use Rattle.moves.specs.Search.{considered, onward, unsound, bestSquare, farShut};
+ghost use Rattle.moves.specs.Tour.{aboveOf, standing, reachedAt, goTo, goUp, refused, pastNear, pastFar, pastSide, visitSides, visitCut, visitLeaf, visitRow, atTop, moveTo, moved};
 
 // The best square while there is no best: only a cut on axis 1 excludes its far side then.
 const NO_SQUARE: u64 = 18446744073709551615;
@@ -53,11 +53,40 @@ fn unsound(p: Progress) -> Progress
     }
 }
 
-// Down at a leaf: it is considered, and the way leads up.
-fn down_leaf(call: Call, p: Progress, added: u32, point: Point, curve: u32) -> Progress
-    ensures { λ r. ⌜ r ≡ onward p (p .cursor) 1 (considered call (p .best) added point curve) ⌝ }
+// Where a search stands, with the parent link of that row on its way up; none on its way down.
+pub struct Reached {
+    pub above: u32,
+    pub progress: Progress,
+}
+
+// Down to a child.
+fn go_to(p: Progress, child: u32) -> Reached
+    ensures { λ r. ⌜ r ≡ goTo p child ⌝ }
 {
-    onward(p, p.cursor, 1, consider(call, p.best, added, point, curve))
+    Reached {
+        above: NONE,
+        progress: onward(p, child, 0, p.best),
+    }
+}
+
+// Up from a row of that parent.
+fn go_up(p: Progress, x: u32, parent: u32) -> Reached
+    ensures { λ r. ⌜ r ≡ goUp p x parent ⌝ }
+{
+    Reached {
+        above: parent,
+        progress: onward(p, x, 1, p.best),
+    }
+}
+
+// No further.
+fn refused(p: Progress, above: u32) -> Reached
+    ensures { λ r. ⌜ r ≡ refused p above ⌝ }
+{
+    Reached {
+        above: above,
+        progress: unsound(p),
+    }
 }
 
 // The best square.
@@ -82,198 +111,218 @@ fn far_shut(words: &[u32], slot: u32, call: Call, best: Best, x: u32, cut: Cut, 
     }
 }
 
-// Down at a cut whose near side is not open: to its far child, or up where that side is shut.
-fn down_far(
+// Past the near side of the cut in row x: to its far child, or up where that side is shut.
+fn past_near(
     words: &[u32],
     slot: u32,
     call: Call,
     p: Progress,
+    x: u32,
+    parent: u32,
     far: u32,
     cut: Cut,
     goes: bool,
-) -> Progress
-    ensures { λ r. ⌜ r ≡ pickProgress (farShut (now (words .entry)) slot call (p .best) (p .cursor) cut goes) (onward p (p .cursor) 1 (p .best)) (onward p far 0 (p .best)) ⌝ }
+) -> Reached
+    ensures { λ r. ⌜ r ≡ pastNear (now (words .entry)) slot call p x parent far cut goes ⌝ }
 {
-    if far_shut(words, slot, call, p.best, p.cursor, cut, goes) {
-        onward(p, p.cursor, 1, p.best)
+    if far_shut(words, slot, call, p.best, x, cut, goes) {
+        go_up(p, x, parent)
     } else {
-        onward(p, far, 0, p.best)
+        go_to(p, far)
     }
 }
 
-// Down at a cut: to its near child where that side admits the slot.
-fn down_cut(
-    words: &[u32],
-    slot: u32,
-    call: Call,
-    p: Progress,
-    cut: Cut,
-    left: u32,
-    right: u32,
-) -> Progress
-    ensures { λ r. ⌜ r ≡ downCut (now (words .entry)) slot call p cut left right (goesLeft cut (call .point)) ⌝ }
-{
-    let goes = goes_left(cut, call.point);
-    if admits(words, p.cursor, goes, slot) {
-        onward(p, pick(goes, left, right), 0, p.best)
-    } else {
-        down_far(words, slot, call, p, pick(goes, right, left), cut, goes)
-    }
-}
-
-// Phase down.
-fn tour_down(words: &[u32], slot: u32, call: Call, p: Progress, row: Row) -> Progress
-    ensures { λ r. ⌜ r ≡ tourDown (now (words .entry)) slot call p row ⌝ }
-{
-    match row {
-        Row::Bad => unsound(p),
-        Row::Spare { .. } => unsound(p),
-        Row::Removed { .. } => unsound(p),
-        Row::Leaf {
-            added,
-            point,
-            curve,
-            ..
-        } => down_leaf(call, p, added, point, curve),
-        Row::Cut {
-            cut,
-            left,
-            right,
-            ..
-        } => down_cut(words, slot, call, p, cut, left, right),
-    }
-}
-
-// Up at the cut above, from its near child: over to the far one unless that side is shut.
-fn from_near(
-    words: &[u32],
-    slot: u32,
-    call: Call,
-    p: Progress,
-    above: u32,
-    far: u32,
-    cut: Cut,
-    goes: bool,
-) -> Progress
-    ensures { λ r. ⌜ r ≡ fromNear p above far (farShut (now (words .entry)) slot call (p .best) above cut goes) ⌝ }
-{
-    if far_shut(words, slot, call, p.best, above, cut, goes) {
-        onward(p, above, 1, p.best)
-    } else {
-        onward(p, far, 0, p.best)
-    }
-}
-
-// Up at the cut above, from its far child: further up. A row that is no child of it is not sound.
-fn from_far(p: Progress, above: u32, far: u32) -> Progress
-    ensures { λ r. ⌜ r ≡ pickProgress (eqb far (p .cursor)) (onward p above 1 (p .best)) (unsound p) ⌝ }
+// Past its far side: further up. A row that is no child of it is not sound.
+fn past_far(p: Progress, above: u32, x: u32, parent: u32, far: u32) -> Reached
+    ensures { λ r. ⌜ r ≡ pastFar p above x parent far ⌝ }
 {
     if far == p.cursor {
-        onward(p, above, 1, p.best)
+        go_up(p, x, parent)
     } else {
-        unsound(p)
+        refused(p, above)
     }
 }
 
-// Up at the cut above, of which the row is one child.
-fn from_child(
+// Past a side of it: the near one on the way down, else that where the search comes from. One place asks of the far side for both ways, so that the
+// question is compiled in line.
+fn past_side(
     words: &[u32],
     slot: u32,
     call: Call,
     p: Progress,
     above: u32,
+    x: u32,
+    parent: u32,
     near: u32,
     far: u32,
     cut: Cut,
     goes: bool,
-) -> Progress
-    ensures { λ r. ⌜ r ≡ fromChild p above near far (farShut (now (words .entry)) slot call (p .best) above cut goes) ⌝ }
+) -> Reached
+    ensures { λ r. ⌜ r ≡ pastSide (now (words .entry)) slot call p above x parent near far cut goes ⌝ }
 {
-    if near == p.cursor {
-        from_near(words, slot, call, p, above, far, cut, goes)
+    if (p.phase == 0) | (near == p.cursor) {
+        past_near(words, slot, call, p, x, parent, far, cut, goes)
     } else {
-        from_far(p, above, far)
+        past_far(p, above, x, parent, far)
     }
 }
 
-// The same, with the sides of the cut told apart.
-fn above_cut(
+// At the cut in row x: down to its near child where its side admits the slot, else past a side.
+fn visit_sides(
     words: &[u32],
     slot: u32,
     call: Call,
     p: Progress,
     above: u32,
+    x: u32,
+    parent: u32,
     cut: Cut,
-    left: u32,
-    right: u32,
-) -> Progress
-    ensures { λ r. ⌜ r ≡ aboveCut (now (words .entry)) slot call p above cut left right (goesLeft cut (call .point)) ⌝ }
+    goes: bool,
+) -> Reached
+    ensures { λ r. ⌜ r ≡ visitSides (now (words .entry)) slot call p above x parent cut goes ⌝ }
+{
+    let near = child_at(words, x, goes);
+    let far = child_at(words, x, !goes);
+    if (p.phase == 0) & admits(words, x, goes, slot) {
+        go_to(p, near)
+    } else {
+        past_side(words, slot, call, p, above, x, parent, near, far, cut, goes)
+    }
+}
+
+// The same, with the sides told apart.
+fn visit_cut(
+    words: &[u32],
+    slot: u32,
+    call: Call,
+    p: Progress,
+    above: u32,
+    x: u32,
+    parent: u32,
+    cut: Cut,
+) -> Reached
+    ensures { λ r. ⌜ r ≡ visitCut (now (words .entry)) slot call p above x parent cut ⌝ }
 {
     let goes = goes_left(cut, call.point);
-    let near = pick(goes, left, right);
-    let far = pick(goes, right, left);
-    from_child(words, slot, call, p, above, near, far, cut, goes)
+    visit_sides(words, slot, call, p, above, x, parent, cut, goes)
 }
 
-// Up at the row above.
-fn tour_above(words: &[u32], slot: u32, call: Call, p: Progress, above: u32, row: Row) -> Progress
-    ensures { λ r. ⌜ r ≡ tourAbove (now (words .entry)) slot call p above row ⌝ }
+// Down at a leaf: it is considered, and the way leads up.
+fn down_leaf(call: Call, p: Progress, parent: u32, added: u32, point: Point, curve: u32) -> Reached
+    ensures { λ r. ⌜ r ≡ standing (onward p (p .cursor) 1 (considered call (p .best) added point curve)) parent ⌝ }
+{
+    Reached {
+        above: parent,
+        progress: onward(p, p.cursor, 1, consider(call, p.best, added, point, curve)),
+    }
+}
+
+// At a leaf, which no way up leads to.
+fn visit_leaf(
+    call: Call,
+    p: Progress,
+    above: u32,
+    parent: u32,
+    added: u32,
+    point: Point,
+    curve: u32,
+) -> Reached
+    ensures { λ r. ⌜ r ≡ visitLeaf call p above parent added point curve ⌝ }
+{
+    if p.phase == 0 {
+        down_leaf(call, p, parent, added, point, curve)
+    } else {
+        refused(p, above)
+    }
+}
+
+// At the row x.
+fn visit_row(
+    words: &[u32],
+    slot: u32,
+    call: Call,
+    p: Progress,
+    above: u32,
+    x: u32,
+    row: Row,
+) -> Reached
+    ensures { λ r. ⌜ r ≡ visitRow (now (words .entry)) slot call p above x row ⌝ }
 {
     match row {
-        Row::Bad => unsound(p),
-        Row::Spare { .. } => unsound(p),
-        Row::Removed { .. } => unsound(p),
-        Row::Leaf { .. } => unsound(p),
-        Row::Cut {
-            cut,
-            left,
-            right,
-            ..
-        } => above_cut(words, slot, call, p, above, cut, left, right),
+        Row::Bad => refused(p, above),
+        Row::Spare { .. } => refused(p, above),
+        Row::Removed { .. } => refused(p, above),
+        Row::Leaf {
+            parent,
+            added,
+            point,
+            curve,
+        } => visit_leaf(call, p, above, parent, added, point, curve),
+        Row::Cut { parent, cut, .. } => visit_cut(words, slot, call, p, above, x, parent, cut),
     }
 }
 
-// Up by a parent link: with no parent the tour is over.
-fn tour_parent(words: &[u32], rows: u32, slot: u32, call: Call, p: Progress, above: u32) -> Progress
-    ensures { λ r. ⌜ r ≡ pickProgress (eqb above NONE) (onward p NONE 1 (p .best)) (tourAbove (now (words .entry)) slot call p above (rowAt (now (words .entry)) rows above)) ⌝ }
+// Up from a row with no parent: the tour is over, if that row is one of the tree.
+fn at_top(words: &[u32], rows: u32, p: Progress) -> Reached
+    ensures { λ r. ⌜ r ≡ atTop (now (words .entry)) rows p ⌝ }
 {
-    if above == NONE {
-        onward(p, NONE, 1, p.best)
+    if is_tree(read_row(words, rows, p.cursor)) {
+        go_up(p, NONE, NONE)
     } else {
-        tour_above(words, slot, call, p, above, read_row(words, rows, above))
+        refused(p, NONE)
     }
 }
 
-// Phase up.
-fn tour_up(words: &[u32], rows: u32, slot: u32, call: Call, p: Progress, row: Row) -> Progress
-    ensures { λ r. ⌜ r ≡ tourUp (now (words .entry)) rows slot call p row ⌝ }
+// One move, by the row x.
+fn move_to(words: &[u32], rows: u32, slot: u32, call: Call, reached: Reached, x: u32) -> Reached
+    ensures { λ r. ⌜ r ≡ moveTo (now (words .entry)) rows slot call reached x ⌝ }
 {
-    if is_tree(row) {
-        tour_parent(words, rows, slot, call, p, parent_of(row))
+    let p = reached.progress;
+    if x == NONE {
+        at_top(words, rows, p)
     } else {
-        unsound(p)
+        visit_row(
+            words,
+            slot,
+            call,
+            p,
+            reached.above,
+            x,
+            read_tree(words, rows, x),
+        )
     }
 }
 
-// One row further, by the phase.
-fn tour_on(words: &[u32], rows: u32, slot: u32, call: Call, p: Progress) -> Progress
-    ensures { λ r. ⌜ r ≡ pickProgress (eqb (p .phase) 0) (tourDown (now (words .entry)) slot call p (rowAt (now (words .entry)) rows (p .cursor))) (tourUp (now (words .entry)) rows slot call p (rowAt (now (words .entry)) rows (p .cursor))) ⌝ }
+// One move, unless the tour is over: by the row where the search stands, or by the one above it. Either way one row is read.
+pub(crate) fn tour(words: &[u32], rows: u32, slot: u32, call: Call, reached: Reached) -> Reached
+    ensures { λ r. ⌜ r ≡ moved (now (words .entry)) rows slot call reached ⌝ }
 {
-    let row = read_row(words, rows, p.cursor);
-    if p.phase == 0 {
-        tour_down(words, slot, call, p, row)
-    } else {
-        tour_up(words, rows, slot, call, p, row)
-    }
-}
-
-// One row further, unless the tour is over.
-pub(crate) fn tour(words: &[u32], rows: u32, slot: u32, call: Call, p: Progress) -> Progress
-    ensures { λ r. ⌜ r ≡ tour (now (words .entry)) rows slot call p ⌝ }
-{
+    let p = reached.progress;
     if p.cursor == NONE {
-        p
+        reached
     } else {
-        tour_on(words, rows, slot, call, p)
+        let x = pick(p.phase == 0, p.cursor, reached.above);
+        move_to(words, rows, slot, call, reached, x)
+    }
+}
+
+// The parent link of the row where a search stands on its way up.
+fn above_of(words: &[u32], rows: u32, p: Progress) -> u32
+    ensures { λ r. ⌜ r ≡ aboveOf (now (words .entry)) rows p ⌝ }
+{
+    if p.phase == 0 {
+        NONE
+    } else {
+        parent_of(read_row(words, rows, p.cursor))
+    }
+}
+
+// Where the moves of a step begin.
+pub(crate) fn reached_at(words: &[u32], rows: u32, p: Progress) -> Reached
+    ensures { λ r. ⌜ r ≡ reachedAt (now (words .entry)) rows p ⌝ }
+{
+    Reached {
+        above: above_of(words, rows, p),
+        progress: p,
     }
 }

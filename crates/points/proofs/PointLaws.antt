@@ -1,13 +1,13 @@
 -- What a point in range says of each of its coordinates, over raised numbers.
 -- Assumes nothing.
 use mathlib.Core.Path.{_≡_, refl, sym, _∙_}
-use mathlib.Core.Bool.{true, _&&_}
+use mathlib.Core.Bool.{true, cond, _&&_}
 use Prim.Native.Nat.{ℕ, zero, suc, _+_, _≤_, _<_}
 use native.Mathlib.Omega.{arith}
-use lib.Dec.{lit<, lit≤}
+use lib.Dec.{eqb, lit<, lit≤}
 use lib.IntN.{ℤ, pos, negsuc}
 use lib.Signed.{leZ}
-use borrow.Author.Tests.{leb-true, le-leb}
+use borrow.Author.Tests.{ne-eqb, leb-true, le-leb}
 use Rattle.points.specs.declared.point.Point.{Point}
 use Rattle.points.specs.declared.point.Range.{Range}
 use Rattle.points.specs.Point.{placeOf, rangeOf, coordinateOf, withinRange, onAxis, inRange}
@@ -72,9 +72,18 @@ module _ (axis : ℕ) (one : axis ≡ 1 → ⊥) (two : axis ≡ 2 → ⊥) (thr
   unfolding placeOf
   place-rest = last-axis placeOf 4 refl (λ n. refl)
 
-  pub coordinate-rest : (p : Point) → coordinateOf p axis ≡ p .draw
-  unfolding coordinateOf
-  coordinate-rest p = last-axis (coordinateOf p) (p .draw) refl (λ n. refl)
+-- a coordinate, as one of two at each axis
+pub coordinate-picked : (p : Point) (axis : ℕ)
+    → cond (eqb axis 1) (p .grade) (cond (eqb axis 2) (p .weight) (cond (eqb axis 3) (p .moisture) (cond (eqb axis 4) (p .speed) (p .draw)))) ≡ coordinateOf p axis
+unfolding coordinateOf
+coordinate-picked p zero = refl
+coordinate-picked p (suc zero) = refl
+coordinate-picked p (suc (suc zero)) = refl
+coordinate-picked p (suc (suc (suc zero))) = refl
+coordinate-picked p (suc (suc (suc (suc zero)))) = refl
+coordinate-picked p (suc (suc (suc (suc (suc n))))) =
+    let axis = suc (suc (suc (suc (suc n)))) in
+    rw (ne-eqb axis 1 (λ e. omega arith), ne-eqb axis 2 (λ e. omega arith), ne-eqb axis 3 (λ e. omega arith), ne-eqb axis 4 (λ e. omega arith))
 
 pub place-lt : (axis : ℕ) → placeOf axis < 5
 unfolding placeOf
@@ -107,6 +116,12 @@ sum-range-sound axis =
       high = near-add h h (r .high) (r .high);
       order = omega (arith, raise-add l l (r .low) (r .low), raise-add h h (r .high) (r .high), r .order);
     }
+
+-- any word of an axis but 0 to 3 is taken for that of axis 5
+pub sum-range-rest : (axis : ℕ) → (axis ≡ 0 → ⊥) → (axis ≡ 1 → ⊥) → (axis ≡ 2 → ⊥) → (axis ≡ 3 → ⊥) → sumRangeOf (axis + 1) ≡ sumRangeOf 5
+unfolding sumRangeOf rangeOf placeOf
+sum-range-rest axis one two three four =
+    rw (place-rest (axis + 1) (λ e. one (omega arith)) (λ e. two (omega arith)) (λ e. three (omega arith)) (λ e. four (omega arith)))
 
 -- the five tests of a point in range
 record Tests (p : Point) : Type 0 where

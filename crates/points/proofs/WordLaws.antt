@@ -35,6 +35,11 @@ module _ {b : ℕ} (r : Range) (s : Sound b r) (small : b ≤ 1048576) where
   pub stored-le : (x : ℤ) → withinRange r x ≡ true → storedIn r x ≤ spanIn r
   stored-le x e = let w = within r x s e in omega (arith, stored-plain x w, span-raise, w .to)
 
+  -- the greatest number of the range has the greatest word
+  pub stored-high : storedIn r (r .high) ≡ spanIn r
+  unfolding storedIn spanIn
+  stored-high = rw (within-true r (r .high) s (record { near = s .high; from = s .order; to = omega arith }))
+
   -- the test of a word
   loaded-test : (w : ℕ) → leZ (r .low +ℤ pos w) (r .high) ≡ leb w (spanIn r)
   loaded-test w =
@@ -46,6 +51,10 @@ module _ {b : ℕ} (r : Range) (s : Sound b r) (small : b ≤ 1048576) where
   loaded-is : (w : ℕ) → w ≤ spanIn r → loadedIn r w ≡ r .low +ℤ pos w
   unfolding loadedIn
   loaded-is w h = rw (loaded-test w ∙ le-leb w (spanIn r) h)
+
+  loaded-not : (w : ℕ) → leb w (spanIn r) ≡ false → loadedIn r w ≡ outside
+  unfolding loadedIn
+  loaded-not w e = rw (loaded-test w ∙ e)
 
   record Loaded (w : ℕ) : Type 0 where
     near : Near b (r .low +ℤ pos w)
@@ -204,6 +213,38 @@ cut-at-in-range axis sum = go (leb axis 4) refl
         rw (e, le-leb 1 (axis + 1) (omega arith), le-leb (axis + 1) 5 (omega arith))
         (within-loaded (sumRangeOf (axis + 1)) (sum-range-sound (axis + 1)) (lit≤ tt) sum)
     go false e = rw e
+
+-- that cut, where it is in range: the next axis, and the least sum there with the word added
+pub record SoundCut (axis sum : ℕ) : Type 0 where
+  pub axis-small : axis ≤ 4
+  pub small : sum ≤ 2097151
+  pub near : Near (reach + reach) (sumRangeOf (axis + 1) .low +ℤ pos sum)
+  pub is : cutAt axis sum ≡ record { axis = axis + 1; sum = sumRangeOf (axis + 1) .low +ℤ pos sum }
+
+pub cut-plainly : (axis sum : ℕ) → cutInRange (cutAt axis sum) ≡ true → SoundCut axis sum
+unfolding cutAt
+cut-plainly axis sum e =
+    let both = sym (cut-at-in-range axis sum) ∙ e in
+    let first = and-l (leb axis 4) (leb sum (sumSpanOf (axis + 1))) both in
+    let second = leb-true sum (sumSpanOf (axis + 1)) (and-r (leb axis 4) (leb sum (sumSpanOf (axis + 1))) both) in
+    let r = sumRangeOf (axis + 1) in
+    let s = sum-range-sound (axis + 1) in
+    let plain = loaded-is r s (lit≤ tt) sum second in
+    record {
+      axis-small = leb-true axis 4 first;
+      small = omega (arith, second, span-le r s (lit≤ tt));
+      near = loaded r s (lit≤ tt) sum second .near;
+      is = rw first (λ i. record { axis = axis + 1; sum = plain i });
+    }
+
+-- and where it is not: no sum of its axis
+pub cut-outside : (axis sum : ℕ) → axis ≤ 4 → cutInRange (cutAt axis sum) ≡ false → cutAt axis sum ≡ record { axis = axis + 1; sum = outside }
+unfolding cutAt
+cut-outside axis sum h e =
+    let first = le-leb axis 4 h in
+    let second : leb sum (sumSpanOf (axis + 1)) ≡ false = sym (rw first) ∙ sym (cut-at-in-range axis sum) ∙ e in
+    let none = loaded-not (sumRangeOf (axis + 1)) (sum-range-sound (axis + 1)) (lit≤ tt) sum second in
+    rw first (λ i. record { axis = axis + 1; sum = none i })
 
 -- the words of that cut, where it is in range
 pub record CutWords (axis sum : ℕ) (k : Cut) : Type 0 where

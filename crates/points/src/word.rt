@@ -5,7 +5,11 @@ use crate::point::Range;
 use crate::point::range_on;
 use crate::signed::wide;
 ghost use mathlib.Core.Path.{_≡_};
-ghost use Rattle.points.specs.Word.{storedIn, loadedIn, sumRangeOf, wordOf, coordinateAt, pointAt, axisWordOf, sumWordOf, cutAt, cutInRange};
+ghost use mathlib.Core.Bool.{true, false};
+ghost use Prim.Native.Nat.{_+_};
+ghost use lib.Dec.{leb};
+ghost use Rattle.points.specs.Point.{inRange};
+ghost use Rattle.points.specs.Word.{storedIn, loadedIn, sumRangeOf, spanOf, sumSpanOf, wordOf, coordinateAt, pointAt, axisWordOf, sumWordOf, cutAt, cutInRange};
 
 // A number in a range as its distance from the least; for any other the word for none.
 fn stored_in(r: Range, x: i32) -> u32
@@ -41,6 +45,57 @@ fn sum_range_on(axis: u32) -> Range
     }
 }
 
+// The greatest word of an axis's coordinates.
+fn span_on(axis: u32) -> u32
+    ensures { λ w. ⌜ w ≡ spanOf axis ⌝ }
+{
+    let r = range_on(axis);
+    stored_in(r, r.high)
+}
+
+// The greatest word of an axis's sums.
+fn sum_span_on(axis: u32) -> u32
+    ensures { λ w. ⌜ w ≡ sumSpanOf axis ⌝ }
+{
+    let r = sum_range_on(axis);
+    stored_in(r, r.high)
+}
+
+// The least of an axis's sums.
+fn sum_low_on(axis: u32) -> i32
+    ensures { λ x. ⌜ x ≡ sumRangeOf axis .low ⌝ }
+{
+    let r = sum_range_on(axis);
+    r.low
+}
+
+// The greatest word of the sums of an axis, by the word of that axis, one less than its number. It is compiled to a table of five numbers, where ranges
+// would be put on the stack at every use.
+fn sum_span_at(axis: u32) -> u32
+    ensures { λ w. ⌜ w ≡ sumSpanOf (axis + 1) ⌝ }
+{
+    match axis {
+        0 => sum_span_on(1),
+        1 => sum_span_on(2),
+        2 => sum_span_on(3),
+        3 => sum_span_on(4),
+        _ => sum_span_on(5),
+    }
+}
+
+// The least of its sums, by the same word.
+fn sum_low_at(axis: u32) -> i32
+    ensures { λ x. ⌜ x ≡ sumRangeOf (axis + 1) .low ⌝ }
+{
+    match axis {
+        0 => sum_low_on(1),
+        1 => sum_low_on(2),
+        2 => sum_low_on(3),
+        3 => sum_low_on(4),
+        _ => sum_low_on(5),
+    }
+}
+
 // The word of a point's coordinate on an axis.
 pub fn word(p: Point, axis: u32) -> u32
     ensures { λ w. ⌜ w ≡ wordOf p axis ⌝ }
@@ -68,6 +123,24 @@ pub fn point_at(grade: u32, weight: u32, moisture: u32, speed: u32, draw: u32) -
     }
 }
 
+// Whether a word is that of a coordinate in range.
+fn word_in_range(axis: u32, w: u32) -> bool
+    ensures { λ b. ⌜ b ≡ leb w (spanOf axis) ⌝ }
+{
+    w <= span_on(axis)
+}
+
+// Whether the point of five words is in range, by the words alone.
+pub fn point_words_in_range(grade: u32, weight: u32, moisture: u32, speed: u32, draw: u32) -> bool
+    ensures { λ b. ⌜ b ≡ inRange (pointAt grade weight moisture speed draw) ⌝ }
+{
+    word_in_range(1, grade)
+        & word_in_range(2, weight)
+        & word_in_range(3, moisture)
+        & word_in_range(4, speed)
+        & word_in_range(5, draw)
+}
+
 // Whether a cut has an axis, 1 to 5, and a sum that two points in range can have there.
 pub fn cut_in_range(cut: Cut) -> bool
     ensures { λ b. ⌜ b ≡ cutInRange cut ⌝ }
@@ -93,16 +166,46 @@ pub fn sum_word(cut: Cut) -> u32
     stored_in(sum_range_on(cut.axis), cut.sum)
 }
 
-// The cut of two words; it is in range exactly if both of them are.
-pub fn cut_at(axis: u32, sum: u32) -> Cut
+// Whether the cut of two words is in range, by the words alone.
+pub fn cut_words_in_range(axis: u32, sum: u32) -> bool
+    ensures { λ b. ⌜ b ≡ cutInRange (cutAt axis sum) ⌝ }
+{
+    (axis <= 4) & (sum <= sum_span_at(axis))
+}
+
+// The cut of two words that are in range.
+fn sound_cut(axis: u32, sum: u32) -> Cut
+    requires { ⌜ cutInRange (cutAt axis sum) ≡ true ⌝ }
+    ensures { λ r. ⌜ r ≡ cutAt axis sum ⌝ }
+{
+    Cut {
+        axis: axis + 1,
+        sum: sum_low_at(axis) + sum as i32,
+    }
+}
+
+// The cut of two words that are not: with no such sum, or with no axis.
+fn bad_cut(axis: u32, sum: u32) -> Cut
+    requires { ⌜ cutInRange (cutAt axis sum) ≡ false ⌝ }
     ensures { λ r. ⌜ r ≡ cutAt axis sum ⌝ }
 {
     if axis <= 4 {
         Cut {
             axis: axis + 1,
-            sum: loaded_in(sum_range_on(axis + 1), sum),
+            sum: 2147483647,
         }
     } else {
         Cut { axis: 0, sum: 0 }
+    }
+}
+
+// The cut of two words; it is in range exactly if both of them are.
+pub fn cut_at(axis: u32, sum: u32) -> Cut
+    ensures { λ r. ⌜ r ≡ cutAt axis sum ⌝ }
+{
+    if cut_words_in_range(axis, sum) {
+        sound_cut(axis, sum)
+    } else {
+        bad_cut(axis, sum)
     }
 }

@@ -1,17 +1,16 @@
--- What it means that a row reads as a cut: the row is in the slice, its kind is 3, and its left link is the word that the grades go by. Slices that agree
--- on the first eight words of a cut have the same row there.
+-- What it means that a row reads as a cut: the row is in the slice, its kind is 3, and its children are two words of it. Slices that agree on the first
+-- eight words of a cut have the same row there.
 -- Assumes nothing.
 use mathlib.Core.Path.{_≡_, refl, sym, ap, _∙_}
 use mathlib.Core.Bool.{Bool, true, false, cond, _&&_}
 use mathlib.Core.List.{List}
 use Prim.Native.Nat.{ℕ, _+_, _≤_, _<_}
 use native.Mathlib.Omega.{arith}
-use borrow.Author.Tests.{eqb-true, eq-eqb, leb-true}
+use borrow.Author.Tests.{eqb-true, leb-true}
 use lib.Dec.{eqb, leb, ltb, lit<}
 use lib.ListN.{length, getD, drop}
 use lib.Seq.{getD-take, getD-drop}
 use Rattle.points.specs.declared.cut.Cut.{Cut as PointCut}
-use Rattle.points.specs.Word.{cutAt}
 use Rattle.points.proofs.Tests.{and-r}
 use Rattle.rows.specs.declared.row.Row.{Row}
 use Rattle.rows.specs.declared.row.Row.the-variants.{Bad, Spare, Removed, Leaf, Cut}
@@ -19,9 +18,9 @@ use Rattle.rows.specs.Layout.{atRow}
 use Rattle.rows.specs.Words.{get, part}
 use Rattle.rows.specs.Agree.{Agree}
 use Rattle.rows.specs.Row.{inRows, checkedRow, asSpare, asRemoved, asLeaf, asCut, rowOf, rowAt}
-use Rattle.rows.specs.Grades.{leftAt}
+use Rattle.rows.specs.Tree.{childAt}
 
--- whether a row is a cut, and the left link of one
+-- whether a row is a cut, and the two links of one
 abbrev cutOrNot : Row → ℕ
 cutOrNot Bad = 0
 cutOrNot (Spare next freed) = 0
@@ -35,6 +34,13 @@ leftOf (Spare next freed) = 0
 leftOf (Removed next freed added point curve) = 0
 leftOf (Leaf parent added point curve) = 0
 leftOf (Cut parent cut left right) = left
+
+abbrev rightOf : Row → ℕ
+rightOf Bad = 0
+rightOf (Spare next freed) = 0
+rightOf (Removed next freed added point curve) = 0
+rightOf (Leaf parent added point curve) = 0
+rightOf (Cut parent cut left right) = right
 
 module _ {parent : ℕ} {cut : PointCut} {left right : ℕ} where
   not-cut : (row : Row) → cutOrNot row ≡ 0 → row ≡ Cut parent cut left right → ⊥
@@ -80,10 +86,11 @@ module _ {parent : ℕ} {cut : PointCut} {left right : ℕ} where
     unfolding get
     word-at k l = getD-take 16 (drop (atRow r) w) k 0 l ∙ getD-drop (atRow r) w k 0
 
-    -- the left link
-    pub cut-left : leftAt w r ≡ left
-    unfolding leftAt
-    cut-left = sym (word-at 6 (lit< tt)) ∙ ap leftOf (kind-cut (part w (atRow r) 16) (row-there .1) .1)
+    -- the child on a side
+    pub cut-child : (side : Bool) → childAt w r side ≡ cond side left right
+    unfolding childAt
+    cut-child true = sym (word-at 6 (lit< tt)) ∙ ap leftOf (kind-cut (part w (atRow r) 16) (row-there .1) .1)
+    cut-child false = sym (word-at 7 (lit< tt)) ∙ ap rightOf (kind-cut (part w (atRow r) 16) (row-there .1) .1)
 
     -- the last eight words are not looked at
     pub cut-first : {v : List ℕ} → Agree v w (atRow r) 8 → rowAt v rows r ≡ rowAt w rows r

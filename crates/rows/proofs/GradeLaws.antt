@@ -23,12 +23,13 @@ use Rattle.rows.specs.Layout.{atRow, mostRows}
 use Rattle.rows.specs.Words.{get, put, splice}
 use Rattle.rows.specs.Agree.{Agree, Only, inRow, AgreeIn, OnlyIn}
 use Rattle.rows.specs.Row.{rowAt, putRow}
-use Rattle.rows.specs.Grades.{slotOf, atSlot, hasBit, withBit, admits, mark, leftAt, markToward, noGrades, beginGrades}
+use Rattle.rows.specs.Tree.{childAt}
+use Rattle.rows.specs.Grades.{slotOf, atSlot, hasBit, withBit, admits, markSide, markToward, noGrades, beginGrades}
 use Rattle.rows.proofs.Splice.{length-splice}
 use Rattle.rows.proofs.WordLaws.{put-outside, get-put-same, get-put-other}
 use Rattle.rows.proofs.AgreeLaws.{only-refl, only-trans, only-within, only-apart, put-only, put-agree, splice-only, splice-agree, cond-only, cond-agree, row-row, elsewhere}
 use Rattle.rows.proofs.RowLaws.{rowAt-agree, putRow-cut-only}
-use Rattle.rows.proofs.CutLaws.{cut-fits, cut-left, cut-first}
+use Rattle.rows.proofs.CutLaws.{cut-fits, cut-child, cut-first}
 
 -- ---- slots
 
@@ -71,13 +72,13 @@ bit-stays w j k h =
 
 module _ (w : List ℕ) (r : ℕ) (left : Bool) (k : ℕ) where
   -- a slot that is marked is there
-  mark-in : atSlot r left k < length w → admits (mark w r left k) r left k ≡ true
-  unfolding admits mark
+  mark-in : atSlot r left k < length w → admits (markSide w r left k) r left k ≡ true
+  unfolding admits markSide
   mark-in h = ap (λ x. hasBit x k) (get-put-same w (atSlot r left k) (withBit (get w (atSlot r left k)) k) h) ∙ bit-in (get w (atSlot r left k)) k
 
   -- and none is lost, on any side of any row
-  mark-stays : (q : ℕ) (side : Bool) (j : ℕ) → admits w q side j ≡ true → admits (mark w r left k) q side j ≡ true
-  unfolding admits mark
+  mark-stays : (q : ℕ) (side : Bool) (j : ℕ) → admits w q side j ≡ true → admits (markSide w r left k) q side j ≡ true
+  unfolding admits markSide
   mark-stays q side j e = go (ℕ-discrete (atSlot q side j) (atSlot r left k))
     where
       new : ℕ
@@ -95,8 +96,8 @@ module _ (w : List ℕ) (r : ℕ) (left : Bool) (k : ℕ) where
       go (no n) = ap (λ x. hasBit x j) (get-put-other w (atSlot r left k) (atSlot q side j) new n) ∙ e
 
   -- it touches the grades of its row alone
-  mark-grades : k < 128 → Only (mark w r left k) w (atRow r + 8) 8
-  unfolding mark
+  mark-grades : k < 128 → Only (markSide w r left k) w (atRow r + 8) 8
+  unfolding markSide
   mark-grades h = go left
     where
       go : (b : Bool) → Only (put w (atSlot r b k) (withBit (get w (atSlot r b k)) k)) w (atRow r + 8) 8
@@ -104,8 +105,8 @@ module _ (w : List ℕ) (r : ℕ) (left : Bool) (k : ℕ) where
       go false = only-within (put-only w (atSlot r false k) _) (atRow r + 8) 8 (omega arith) (omega (arith, h))
 
 -- slices that agree, and agree on the row, agree again after one mark
-mark-agree : {v w : List ℕ} {a n : ℕ} → Agree v w a n → (r : ℕ) (left : Bool) (k : ℕ) → k < 128 → AgreeIn v w (inRow r) → Agree (mark v r left k) (mark w r left k) a n
-unfolding mark
+mark-agree : {v w : List ℕ} {a n : ℕ} → Agree v w a n → (r : ℕ) (left : Bool) (k : ℕ) → k < 128 → AgreeIn v w (inRow r) → Agree (markSide v r left k) (markSide w r left k) a n
+unfolding markSide
 mark-agree {v} {w} {a} {n} g r left k h m = go left
   where
     go : (b : Bool) → Agree (put v (atSlot r b k) (withBit (get v (atSlot r b k)) k)) (put w (atSlot r b k) (withBit (get w (atSlot r b k)) k)) a n
@@ -149,17 +150,17 @@ module _ (w : List ℕ) (r to k : ℕ) (below : k < 128) where
   unfolding markToward
   toward-stays q side j e = go (eqb r to)
     where
-      go : (b : Bool) → admits (cond b w (mark w r (eqb (leftAt w r) to) k)) q side j ≡ true
+      go : (b : Bool) → admits (cond b w (markSide w r (eqb (childAt w r true) to) k)) q side j ≡ true
       go true = e
-      go false = mark-stays w r (eqb (leftAt w r) to) k q side j e
+      go false = mark-stays w r (eqb (childAt w r true) to) k q side j e
 
   toward-grades : Only (markToward w r to k) w (atRow r + 8) 8
   unfolding markToward
   toward-grades = go (eqb r to)
     where
-      go : (b : Bool) → Only (cond b w (mark w r (eqb (leftAt w r) to) k)) w (atRow r + 8) 8
+      go : (b : Bool) → Only (cond b w (markSide w r (eqb (childAt w r true) to) k)) w (atRow r + 8) 8
       go true = only-refl w (atRow r + 8) 8
-      go false = mark-grades w r (eqb (leftAt w r) to) k below
+      go false = mark-grades w r (eqb (childAt w r true) to) k below
 
   -- it touches its row alone
   pub toward-only : OnlyIn (markToward w r to k) w (inRow r)
@@ -177,7 +178,7 @@ module _ (w : List ℕ) (r to k : ℕ) (below : k < 128) where
 
     pub toward-in : ¬ (r ≡ to) → admits (markToward w r to k) r (eqb left to) k ≡ true
     unfolding markToward
-    toward-in n = rw (ne-eqb r to n) (rw (cut-left w rows r reads) (mark-in w r (eqb left to) k (go (eqb left to))))
+    toward-in n = rw (ne-eqb r to n) (rw (cut-child w rows r reads true) (mark-in w r (eqb left to) k (go (eqb left to))))
       where
         go : (b : Bool) → atSlot r b k < length w
         go true = omega (arith, below, cut-fits w rows r reads)
@@ -185,10 +186,10 @@ module _ (w : List ℕ) (r to k : ℕ) (below : k < 128) where
 
 -- slices that agree, and agree on the row, agree again after a walk's mark
 pub toward-agree : {v w : List ℕ} {a n : ℕ} → Agree v w a n → (r to k : ℕ) → k < 128 → AgreeIn v w (inRow r) → Agree (markToward v r to k) (markToward w r to k) a n
-unfolding markToward leftAt
+unfolding markToward childAt
 toward-agree {v} {w} {a} {n} g r to k h m = rw (m .words (atRow r + 6) (omega arith) (omega arith)) (go (eqb r to))
   where
-    go : (b : Bool) → Agree (cond b v (mark v r (eqb (get w (atRow r + 6)) to) k)) (cond b w (mark w r (eqb (get w (atRow r + 6)) to) k)) a n
+    go : (b : Bool) → Agree (cond b v (markSide v r (eqb (get w (atRow r + 6)) to) k)) (cond b w (markSide w r (eqb (get w (atRow r + 6)) to) k)) a n
     go true = g
     go false = mark-agree g r (eqb (get w (atRow r + 6)) to) k h m
 
@@ -202,7 +203,7 @@ module _ (w : List ℕ) (r : ℕ) (left : Bool) (here there : ℕ) (below : here
   begin-grades : Only (beginGrades w r left here there) w (atRow r + 8) 8
   unfolding beginGrades
   begin-grades = cond-only (ltb r mostRows && leb (atRow r + 16) (length w)) (λ e.
-      only-trans (mark-grades (mark (cleared w r) r left here) r (not left) there below′)
+      only-trans (mark-grades (markSide (cleared w r) r left here) r (not left) there below′)
       (only-trans (mark-grades (cleared w r) r left here below)
       (splice-only w noGrades (atRow r + 8) 8 (omega (arith, leb-true (atRow r + 16) (length w) (and-r (ltb r mostRows) _ e))) refl)))
 
@@ -217,7 +218,7 @@ module _ (w : List ℕ) (r : ℕ) (left : Bool) (here there : ℕ) (below : here
 
   -- both slots are there
   module _ (m : r < mostRows) (fits : atRow r + 16 ≤ length w) where
-    begun : beginGrades w r left here there ≡ mark (mark (cleared w r) r left here) r (not left) there
+    begun : beginGrades w r left here there ≡ markSide (markSide (cleared w r) r left here) r (not left) there
     unfolding beginGrades
     begun = rw (lt-ltb r mostRows m, le-leb (atRow r + 16) (length w) fits)
 
@@ -225,16 +226,16 @@ module _ (w : List ℕ) (r : ℕ) (left : Bool) (here there : ℕ) (below : here
     size = length-splice w noGrades (atRow r + 8) 8 (omega arith) refl
 
     pub begin-here : admits (beginGrades w r left here there) r left here ≡ true
-    begin-here = rw begun (mark-stays (mark (cleared w r) r left here) r (not left) there r left here (mark-in (cleared w r) r left here (go left)))
+    begin-here = rw begun (mark-stays (markSide (cleared w r) r left here) r (not left) there r left here (mark-in (cleared w r) r left here (go left)))
       where
         go : (b : Bool) → atSlot r b here < length (cleared w r)
         go true = omega (arith, size, below)
         go false = omega (arith, size, below)
 
     pub begin-there : admits (beginGrades w r left here there) r (not left) there ≡ true
-    begin-there = rw begun (mark-in (mark (cleared w r) r left here) r (not left) there (go (not left)))
+    begin-there = rw begun (mark-in (markSide (cleared w r) r left here) r (not left) there (go (not left)))
       where
-        go : (b : Bool) → atSlot r b there < length (mark (cleared w r) r left here)
+        go : (b : Bool) → atSlot r b there < length (markSide (cleared w r) r left here)
         go true = omega (arith, size, below′, mark-grades (cleared w r) r left here below .lengths)
         go false = omega (arith, size, below′, mark-grades (cleared w r) r left here below .lengths)
 

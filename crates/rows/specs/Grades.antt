@@ -1,7 +1,7 @@
 -- The grades that may lie on each side of a cut: 127 slots a side, the bits of four words. Words 8 to 11 of the cut's row are those of the
 -- left side, 12 to 15 those of the right. A grade that shares its slot with one that lies there may lie there as well.
 use Prim.Native.Nat.{ℕ, _+_, _/_, _%_, _^_}
-use mathlib.Core.Bool.{Bool, cond, not, _&&_}
+use mathlib.Core.Bool.{Bool, true, cond, not, _&&_}
 use mathlib.Core.List.{List, [], _∷_}
 use lib.Bits.{bitOr}
 use lib.Dec.{eqb, leb, ltb}
@@ -10,6 +10,7 @@ use Rattle.points.specs.declared.point.Point.{Point}
 use Rattle.points.specs.Word.{wordOf}
 use Rattle.rows.specs.Layout.{atRow, mostRows}
 use Rattle.rows.specs.Words.{get, put, splice}
+use Rattle.rows.specs.Tree.{childAt}
 
 -- the slot of a point: its grade less one, modulo 127
 unfoldable pub slotOf : Point → ℕ
@@ -32,16 +33,12 @@ unfoldable pub admits : List ℕ → ℕ → Bool → ℕ → Bool
 admits words r left k = hasBit (get words (atSlot r left k)) k
 
 -- the words with slot k among those of a side of row r
-unfoldable pub mark : List ℕ → ℕ → Bool → ℕ → List ℕ
-mark words r left k = put words (atSlot r left k) (withBit (get words (atSlot r left k)) k)
-
--- the left link of the cut in row r
-unfoldable pub leftAt : List ℕ → ℕ → ℕ
-leftAt words r = get words (atRow r + 6)
+unfoldable pub markSide : List ℕ → ℕ → Bool → ℕ → List ℕ
+markSide words r left k = put words (atSlot r left k) (withBit (get words (atSlot r left k)) k)
 
 -- the words with slot k on the side of the cut in row r where the child `to` hangs; as they were where a walk stays, at a leaf
 unfoldable pub markToward : List ℕ → ℕ → ℕ → ℕ → List ℕ
-markToward words r to k = cond (eqb r to) words (mark words r (eqb (leftAt words r) to) k)
+markToward words r to k = cond (eqb r to) words (markSide words r (eqb (childAt words r true) to) k)
 
 -- no slot on either side
 abbrev pub noGrades : List ℕ
@@ -51,4 +48,4 @@ noGrades = 0 ∷ 0 ∷ 0 ∷ 0 ∷ 0 ∷ 0 ∷ 0 ∷ 0 ∷ []
 -- where the slice is too short
 unfoldable pub beginGrades : List ℕ → ℕ → Bool → ℕ → ℕ → List ℕ
 beginGrades words r left here there =
-    cond (ltb r mostRows && leb (atRow r + 16) (length words)) (mark (mark (splice words noGrades (atRow r + 8) 8) r left here) r (not left) there) words
+    cond (ltb r mostRows && leb (atRow r + 16) (length words)) (markSide (markSide (splice words noGrades (atRow r + 8) 8) r left here) r (not left) there) words

@@ -3,12 +3,13 @@ use crate::part::write_part;
 use crate::row::FIRST_ROW;
 use crate::row::MOST_ROWS;
 use crate::row::ROW;
+use crate::tree::child_at;
 use crate::word::get;
 use crate::word::put;
 use points::point::Point;
 use points::word::word;
 ghost use mathlib.Core.Path.{_≡_};
-ghost use Rattle.rows.specs.Grades.{slotOf, atSlot, hasBit, withBit, admits, mark, leftAt, markToward, beginGrades};
+ghost use Rattle.rows.specs.Grades.{slotOf, atSlot, hasBit, withBit, admits, markSide, markToward, beginGrades};
 
 // The slot of a point. Grades that differ by a multiple of 127 share one.
 pub fn slot_of(point: Point) -> u32
@@ -47,19 +48,12 @@ pub fn admits(words: &[u32], r: u32, left: bool, k: u32) -> bool
 }
 
 // Puts slot k among those of a side of the cut in row r.
-fn mark(words: &mut [u32], r: u32, left: bool, k: u32)
-    ensures { λ _. ⌜ now (words .exit) ≡ mark (now (words .entry)) r left k ⌝ }
+fn mark_side(words: &mut [u32], r: u32, left: bool, k: u32)
+    ensures { λ _. ⌜ now (words .exit) ≡ markSide (now (words .entry)) r left k ⌝ }
 {
     let at = at_slot(r, left, k);
     let marked = with_bit(get(words, at), k);
     put(words, at, marked);
-}
-
-// The left link of the cut in row r.
-fn left_at(words: &[u32], r: u32) -> u32
-    ensures { λ x. ⌜ x ≡ leftAt (now (words .entry)) r ⌝ }
-{
-    get(words, FIRST_ROW + ROW * (r as usize) + 6)
 }
 
 // Puts slot k on the side of the cut in row r where the child `to` hangs. A walk that stays, at a leaf, marks nothing.
@@ -67,8 +61,8 @@ pub fn mark_toward(words: &mut [u32], r: u32, to: u32, k: u32)
     ensures { λ _. ⌜ now (words .exit) ≡ markToward (now (words .entry)) r to k ⌝ }
 {
     if r != to {
-        let left = left_at(words, r) == to;
-        mark(words, r, left, k);
+        let left = child_at(words, r, true) == to;
+        mark_side(words, r, left, k);
     }
 }
 
@@ -81,8 +75,8 @@ pub fn begin_grades(words: &mut [u32], r: u32, left: bool, here: u32, there: u32
         if at + ROW <= words.len() {
             let none: [u32; 8] = [0, 0, 0, 0, 0, 0, 0, 0];
             write_part(words, at + 8, &none[..]);
-            mark(words, r, left, here);
-            mark(words, r, !left, there);
+            mark_side(words, r, left, here);
+            mark_side(words, r, !left, there);
         }
     }
 }

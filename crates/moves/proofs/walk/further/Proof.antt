@@ -2,8 +2,6 @@
 use borrow.Author.Needs.{needs}
 use Rattle.moves.proofs.walk.further.Statement.{statement}
 use Rattle.moves.proofs.walk.further.Tie as tie
-use mathlib.Core.Path.{_∙_, ap}
-use Rattle.moves.specs.Walk.{down}
 
 down-requires : tie.Need-down-requires
 down-requires c κs = search needs

@@ -5,7 +5,7 @@ use Rattle.rows.proofs.grades.begin_grades.Tie as tie
 use mathlib.Core.Path.{ap, _∙_}
 use mathlib.Core.Bool.{not}
 use borrow.Author.Tests.{lt-ltb, le-ltb, le-leb, lt-leb}
-use Rattle.rows.specs.Grades.{mark, beginGrades}
+use Rattle.rows.specs.Grades.{markSide, beginGrades}
 
 mul-at : tie.Need-mul-at
 mul-at c = search needs
@@ -25,11 +25,11 @@ slice-aggregate-write-part c = search needs
 write-part-requires : tie.Need-write-part-requires
 write-part-requires c κs = search needs
 
-mark-requires : tie.Need-mark-requires
-mark-requires c κs = search needs
+mark-side-requires : tie.Need-mark-side-requires
+mark-side-requires c κs = search needs
 
-mark-requires-2 : tie.Need-mark-requires-2
-mark-requires-2 c κs = search needs
+mark-side-requires-2 : tie.Need-mark-side-requires-2
+mark-side-requires-2 c κs = search needs
 
 same-length : tie.Need-same-length
 same-length c = search needs
@@ -43,7 +43,7 @@ returns c =
     let t = p .before .before .before in
     let s = t .before .before .before .args in
     simp (lt-ltb _ _ (t .before .if1 .taken), le-leb _ _ (t .if2 .taken))
-    (second .mark2 .ensures ∙ ap (λ v. mark v (s .r) (not (s .left)) (s .there)) (first .mark .ensures ∙ ap (λ v. mark v (s .r) (s .left) (s .here)) (p .write-part .ensures)))
+    (second .mark-side2 .ensures ∙ ap (λ v. markSide v (s .r) (not (s .left)) (s .there)) (first .mark-side .ensures ∙ ap (λ v. markSide v (s .r) (s .left) (s .here)) (p .write-part .ensures)))
 
 returns-2 : tie.Need-returns-2
 unfolding beginGrades
@@ -63,8 +63,8 @@ begin-grades-spec =
     add-write-part
     slice-aggregate-write-part
     write-part-requires
-    mark-requires
-    mark-requires-2
+    mark-side-requires
+    mark-side-requires-2
     same-length
     returns
     returns-2

@@ -5,11 +5,11 @@ use Rattle.rows.proofs.grades.mark_toward.Tie as tie
 use borrow.Author.Tests.{eq-eqb, ne-eqb}
 use Rattle.rows.specs.Grades.{markToward}
 
-left-at-requires : tie.Need-left-at-requires
-left-at-requires c κs = search needs
+child-at-requires : tie.Need-child-at-requires
+child-at-requires c κs = search needs
 
-mark-requires : tie.Need-mark-requires
-mark-requires c κs = search needs
+mark-side-requires : tie.Need-mark-side-requires
+mark-side-requires c κs = search needs
 
 same-length : tie.Need-same-length
 same-length c = search needs
@@ -27,4 +27,4 @@ returns-2 c = rw (eq-eqb _ _ (c .if1 .left))
 
 pub mark-toward-spec : {M : Type 1} → statement M
 mark-toward-spec =
-    tie.close (tie.spec left-at-requires mark-requires same-length returns returns-2)
+    tie.close (tie.spec child-at-requires mark-side-requires same-length returns returns-2)

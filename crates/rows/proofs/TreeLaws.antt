@@ -1,0 +1,58 @@
+-- Rows of the tree: what a reader that knows no other rows makes of sixteen words.
+-- Assumes nothing.
+use mathlib.Core.Path.{_≡_, refl}
+use mathlib.Core.Bool.{Bool, true, false, cond}
+use mathlib.Core.List.{List}
+use Prim.Native.Nat.{ℕ}
+use borrow.Author.Tests.{ne-eqb}
+use lib.Dec.{eqb}
+use lib.ListN.{getD}
+use Rattle.points.specs.declared.cut.Cut.{Cut as PointCut}
+use Rattle.points.specs.declared.point.Point.{Point}
+use Rattle.rows.specs.declared.row.Row.{Row}
+use Rattle.rows.specs.declared.row.Row.the-variants.{Bad, Leaf, Cut}
+use Rattle.rows.specs.Row.{inRows, checkedRow, asSpare, asRemoved, asLeaf, asCut, rowOf}
+use Rattle.rows.specs.Tree.{treeRow}
+
+-- a row that is not of the tree is none, whether in range or not
+dull : (row : Row) → treeRow row ≡ Bad → (b : Bool) → treeRow (cond b row Bad) ≡ Bad
+dull row e true = e
+dull row e false = refl
+
+-- a cut, and a leaf, stay
+pub tree-checked-cut : (rows parent : ℕ) (cut : PointCut) (left right : ℕ)
+    → treeRow (checkedRow rows (Cut parent cut left right)) ≡ checkedRow rows (Cut parent cut left right)
+unfolding checkedRow
+tree-checked-cut rows parent cut left right = go (inRows rows (Cut parent cut left right))
+  where
+    go : (b : Bool) → treeRow (cond b (Cut parent cut left right) Bad) ≡ cond b (Cut parent cut left right) Bad
+    go true = refl
+    go false = refl
+
+pub tree-checked-leaf : (rows parent added : ℕ) (point : Point) (curve : ℕ)
+    → treeRow (checkedRow rows (Leaf parent added point curve)) ≡ checkedRow rows (Leaf parent added point curve)
+unfolding checkedRow
+tree-checked-leaf rows parent added point curve = go (inRows rows (Leaf parent added point curve))
+  where
+    go : (b : Bool) → treeRow (cond b (Leaf parent added point curve) Bad) ≡ cond b (Leaf parent added point curve) Bad
+    go true = refl
+    go false = refl
+
+-- words of kind 3, of kind 2, and of any other kind
+module _ (rows : ℕ) (w : List ℕ) where
+  pub tree-of-cut : getD w 0 0 ≡ 3 → treeRow (checkedRow rows (rowOf w)) ≡ checkedRow rows (asCut w)
+  unfolding rowOf
+  tree-of-cut e = rw e (tree-checked-cut rows _ _ _ _)
+
+  pub tree-of-leaf : getD w 0 0 ≡ 2 → treeRow (checkedRow rows (rowOf w)) ≡ checkedRow rows (asLeaf w)
+  unfolding rowOf
+  tree-of-leaf e = rw e (tree-checked-leaf rows _ _ _ _)
+
+  pub tree-of-none : ¬ (getD w 0 0 ≡ 3) → ¬ (getD w 0 0 ≡ 2) → treeRow (checkedRow rows (rowOf w)) ≡ Bad
+  unfolding rowOf checkedRow
+  tree-of-none f g = rw (ne-eqb (getD w 0 0) 3 f, ne-eqb (getD w 0 0) 2 g) (go (eqb (getD w 0 0) 0) (eqb (getD w 0 0) 1))
+    where
+      go : (a b : Bool) → treeRow (cond (inRows rows (cond a (asSpare w) (cond b (asRemoved w) Bad))) (cond a (asSpare w) (cond b (asRemoved w) Bad)) Bad) ≡ Bad
+      go true b = dull (asSpare w) refl (inRows rows (asSpare w))
+      go false true = dull (asRemoved w) refl (inRows rows (asRemoved w))
+      go false false = dull Bad refl (inRows rows Bad)

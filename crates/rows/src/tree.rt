@@ -1,0 +1,104 @@
+// Rows of the tree, leaves and cuts, as a search reads them: cuts first, which it reads most, and each field tested as a word.
+use crate::row::FIRST_ROW;
+use crate::row::ROW;
+use crate::row::Row;
+use crate::row::as_cut;
+use crate::row::as_leaf;
+use crate::word::curve_in;
+use crate::word::get;
+use crate::word::link_in;
+use points::word::cut_words_in_range;
+use points::word::point_words_in_range;
+ghost use mathlib.Core.Path.{_≡_};
+ghost use lib.ListN.{length};
+ghost use Rattle.rows.specs.Row.{inRows, checkedRow, asLeaf, asCut, rowOf, rowAt};
+ghost use Rattle.rows.specs.Tree.{treeRow, atChild, childAt};
+
+// Whether sixteen words are a cut in range, by the words alone.
+fn cut_sound(part: &[u32], rows: u32) -> bool
+    requires { ⌜ length (now part) ≡ 16 ⌝ }
+    ensures { λ r. ⌜ r ≡ inRows rows (asCut (now (part .entry))) ⌝ }
+{
+    link_in(rows, part[1])
+        & cut_words_in_range(part[4], part[5])
+        & (part[6] < rows)
+        & (part[7] < rows)
+}
+
+// The same for a leaf.
+fn leaf_sound(part: &[u32], rows: u32) -> bool
+    requires { ⌜ length (now part) ≡ 16 ⌝ }
+    ensures { λ r. ⌜ r ≡ inRows rows (asLeaf (now (part .entry))) ⌝ }
+{
+    link_in(rows, part[1])
+        & point_words_in_range(part[4], part[5], part[6], part[7], part[8])
+        & curve_in(part[9])
+}
+
+// Sixteen words as a cut in range, else `Bad`.
+fn tree_cut(part: &[u32], rows: u32) -> Row
+    requires { ⌜ length (now part) ≡ 16 ⌝ }
+    ensures { λ r. ⌜ r ≡ checkedRow rows (asCut (now (part .entry))) ⌝ }
+{
+    if cut_sound(part, rows) {
+        as_cut(part)
+    } else {
+        Row::Bad
+    }
+}
+
+// Sixteen words as a leaf in range, else `Bad`.
+fn tree_leaf(part: &[u32], rows: u32) -> Row
+    requires { ⌜ length (now part) ≡ 16 ⌝ }
+    ensures { λ r. ⌜ r ≡ checkedRow rows (asLeaf (now (part .entry))) ⌝ }
+{
+    if leaf_sound(part, rows) {
+        as_leaf(part)
+    } else {
+        Row::Bad
+    }
+}
+
+// The row of sixteen words where it is a leaf or a cut in range, else `Bad`.
+fn tree_of(part: &[u32], rows: u32) -> Row
+    requires { ⌜ length (now part) ≡ 16 ⌝ }
+    ensures { λ r. ⌜ r ≡ treeRow (checkedRow rows (rowOf (now (part .entry)))) ⌝ }
+{
+    let kind = part[0];
+    if kind == 3 {
+        return tree_cut(part, rows);
+    }
+    if kind == 2 {
+        return tree_leaf(part, rows);
+    }
+    Row::Bad
+}
+
+// The row r where it is one of the tree, else `Bad`.
+pub fn read_tree(words: &[u32], rows: u32, r: u32) -> Row
+    ensures { λ x. ⌜ x ≡ treeRow (rowAt (now (words .entry)) rows r) ⌝ }
+{
+    if r < rows {
+        let start = FIRST_ROW + ROW * (r as usize);
+        let end = start + ROW;
+        if end <= words.len() {
+            return tree_of(&words[start..end], rows);
+        }
+    }
+    Row::Bad
+}
+
+// The word of the child of row r on a side, left or not.
+fn at_child(r: u32, left: bool) -> usize
+    ensures { λ x. ⌜ x ≡ atChild r left ⌝ }
+{
+    let first = FIRST_ROW + ROW * (r as usize);
+    if left { first + 6 } else { first + 7 }
+}
+
+// The child of the cut in row r on a side. It is read again, since choosing one of two links that are read already would be a jump.
+pub fn child_at(words: &[u32], r: u32, left: bool) -> u32
+    ensures { λ x. ⌜ x ≡ childAt (now (words .entry)) r left ⌝ }
+{
+    get(words, at_child(r, left))
+}
