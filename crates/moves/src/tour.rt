@@ -1,6 +1,6 @@
 // A search goes around the tree: down to the near child of each cut, and up again, over to the far child where that side may hold a record
 // that is chosen over the best. It goes to no side whose grades do not admit the target's slot. On the way up it keeps the parent link of the row where it
-// stands, so that each move reads one row, and every function but the last is called from one place, so that a step's moves are compiled in line.
+// stands, so that each move reads one row. Each question is asked in one place, so that a step's moves are compiled in line.
 use crate::link::is_tree;
 use crate::link::parent_of;
 use crate::look::consider;

@@ -52,10 +52,6 @@ module _ {b : ℕ} (r : Range) (s : Sound b r) (small : b ≤ 1048576) where
   unfolding loadedIn
   loaded-is w h = rw (loaded-test w ∙ le-leb w (spanIn r) h)
 
-  loaded-not : (w : ℕ) → leb w (spanIn r) ≡ false → loadedIn r w ≡ outside
-  unfolding loadedIn
-  loaded-not w e = rw (loaded-test w ∙ e)
-
   record Loaded (w : ℕ) : Type 0 where
     near : Near b (r .low +ℤ pos w)
     raised : raise b (r .low +ℤ pos w) ≡ raise b (r .low) + w
@@ -236,15 +232,6 @@ cut-plainly axis sum e =
       near = loaded r s (lit≤ tt) sum second .near;
       is = rw first (λ i. record { axis = axis + 1; sum = plain i });
     }
-
--- and where it is not: no sum of its axis
-pub cut-outside : (axis sum : ℕ) → axis ≤ 4 → cutInRange (cutAt axis sum) ≡ false → cutAt axis sum ≡ record { axis = axis + 1; sum = outside }
-unfolding cutAt
-cut-outside axis sum h e =
-    let first = le-leb axis 4 h in
-    let second : leb sum (sumSpanOf (axis + 1)) ≡ false = sym (rw first) ∙ sym (cut-at-in-range axis sum) ∙ e in
-    let none = loaded-not (sumRangeOf (axis + 1)) (sum-range-sound (axis + 1)) (lit≤ tt) sum second in
-    rw first (λ i. record { axis = axis + 1; sum = none i })
 
 -- the words of that cut, where it is in range
 pub record CutWords (axis sum : ℕ) (k : Cut) : Type 0 where

@@ -5,7 +5,6 @@ use crate::point::Range;
 use crate::point::range_on;
 use crate::signed::wide;
 ghost use mathlib.Core.Path.{_≡_};
-ghost use mathlib.Core.Bool.{true, false};
 ghost use Prim.Native.Nat.{_+_};
 ghost use lib.Dec.{leb};
 ghost use Rattle.points.specs.Point.{inRange};
@@ -84,7 +83,7 @@ fn sum_span_at(axis: u32) -> u32
 }
 
 // The least of its sums, by the same word.
-fn sum_low_at(axis: u32) -> i32
+pub fn sum_low_at(axis: u32) -> i32
     ensures { λ x. ⌜ x ≡ sumRangeOf (axis + 1) .low ⌝ }
 {
     match axis {
@@ -166,46 +165,23 @@ pub fn sum_word(cut: Cut) -> u32
     stored_in(sum_range_on(cut.axis), cut.sum)
 }
 
-// Whether the cut of two words is in range, by the words alone.
-pub fn cut_words_in_range(axis: u32, sum: u32) -> bool
-    ensures { λ b. ⌜ b ≡ cutInRange (cutAt axis sum) ⌝ }
-{
-    (axis <= 4) & (sum <= sum_span_at(axis))
-}
-
-// The cut of two words that are in range.
-fn sound_cut(axis: u32, sum: u32) -> Cut
-    requires { ⌜ cutInRange (cutAt axis sum) ≡ true ⌝ }
-    ensures { λ r. ⌜ r ≡ cutAt axis sum ⌝ }
-{
-    Cut {
-        axis: axis + 1,
-        sum: sum_low_at(axis) + sum as i32,
-    }
-}
-
-// The cut of two words that are not: with no such sum, or with no axis.
-fn bad_cut(axis: u32, sum: u32) -> Cut
-    requires { ⌜ cutInRange (cutAt axis sum) ≡ false ⌝ }
+// The cut of two words; it is in range exactly if both of them are.
+pub fn cut_at(axis: u32, sum: u32) -> Cut
     ensures { λ r. ⌜ r ≡ cutAt axis sum ⌝ }
 {
     if axis <= 4 {
         Cut {
             axis: axis + 1,
-            sum: 2147483647,
+            sum: loaded_in(sum_range_on(axis + 1), sum),
         }
     } else {
         Cut { axis: 0, sum: 0 }
     }
 }
 
-// The cut of two words; it is in range exactly if both of them are.
-pub fn cut_at(axis: u32, sum: u32) -> Cut
-    ensures { λ r. ⌜ r ≡ cutAt axis sum ⌝ }
+// Whether the cut of two words is in range, by the words alone.
+pub fn cut_words_in_range(axis: u32, sum: u32) -> bool
+    ensures { λ b. ⌜ b ≡ cutInRange (cutAt axis sum) ⌝ }
 {
-    if cut_words_in_range(axis, sum) {
-        sound_cut(axis, sum)
-    } else {
-        bad_cut(axis, sum)
-    }
+    (axis <= 4) & (sum <= sum_span_at(axis))
 }

@@ -1,16 +1,19 @@
 -- Rows of the tree: what a reader that knows no other rows makes of sixteen words.
 -- Assumes nothing.
 use mathlib.Core.Path.{_≡_, refl}
-use mathlib.Core.Bool.{Bool, true, false, cond}
+use mathlib.Core.Bool.{Bool, true, false, cond, _&&_}
 use mathlib.Core.List.{List}
 use Prim.Native.Nat.{ℕ}
 use borrow.Author.Tests.{ne-eqb}
-use lib.Dec.{eqb}
+use lib.Dec.{eqb, ltb}
 use lib.ListN.{getD}
 use Rattle.points.specs.declared.cut.Cut.{Cut as PointCut}
 use Rattle.points.specs.declared.point.Point.{Point}
+use Rattle.points.specs.Word.{cutInRange}
+use Rattle.points.proofs.Tests.{and-l, and-r}
 use Rattle.rows.specs.declared.row.Row.{Row}
 use Rattle.rows.specs.declared.row.Row.the-variants.{Bad, Leaf, Cut}
+use Rattle.rows.specs.Range.{linkIn}
 use Rattle.rows.specs.Row.{inRows, checkedRow, asSpare, asRemoved, asLeaf, asCut, rowOf}
 use Rattle.rows.specs.Tree.{treeRow}
 
@@ -56,3 +59,11 @@ module _ (rows : ℕ) (w : List ℕ) where
       go true b = dull (asSpare w) refl (inRows rows (asSpare w))
       go false true = dull (asRemoved w) refl (inRows rows (asRemoved w))
       go false false = dull Bad refl (inRows rows Bad)
+
+-- a cut in range has its axis and sum in range
+pub cut-tells : (rows parent : ℕ) (cut : PointCut) (left right : ℕ) → inRows rows (Cut parent cut left right) ≡ true → cutInRange cut ≡ true
+unfolding inRows
+cut-tells rows parent cut left right e =
+    let a = linkIn rows parent in
+    let b = cutInRange cut in
+    and-r a b (and-l (a && b) (ltb left rows) (and-l ((a && b) && ltb left rows) (ltb right rows) e))

@@ -146,7 +146,7 @@ pub(crate) fn as_leaf(part: &[u32]) -> Row
     }
 }
 
-pub(crate) fn as_cut(part: &[u32]) -> Row
+fn as_cut(part: &[u32]) -> Row
     requires { ⌜ length (now part) ≡ 16 ⌝ }
     ensures { λ r. ⌜ r ≡ asCut (now (part .entry)) ⌝ }
 {

@@ -2,15 +2,18 @@
 use crate::row::FIRST_ROW;
 use crate::row::ROW;
 use crate::row::Row;
-use crate::row::as_cut;
 use crate::row::as_leaf;
 use crate::word::curve_in;
 use crate::word::get;
 use crate::word::link_in;
+use points::cut::Cut;
 use points::word::cut_words_in_range;
 use points::word::point_words_in_range;
+use points::word::sum_low_at;
 ghost use mathlib.Core.Path.{_≡_};
-ghost use lib.ListN.{length};
+ghost use mathlib.Core.Bool.{true};
+ghost use lib.ListN.{length, getD};
+ghost use Rattle.points.specs.Word.{cutAt, cutInRange};
 ghost use Rattle.rows.specs.Row.{inRows, checkedRow, asLeaf, asCut, rowOf, rowAt};
 ghost use Rattle.rows.specs.Tree.{treeRow, atChild, childAt};
 
@@ -35,13 +38,37 @@ fn leaf_sound(part: &[u32], rows: u32) -> bool
         & curve_in(part[9])
 }
 
+// The cut of two words that are in range.
+fn sound_cut(axis: u32, sum: u32) -> Cut
+    requires { ⌜ cutInRange (cutAt axis sum) ≡ true ⌝ }
+    ensures { λ r. ⌜ r ≡ cutAt axis sum ⌝ }
+{
+    Cut {
+        axis: axis + 1,
+        sum: sum_low_at(axis) + sum as i32,
+    }
+}
+
+// Sixteen words as a cut, where its axis and sum are in range.
+fn as_sound_cut(part: &[u32]) -> Row
+    requires { ⌜ (length (now part) ≡ 16) × (cutInRange (cutAt (getD (now part) 4 0) (getD (now part) 5 0)) ≡ true) ⌝ }
+    ensures { λ r. ⌜ r ≡ asCut (now (part .entry)) ⌝ }
+{
+    Row::Cut {
+        parent: part[1],
+        cut: sound_cut(part[4], part[5]),
+        left: part[6],
+        right: part[7],
+    }
+}
+
 // Sixteen words as a cut in range, else `Bad`.
 fn tree_cut(part: &[u32], rows: u32) -> Row
     requires { ⌜ length (now part) ≡ 16 ⌝ }
     ensures { λ r. ⌜ r ≡ checkedRow rows (asCut (now (part .entry))) ⌝ }
 {
     if cut_sound(part, rows) {
-        as_cut(part)
+        as_sound_cut(part)
     } else {
         Row::Bad
     }

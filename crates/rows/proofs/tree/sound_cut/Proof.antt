@@ -1,6 +1,7 @@
+-- `rows::tree::sound_cut` meets its contract. Assumes nothing.
 use borrow.Author.Needs.{needs}
-use Rattle.points.proofs.word.sound_cut.Statement.{statement}
-use Rattle.points.proofs.word.sound_cut.Tie as tie
+use Rattle.rows.proofs.tree.sound_cut.Statement.{statement}
+use Rattle.rows.proofs.tree.sound_cut.Tie as tie
 use mathlib.Core.Path.{_≡_, sym, ap, _∙_}
 use Prim.Native.Nat.{_+_}
 use native.Mathlib.Omega.{arith}
