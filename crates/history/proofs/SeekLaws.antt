@@ -157,7 +157,8 @@ module _ {places : ℕ} {h : Heap} {t : Option Tree} {q : List Free} {changes re
         go x (no c) = let y = tour-less once (x .0) c (x .2) in (y .0, omega (arith, y .1, x .1), rw all (tours-seek n (tourWord words (2 * places) slot call once) (y .0) (y .2)))
         go x (yes c) =
             let m : once .missed ≡ NONE = tour-missed p most g ∙ e in
-            let ended : isFinished (toured (suc (suc n)) p) ≡ true = ap isFinished (tours-first (suc n) p ∙ tours-stay words (2 * places) slot call (suc n) once c) ∙ and-i (eq-eqb (once .cursor) NONE c) (eq-eqb (once .missed) NONE m) in
+            let none : isFinished once ≡ true = and-i (eq-eqb (once .cursor) NONE c) (eq-eqb (once .missed) NONE m) in
+            let ended : isFinished (toured (suc (suc n)) p) ≡ true = ap isFinished (tours-first (suc n) p ∙ tours-stay words (2 * places) slot call (suc n) once c) ∙ none in
             absurd (true≢false (sym ended ∙ f))
 
     -- ---- the step

@@ -224,7 +224,8 @@ module _ {words : List ℕ} {t : Table} {s i : ℕ} {p : Point} {c : ℕ} (sound
       let v : Inserted (t .places) h (w .0) (r .tree) (r .queue) (t .changes) (length (t .removals)) (leastSince words) entry (some leaf) a b =
       insert (w .0) entry (r .tree) (some leaf) (r .store) (related-room r sound place-left) (on, reads) other (busy .ranged) entry-number (w .2) in
       inserted-outcome (leaf .row) room (room-beside words f (r .reads) (r .store .fits) (r .counted .head)) (sound-beside words f (r .reads) (r .store .fits))
-      (related-inserted (some leaf) room sound settled r refl (omega (arith, changes-word r sound)) few (λ d. absurd (there d)) refl refl (rw (ne-eqb (leaf .row) NONE there, r .counted .root)) (rw (ne-eqb (leaf .row) NONE there) (next-word (h b))) (w .1) v (gains f))
+      (related-inserted (some leaf) room sound settled r refl (omega (arith, changes-word r sound)) few (λ d. absurd (there d)) refl refl
+      (rw (ne-eqb (leaf .row) NONE there, r .counted .root)) (rw (ne-eqb (leaf .row) NONE there) (next-word (h b))) (w .1) v (gains f))
     where
       gains : {a b : ℕ} (f : Finds (t .places) (r .heap) a b leaf)
           → Gains words

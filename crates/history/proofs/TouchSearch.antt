@@ -21,7 +21,8 @@ use Rattle.rows.specs.Grades.{slotOf, admits}
 use Rattle.rows.proofs.RowLaws.{rowAt-outside}
 use Rattle.moves.specs.declared.search.Progress.{Progress}
 use Rattle.moves.specs.Link.{nextOf, parentOf, isTree}
-use Rattle.moves.specs.Search.{pickProgress, onward, unsound, lookAt, look, bestSquare, farShut, tourDown, fromNear, fromChild, tourAbove, tourUp, tour, toured, seek, progressAt, isFinished, foundAnswer, keptWords, pickWords, searchWords, searchTo, searchOf}
+use Rattle.moves.specs.Search.{pickProgress, onward, unsound, lookAt, look, bestSquare, farShut, tourDown, fromNear, fromChild, tourAbove}
+use Rattle.moves.specs.Search.{tourUp, tour, toured, seek, progressAt, isFinished, foundAnswer, keptWords, pickWords, searchWords, searchTo, searchOf}
 use Rattle.moves.specs.Answer.{answeredWords}
 use Rattle.history.specs.Touch.{AgreeOn, Leaves, pickRows, lookRows, tourRows, newRow, searchRows, rowsBelow}
 use Rattle.history.proofs.Frame.{slot-fits}

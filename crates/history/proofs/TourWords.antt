@@ -22,7 +22,8 @@ use Rattle.trees.specs.Tour.{considered, pickProgress, goTo, Opens, shut, tourD
 use Rattle.trees.specs.Stand.{Down, Up}
 use Rattle.trees.proofs.ChoiceOf.{choiceOf}
 use Rattle.moves.specs.declared.search.Progress.{Progress as WordProgress}
-use Rattle.moves.specs.Search.{considered as consideredWord, onward, unsound, pickProgress as pickWordProgress, farShut, fromNear, tourDown as tourWordDown, tourAbove as tourWordParent, tourUp as tourWordUp, tour as tourWord}
+use Rattle.moves.specs.Search.{considered as consideredWord, onward, unsound, pickProgress as pickWordProgress, farShut}
+use Rattle.moves.specs.Search.{fromNear, tourDown as tourWordDown, tourAbove as tourWordParent, tourUp as tourWordUp, tour as tourWord}
 use Rattle.history.specs.View.{wordRow, Reads, phaseOf, bestOf, opensIn}
 use Rattle.history.proofs.Effects.{reads-in}
 use Rattle.rows.proofs.RowLaws.{in-rows-cut}

@@ -25,7 +25,9 @@ from-is words rows s call at row a r = ap₂ (walkFrom words rows s call) a (r �
 from-cut : (words : List ℕ) (rows s : ℕ) (call : Call) (at : ℕ) (row : Row) → isCut row ≡ true → walkTo words s call (wayOf words rows (call .point) at) ≡ walkFrom words rows s call at row
 from-cut words rows s call at row k = rw k refl
 
-goes-down : (words : List ℕ) (rows s : ℕ) (call : Call) (at : ℕ) (row : Row) (way : Way) (reply : Reply) → at ≡ standsAt words s → row ≡ rowAt words rows at → isCut row ≡ true → way ≡ wayOf words rows (call .point) at → reply ≡ walkTo words s call way → reply ≡ walkOf words rows s call
+goes-down : (words : List ℕ) (rows s : ℕ) (call : Call) (at : ℕ) (row : Row) (way : Way) (reply : Reply)
+    → at ≡ standsAt words s → row ≡ rowAt words rows at → isCut row ≡ true → way ≡ wayOf words rows (call .point) at → reply ≡ walkTo words s call way
+    → reply ≡ walkOf words rows s call
 goes-down words rows s call at row way reply a r k t e =
     e
     ∙ ap (walkTo words s call) t
@@ -36,7 +38,9 @@ goes-down words rows s call at row way reply a r k t e =
 from-leaf : (words : List ℕ) (rows s : ℕ) (call : Call) (at : ℕ) (row : Row) → isCut row ≡ false → (eqb at NONE || isLeaf row) ≡ true → conclude words rows s call at row ≡ walkFrom words rows s call at row
 from-leaf words rows s call at row k l = rw (k, l) refl
 
-ends : (words : List ℕ) (rows s : ℕ) (call : Call) (at : ℕ) (row : Row) (reply : Reply) → at ≡ standsAt words s → row ≡ rowAt words rows at → isCut row ≡ false → (eqb at NONE || isLeaf row) ≡ true → reply ≡ conclude words rows s call at row → reply ≡ walkOf words rows s call
+ends : (words : List ℕ) (rows s : ℕ) (call : Call) (at : ℕ) (row : Row) (reply : Reply)
+    → at ≡ standsAt words s → row ≡ rowAt words rows at → isCut row ≡ false → (eqb at NONE || isLeaf row) ≡ true → reply ≡ conclude words rows s call at row
+    → reply ≡ walkOf words rows s call
 ends words rows s call at row reply a r k l e =
     e ∙ from-leaf words rows s call at row k l ∙ from-is words rows s call at row a r
 
