@@ -18,6 +18,8 @@ pub mod Nearer
 pub mod Withdrawn
 -- Request 2026-11: how long the busy case can last.
 pub mod Somebody
+-- A search that nobody can hold up: how long a nearest can take, whatever the others do.
+pub mod WaitFree
 -- Request 2026-07: the window of the last moisture readings, which is no part of the index.
 pub mod Scans
 -- What the claims rest on beside the laws of the other crates: the same facts said step by step instead of along a list.

@@ -2,8 +2,9 @@
 -- station that has an unfinished call, at least one call is answered. The premise: the run is part of a history, and neither withdrawal nor packing falls
 -- inside it."
 -- For a dispatcher: deal out steps to any stations in any order, submit, take, and name stations that have nothing to do. From any moment on, while nobody takes back
--- a call, count the steps that are not refused: one of the first 16 × places + 1 answers a call (`somebody`). The figure of the request is more than 256 times that
--- (`somebody-finishes`). Whose call it is, is not said: `solo` of Demand3.antt is about one station, and asks that the others stand still. Where nobody submits anew,
+-- a call, count the steps that are not refused: one of the first 8 × places + 1 answers a call (`somebody`). The figure of the request is more than 512 times that
+-- (`somebody-finishes`). Whose call it is, is not said: `solo` of Demand3.antt is about one station, and asks that the others stand still; `wait-free` of
+-- WaitFree.antt is about a nearest, and asks nothing of them. Where nobody submits anew,
 -- all eight are answered or withdrawn within eight times as many (`everybody`).
 use Prim.Native.Nat.{ℕ, _+_, _*_, _≤_, _<_}
 use mathlib.Core.Path.{_≡_, refl, sym, ap}
@@ -66,16 +67,16 @@ module _ (words : List ℕ) (places limit : ℕ) (e : openOf words places limit 
   pub dealt-accepted : (s : ℕ) → (stepOf reached s .number ≡ 0) ↔ (isUnfinished (stateAt reached s) ≡ true)
   dealt-accepted s = step-accepted words places limit e evs s
 
-  -- among more than 16 × places such steps, whatever submissions, takings and refused events fall between them, one answers
-  pub somebody : (run : List Event) → Undisturbed reached run → 16 * places < dealtSteps reached run → OneAnswers reached run
+  -- among more than 8 × places such steps, whatever submissions, takings and refused events fall between them, one answers
+  pub somebody : (run : List Event) → Undisturbed reached run → 8 * places < dealtSteps reached run → OneAnswers reached run
   somebody run d l = one-answers reached run (Finishes.somebody words places limit e evs run d l)
 
   -- the request, by its own figure
   pub somebody-finishes : (run : List Event) → Undisturbed reached run → 8 * 32 * (16 * places + 64) ≤ dealtSteps reached run → OneAnswers reached run
   somebody-finishes run d l = one-answers reached run (Finishes.somebody-finishes words places limit e evs run d l)
 
-  -- where no submission is accepted, at most 8 × (16 × places + 1) steps find a call unfinished: then every call is answered or withdrawn
-  pub everybody : (run : List Event) → NobodySubmits reached run → dealtSteps reached run ≤ 8 * (16 * places + 1)
+  -- where no submission is accepted, at most 8 × (8 × places + 1) steps find a call unfinished: then every call is answered or withdrawn
+  pub everybody : (run : List Event) → NobodySubmits reached run → dealtSteps reached run ≤ 8 * (8 * places + 1)
   everybody run f = Everybody.everybody words places limit e evs run f
 
 -- ---- steps alone
@@ -98,9 +99,9 @@ unfolding reply
 steps-undisturbed words [] = tt
 steps-undisturbed words (s ∷ stations) = (tt, steps-undisturbed (stepOf words s .words) stations)
 
--- Among more than 16 × places steps, each given to a station that has an unfinished call, one answers. By `everybody` no run of steps alone is as long as the request's figure.
+-- Among more than 8 × places steps, each given to a station that has an unfinished call, one answers. By `everybody` no run of steps alone is as long as the request's figure.
 pub somebody-steps : (words : List ℕ) (places limit : ℕ) (e : openOf words places limit .number ≡ 0) (evs : List Event) (stations : List ℕ)
-    → EachDealt (reached words places limit e evs) stations → 16 * places < length stations → OneAnswers (reached words places limit e evs) (map singleStep stations)
+    → EachDealt (reached words places limit e evs) stations → 8 * places < length stations → OneAnswers (reached words places limit e evs) (map singleStep stations)
 somebody-steps words places limit e evs stations f l =
     let v = reached words places limit e evs in
     somebody words places limit e evs (map singleStep stations) (steps-undisturbed v stations) (omega (arith, each-counts v stations f, l))

@@ -68,6 +68,9 @@ pub use Rattle.history.specs.Withdrawn.{isSearching, Withdrawn}
 -- the steps among some events that are dealt to stations with an unfinished call; no withdrawal is accepted; no submission is
 unfoldable pub use Rattle.history.specs.Somebody.{dealtSteps}
 pub use Rattle.history.specs.Somebody.{NotWithdrawn, Undisturbed, NobodySubmits}
+-- the steps of one station; that none of the events withdraws its call
+unfoldable pub use Rattle.history.specs.WaitFree.{ownSteps}
+pub use Rattle.history.specs.WaitFree.{CallKept, KeepsCall}
 -- questions in their order, and the number of the first that is answered no
 pub use Rattle.history.specs.Questions.{asked}
 unfoldable pub use Rattle.history.specs.Questions.{firstNo}

@@ -35,6 +35,7 @@ use Rattle.history.proofs.Demand3.{accepted, finished-sound}
 use Rattle.history.proofs.Stepped.{stepped-ends}
 use Rattle.history.proofs.Run.{run-related}
 use Rattle.history.proofs.Demand2.{take-given, related-settled, related-alone, alone-leaves}
+use Rattle.trees.specs.Measure.{stepMoves}
 
 -- a run is accepted, and the taking then gives this answer
 pub record RunGives (words : List ℕ) (s : ℕ) (a : Answer) : Type 0 where
@@ -140,7 +141,7 @@ set-gives {words} {t} s i c a h r l q =
     let set : Table = settle eight t in
     let y = related-settled t h r in
     let e : set .stations s ≡ unfinished i c (some a) = settle-stays t s (ap fresh q) ∙ q in
-    let w = stepped-ends set s i c (some a) (y .0) (settled t) l e words (4 * set .places) (most-left s i c (some a) l e (y .1)) in
+    let w = stepped-ends set s i c (some a) (y .0) (settled t) l e words (stepMoves * set .places) (most-left s i c (some a) (y .0) l e (y .1)) in
     let g : runOf words s ≡ done (stepped (suc (w .before)) words s) = run-related s (w .before) (y .1) (omega (arith, w .few)) (w .answered) in
     let ending : Table = finished set s c (some a) in
     let m = related-takes s (finished-sound set s i c (some a) (y .0) l e) (w .related) in

@@ -15,6 +15,7 @@ use Rattle.rows.proofs.WordLaws.{get-put-same, get-put-other}
 use Rattle.rows.proofs.AgreeLaws.{only-refl, only-trans}
 use Rattle.rows.proofs.OpeningLaws.{openedIn-put}
 use Rattle.rows.proofs.StationLaws.{put-common}
+use Rattle.rows.proofs.TargetLaws.{target-put}
 use Rattle.history.specs.View.{Counts, countsAt, placeAt}
 use Rattle.history.proofs.Frame.{place-same}
 
@@ -51,7 +52,9 @@ counts-put w i x h = λ j. record {
 -- a word before the cursors leaves the places
 pub place-put : (w : List ℕ) (i x : ℕ) → i < 16 → (s : ℕ) → placeAt (put w i x) s ≡ placeAt w s
 place-put w i x h s =
-    place-same (put w i x) w s (get-put-other w i (atCursor s) x (λ e. omega arith)) (get-put-other w i (atPhase s) x (λ e. omega arith)) (get-put-other w i (atSince s) x (λ e. omega arith)) (get-put-other w i (atMissed s) x (λ e. omega arith))
+    place-same (put w i x) w s (get-put-other w i (atCursor s) x (λ e. omega arith)) (get-put-other w i (atPhase s) x (λ e. omega arith))
+    (get-put-other w i (atSince s) x (λ e. omega arith)) (get-put-other w i (atMissed s) x (λ e. omega arith))
+    (target-put w i x s (omega arith))
 
 -- v is w but for its counts
 pub record Counting (v w : List ℕ) (counts : Counts) : Type 0 where

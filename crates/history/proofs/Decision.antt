@@ -38,8 +38,8 @@ use Rattle.history.specs.View.{countsAt, seatAt, wordRow}
 use Rattle.history.specs.Related.{recordOf, kindOf, Busy, Related}
 use Rattle.history.proofs.Readings.{plain-change}
 use Rattle.history.proofs.Effects.{reads-in}
-use Rattle.history.proofs.Outcome.{Outcome, ends}
-use Rattle.history.proofs.OwnSeat.{related-answered}
+use Rattle.history.proofs.Outcome.{Outcome, ends, Next}
+use Rattle.history.proofs.OwnSeat.{next-answered}
 use Rattle.history.proofs.RowLinks.{LeafIn, leaf-tells}
 use Rattle.history.proofs.RelatedLaws.{word-places, word-limit, removals-word, related-busy, related-taken}
 
@@ -107,9 +107,9 @@ module _ {words : List ℕ} {t : Table} {s i : ℕ} {c : Call} (sound : Sound t)
   unfolding conclude plainAnswer seatAt
   plain-outcome at row code curve is one five carries least most fits says =
       rw (is, one, five, carries, busy .point)
-      (ends refl (subst (λ (u : Table). Related (answeredWords words s (given code (pointOf c) curve 0)) u)
+      (ends refl (subst (λ (u : Table). Next r s (answeredWords words s (given code (pointOf c) curve 0)) u)
       (sym (finished-quiet t s c (answer code (pointOf c) curve 0) says (plain-change code (pointOf c) curve one five)))
-      (related-answered s l r (given code (pointOf c) curve 0) (omega (arith, removals-word r sound))
+      (next-answered s l r (given code (pointOf c) curve 0) (omega (arith, removals-word r sound))
       (answer-of (given code (pointOf c) curve 0) (record { code = and-i (le-leb 1 code least) (ap (λ (b : Bool). b || eqb code 11) (le-leb code 9 most)); point = busy .ranged; curve = fits; square = omega arith })))))
 
 -- ---- the decision of each call

@@ -39,6 +39,7 @@ use Rattle.history.proofs.Demand3.{Accepted, accepted, simulation, fini
 use Rattle.history.proofs.Reached.{history-related}
 use Rattle.history.proofs.Stepped.{Stepped, stepped-ends}
 use Rattle.history.proofs.Run.{run-related}
+use Rattle.trees.specs.Measure.{stepMoves}
 
 -- ---- one call
 
@@ -77,13 +78,13 @@ module _ (words : List ℕ) (t : Table) (h : Sound t) (r : Related words t) (s k
   accepts : submit t s kind p c .number ≡ 0
   accepts = sym (related-submits s kind p c h r .number) ∙ e
 
-  eighth : s < 8
+  pub eighth : s < 8
   eighth = submit-idle t s kind p c accepts .0
 
   finishing : Finishing t s call set
   finishing = alone t s call eighth (submit-idle t s kind p c accepts .1)
 
-  begun-related : Sound entered × Related begun entered
+  pub begun-related : Sound entered × Related begun entered
   begun-related =
       let n : submit t s kind p c .next ≡ entered = submit-accepted t s kind p c accepts in
       (subst Sound n (sound-submit t s kind p c h), subst (Related begun) n (related-submits s kind p c h r .next))
@@ -91,10 +92,10 @@ module _ (words : List ℕ) (t : Table) (h : Sound t) (r : Related words t) (s k
   set-related : Sound set × Related begun set
   set-related = related-settled entered (begun-related .0) (begun-related .1)
 
-  ran : Stepped begun set s call (finishing .set) (4 * set .places)
+  ran : Stepped begun set s call (finishing .set) (stepMoves * set .places)
   ran =
-      stepped-ends set s (finishing .identity) call (finishing .set) (set-related .0) (settled entered) eighth (finishing .is) begun (4 * set .places)
-      (most-left s (finishing .identity) call (finishing .set) eighth (finishing .is) (set-related .1))
+      stepped-ends set s (finishing .identity) call (finishing .set) (set-related .0) (settled entered) eighth (finishing .is) begun (stepMoves * set .places)
+      (most-left s (finishing .identity) call (finishing .set) (set-related .0) eighth (finishing .is) (set-related .1))
 
   -- the step that answers, and the taking
   abbrev ending : Table

@@ -16,7 +16,7 @@ use Rattle.rows.specs.Common.{placesIn, limitIn}
 use Rattle.rows.specs.Station.{isUnfinished, stateAt}
 use Rattle.table.specs.Call.{Call, Answer}
 use Rattle.table.specs.Table.{Station, idle, unfinished, waiting, Table, opened, answerOf}
-use Rattle.table.specs.Event.{singleStep, Reply, accept, refuse, take, takeAt}
+use Rattle.table.specs.Event.{singleStep, accept, refuse, take, takeAt}
 use Rattle.table.specs.History.{answered, Linear}
 use Rattle.table.proofs.Stations.{put-same}
 use Rattle.table.proofs.Sound.{Sound}
@@ -37,6 +37,7 @@ use Rattle.history.proofs.RelatedSubmit.{related-submits}
 use Rattle.history.proofs.RelatedTake.{related-takes}
 use Rattle.history.proofs.RelatedWithdraw.{related-withdraws}
 use Rattle.history.proofs.StepOutcome.{step-outcome, most-left}
+use Rattle.trees.specs.Measure.{stepMoves}
 
 -- ---- whether a step has answered
 
@@ -129,11 +130,11 @@ module _ {words : List ℕ} {t : Table} (s : ℕ) (h : Sound t) (k : Settled t) 
   still-matches : (x : Station) → s < 8 → t .stations s ≡ x → answered wordIndex words (singleStep s) ≡ false → Matches wordIndex Related (wordIndex .step words s) (still t s)
   still-matches idle l q a = refusal s 10 (step-quiet s r l (quiet-state s l idle q tt r)) r (still-quiet t s l idle q tt)
   still-matches (waiting b) l q a = refusal s 10 (step-quiet s r l (quiet-state s l (waiting b) q tt r)) r (still-quiet t s l (waiting b) q tt)
-  still-matches (unfinished i c o) l q a = go (step-outcome s i (4 * t .places) c o h k l q (most-left s i c o l q r))
+  still-matches (unfinished i c o) l q a = go (step-outcome s i (stepMoves * t .places) c o h k l q (most-left s i c o h l q r))
     where
-      go : Outcome (most-left s i c o l q r .related) s c o (4 * t .places) (stepOf words s) → Matches wordIndex Related (wordIndex .step words s) (still t s)
+      go : Outcome (most-left s i c o h l q r .related) s c o (stepMoves * t .places) (stepOf words s) → Matches wordIndex Related (wordIndex .step words s) (still t s)
       go (goesOn e m f w d) = rw (still-busy t s i c o l q) (record { number = e; given = refl; next = w .related })
-      go (ends e w) = absurd (true≢false (sym (ends-answered words t s i c o h l q e w) ∙ a))
+      go (ends e w) = absurd (true≢false (sym (ends-answered words t s i c o h l q e (w .related)) ∙ a))
 
   pub stills : answered wordIndex words (singleStep s) ≡ false → Matches wordIndex Related (wordIndex .step words s) (still t s)
   stills a = go (decLt s 8)
@@ -145,11 +146,11 @@ module _ {words : List ℕ} {t : Table} (s : ℕ) (h : Sound t) (k : Settled t) 
   answer-matches : (x : Station) → s < 8 → t .stations s ≡ x → answered wordIndex words (singleStep s) ≡ true → Finishes wordIndex Related words t s
   answer-matches idle l q a = absurd (refused-unanswered s 9 (step-quiet s r l (quiet-state s l idle q tt r)) a)
   answer-matches (waiting b) l q a = absurd (refused-unanswered s 9 (step-quiet s r l (quiet-state s l (waiting b) q tt r)) a)
-  answer-matches (unfinished i c o) l q a = go (step-outcome s i (4 * t .places) c o h k l q (most-left s i c o l q r))
+  answer-matches (unfinished i c o) l q a = go (step-outcome s i (stepMoves * t .places) c o h k l q (most-left s i c o h l q r))
     where
-      go : Outcome (most-left s i c o l q r .related) s c o (4 * t .places) (stepOf words s) → Finishes wordIndex Related words t s
+      go : Outcome (most-left s i c o h l q r .related) s c o (stepMoves * t .places) (stepOf words s) → Finishes wordIndex Related words t s
       go (goesOn e m f w d) = absurd (true≢false (sym a ∙ goes-unanswered words t s i c o h l q e (w .related)))
-      go (ends e w) = record { station = l; identity = i; call = c; set = o; is = q; matches = record { number = e; given = refl; next = w } }
+      go (ends e w) = record { station = l; identity = i; call = c; set = o; is = q; matches = record { number = e; given = refl; next = w .related } }
 
   pub answers : answered wordIndex words (singleStep s) ≡ true → Finishes wordIndex Related words t s
   answers a = go (decLt s 8)

@@ -1,4 +1,4 @@
--- Everybody finishes where nobody submits (`everybody`): no more than 8 × (16 × places + 1) steps are dealt to stations with an unfinished call. Each stretch
+-- Everybody finishes where nobody submits (`everybody`): no more than 8 × (8 × places + 1) steps are dealt to stations with an unfinished call. Each stretch
 -- of more than 16 × places answers one of the eight, a withdrawal ends another call, and no other call becomes unfinished.
 use Prim.Native.Nat.{ℕ, zero, suc, _+_, _*_, _≤_, _<_}
 use mathlib.Core.Path.{_≡_, refl, sym, ap, _∙_, subst}
@@ -30,8 +30,9 @@ use Rattle.history.proofs.Demand3.{accepted, stills, answers}
 use Rattle.history.proofs.Reached.{Stands, settled-stands, event-stands, history-related, still-alike}
 use Rattle.history.proofs.Solo.{outside-state}
 use Rattle.history.proofs.Reseated.{take-reseats}
-use Rattle.history.proofs.MovesLeft.{sumTo, sum-le, sum-less, sum-most, potential-most}
+use Rattle.history.proofs.MovesLeft.{sumTo, sum-le, sum-less, sum-most, potential-most, allMoves}
 use Rattle.history.proofs.Somebody.{Within, Fallen, reseats-within, step-falls}
+use Rattle.trees.specs.Measure.{stepMoves}
 
 -- ---- the stations with an unfinished call
 
@@ -132,34 +133,34 @@ module _ {words : List ℕ} {places limit : ℕ} (w : Stands words places limit)
 
 -- ---- the run
 
--- the steps, twice, that answer the calls of so many stations one after the other
+-- the steps, five times, that answer the calls of so many stations one after the other
 unfoldable drained : ℕ → ℕ → ℕ
 drained places zero = 0
-drained places (suc k) = 2 + 32 * places + drained places k
+drained places (suc k) = stepMoves + allMoves places + drained places k
 
 -- with n left to the first of them
 abbrev drainedFrom : ℕ → ℕ → ℕ → ℕ
 drainedFrom places n zero = 0
-drainedFrom places n (suc k) = 2 + n + drained places k
+drainedFrom places n (suc k) = stepMoves + n + drained places k
 
-all-drained : (places k : ℕ) → drainedFrom places (32 * places) k ≡ drained places k
+all-drained : (places k : ℕ) → drainedFrom places (allMoves places) k ≡ drained places k
 unfolding drained
 all-drained places zero = refl
 all-drained places (suc k) = refl
 
--- what is left to all stations together is at most 32 × places
-most-within : {words : List ℕ} {places limit : ℕ} → Stands words places limit → Within words places limit (32 * places)
-most-within a = record { stands = a; few = omega (arith, potential-most (a .related), a .places-same) }
+-- what is left to all stations together is at most the most of all eight
+most-within : {words : List ℕ} {places limit : ℕ} → Stands words places limit → Within words places limit (allMoves places)
+most-within a = record { stands = a; few = omega (arith, potential-most (a .related) (a .sound), a .places-same) }
 
 -- a step that does not answer, before others
-still-few : {words : List ℕ} {places limit n : ℕ} (s k rest : ℕ) → unfinishedCount words ≤ k → (f : Fallen words places limit n s) → 2 * rest ≤ drainedFrom places (f .fewer) k
-    → 2 * (dealtStep words (singleStep s) + rest) ≤ drainedFrom places n k
+still-few : {words : List ℕ} {places limit n : ℕ} (s k rest : ℕ) → unfinishedCount words ≤ k → (f : Fallen words places limit n s) → stepMoves * rest ≤ drainedFrom places (f .fewer) k
+    → stepMoves * (dealtStep words (singleStep s) + rest) ≤ drainedFrom places n k
 still-few {words} s zero rest l f h = rw (count-none words s (omega (arith, l))) (omega (arith, h))
 still-few s (suc k) rest l f h = omega (arith, h, f .counted)
 
 -- the calls of k stations
 dealt-few : (run : List Event) {words : List ℕ} {places limit n : ℕ} → Within words places limit n → NobodySubmits words run → (k : ℕ) → unfinishedCount words ≤ k
-    → 2 * dealtSteps words run ≤ drainedFrom places n k
+    → stepMoves * dealtSteps words run ≤ drainedFrom places n k
 unfolding dealtSteps reply
 dealt-few [] w f k l = omega arith
 dealt-few (submission s kind p c ∷ run) {words} w f k l =
@@ -172,29 +173,29 @@ dealt-few (taking s ∷ run) {words} w f k l =
     omega (arith, dealt-few run v (f .1) k (omega (arith, take-count a s, l)))
 dealt-few (withdrawal s ∷ run) {words} {places} {limit} {n} w f k l = go (λ m v j. dealt-few run v (f .1) j) (ℕ-discrete (withdrawOf words s .number) 0) k l
   where
-    go : ((m : ℕ) → Within (withdrawOf words s .words) places limit m → (j : ℕ) → unfinishedCount (withdrawOf words s .words) ≤ j → 2 * dealtSteps (withdrawOf words s .words) run ≤ drainedFrom places m j)
-        → Dec (withdrawOf words s .number ≡ 0) → (k : ℕ) → unfinishedCount words ≤ k → 2 * (0 + dealtSteps (withdrawOf words s .words) run) ≤ drainedFrom places n k
+    go : ((m : ℕ) → Within (withdrawOf words s .words) places limit m → (j : ℕ) → unfinishedCount (withdrawOf words s .words) ≤ j → stepMoves * dealtSteps (withdrawOf words s .words) run ≤ drainedFrom places m j)
+        → Dec (withdrawOf words s .number ≡ 0) → (k : ℕ) → unfinishedCount words ≤ k → stepMoves * (0 + dealtSteps (withdrawOf words s .words) run) ≤ drainedFrom places n k
     go rest (no z) k l =
         let same = withdraw-refused words s z in
         omega (arith, rest n (subst (λ (x : List ℕ). Within x places limit n) (sym same) w) k (rw same l))
     go rest (yes z) zero l = absurd (omega (arith, withdrawn-count (w .stands) s z, l))
     go rest (yes z) (suc k) l =
-        omega (arith, rest (32 * places) (most-within (event-stands (withdrawal s) (w .stands))) k (omega (arith, withdrawn-count (w .stands) s z, l)), all-drained places k)
+        omega (arith, rest (allMoves places) (most-within (event-stands (withdrawal s) (w .stands))) k (omega (arith, withdrawn-count (w .stands) s z, l)), all-drained places k)
 dealt-few (singleStep s ∷ run) {words} {places} {limit} {n} w f k l = go (λ m v j. dealt-few run v (f .1) j) (answered wordIndex words (singleStep s)) refl k l
   where
-    go : ((m : ℕ) → Within (stepOf words s .words) places limit m → (j : ℕ) → unfinishedCount (stepOf words s .words) ≤ j → 2 * dealtSteps (stepOf words s .words) run ≤ drainedFrom places m j)
+    go : ((m : ℕ) → Within (stepOf words s .words) places limit m → (j : ℕ) → unfinishedCount (stepOf words s .words) ≤ j → stepMoves * dealtSteps (stepOf words s .words) run ≤ drainedFrom places m j)
         → (b : Bool) → answered wordIndex words (singleStep s) ≡ b → (k : ℕ) → unfinishedCount words ≤ k
-        → 2 * (dealtStep words (singleStep s) + dealtSteps (stepOf words s .words) run) ≤ drainedFrom places n k
+        → stepMoves * (dealtStep words (singleStep s) + dealtSteps (stepOf words s .words) run) ≤ drainedFrom places n k
     go rest false e k l =
         let x = step-falls s w e in
         still-few s k (dealtSteps (stepOf words s .words) run) l x (rest (x .fewer) (x .within) k (omega (arith, still-count (w .stands) s e, l)))
     go rest true e zero l = absurd (omega (arith, answer-count (w .stands) s e, l))
     go rest true e (suc k) l =
-        omega (arith, rest (32 * places) (most-within (event-stands (singleStep s) (w .stands))) k (omega (arith, answer-count (w .stands) s e, l)), all-drained places k, at-most-one words s)
+        omega (arith, rest (allMoves places) (most-within (event-stands (singleStep s) (w .stands))) k (omega (arith, answer-count (w .stands) s e, l)), all-drained places k, at-most-one words s)
 
--- After every history, where nobody submits, at most 8 × (16 × places + 1) steps are dealt to stations with an unfinished call.
+-- After every history, where nobody submits, at most 8 × (8 × places + 1) steps are dealt to stations with an unfinished call.
 pub everybody : (words : List ℕ) (places limit : ℕ) → openOf words places limit .number ≡ 0 → (evs run : List Event)
-    → NobodySubmits (after evs (openOf words places limit .words)) run → dealtSteps (after evs (openOf words places limit .words)) run ≤ 8 * (16 * places + 1)
+    → NobodySubmits (after evs (openOf words places limit .words)) run → dealtSteps (after evs (openOf words places limit .words)) run ≤ 8 * (8 * places + 1)
 unfolding drained
 everybody words places limit e evs run f =
     let a = accepted words places limit e in

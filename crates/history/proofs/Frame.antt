@@ -9,18 +9,20 @@ use Rattle.rows.specs.Words.{get}
 use Rattle.rows.specs.Agree.{inCommon, inStation, inRow, AgreeIn, OnlyIn}
 use Rattle.rows.specs.Grades.{slotOf}
 use Rattle.rows.specs.Station.{stateAt}
+use Rattle.rows.specs.Target.{targetAt}
 use Rattle.rows.specs.Call.{callAt}
 use Rattle.rows.specs.Answer.{answerAt}
 use Rattle.rows.proofs.AgreeLaws.{row-common, station-common}
 use Rattle.rows.proofs.GradeLaws.{slot-below}
+use Rattle.rows.proofs.TargetLaws.{targetAt-agree}
 use Rattle.rows.proofs.UnseenLaws.{StationReads, reads-unseen}
 use Rattle.history.specs.View.{Place, Seat, countsAt, placeAt, seatAt, SameRows}
 
 -- ---- places and seats by their parts
 pub place-of : (v : List ℕ) (s : ℕ) (place : Place) → get v (atCursor s) ≡ place .cursor → get v (atPhase s) ≡ place .phase → get v (atSince s) ≡ place .since → get v (atMissed s) ≡ place .missed
-    → placeAt v s ≡ place
+    → targetAt v s ≡ place .target → placeAt v s ≡ place
 unfolding placeAt
-place-of v s place c p n m = λ i. record { cursor = c i; phase = p i; since = n i; missed = m i }
+place-of v s place c p n m t = λ i. record { cursor = c i; phase = p i; since = n i; missed = m i; target = t i }
 
 pub seat-of : (v : List ℕ) (s : ℕ) (seat : Seat) → placeAt v s ≡ seat .place → stateAt v s .word ≡ seat .state → callAt v s ≡ seat .call → answerAt v s ≡ seat .answer → seatAt v s ≡ seat
 unfolding seatAt
@@ -40,11 +42,11 @@ counts-same v w f = λ i. record {
   removals = f atRemovals (omega arith) i;
 }
 
--- with the same four words of a station
+-- with the same four words and the same target of a station
 pub place-same : (v w : List ℕ) (s : ℕ) → get v (atCursor s) ≡ get w (atCursor s) → get v (atPhase s) ≡ get w (atPhase s) → get v (atSince s) ≡ get w (atSince s) → get v (atMissed s) ≡ get w (atMissed s)
-    → placeAt v s ≡ placeAt w s
+    → targetAt v s ≡ targetAt w s → placeAt v s ≡ placeAt w s
 unfolding placeAt
-place-same v w s c p n m = λ i. record { cursor = c i; phase = p i; since = n i; missed = m i }
+place-same v w s c p n m t = λ i. record { cursor = c i; phase = p i; since = n i; missed = m i; target = t i }
 
 -- with the same place and record of a station
 pub seat-same : (v w : List ℕ) (s : ℕ) → placeAt v s ≡ placeAt w s → StationReads v w s → seatAt v s ≡ seatAt w s
@@ -57,7 +59,8 @@ counts-agree {v} {w} g = counts-same v w (λ k l. g .words k (omega arith) (omeg
 
 pub place-agree : {v w : List ℕ} → AgreeIn v w inCommon → (s : ℕ) → s < 8 → placeAt v s ≡ placeAt w s
 place-agree {v} {w} g s l =
-    place-same v w s (g .words (atCursor s) (omega arith) (omega arith)) (g .words (atPhase s) (omega arith) (omega arith)) (g .words (atSince s) (omega arith) (omega arith)) (g .words (atMissed s) (omega arith) (omega arith))
+    place-same v w s (g .words (atCursor s) (omega arith) (omega arith)) (g .words (atPhase s) (omega arith) (omega arith))
+    (g .words (atSince s) (omega arith) (omega arith)) (g .words (atMissed s) (omega arith) (omega arith)) (targetAt-agree s l g)
 
 -- the slot of a point is one of those that a row has room for
 pub slot-fits : (p : Point) → slotOf p < 128

@@ -13,6 +13,7 @@ use Rattle.rows.specs.Common.{openedIn}
 use Rattle.rows.proofs.WordLaws.{get-put-same, get-put-other}
 use Rattle.rows.proofs.OpeningLaws.{opened-tells}
 use Rattle.rows.proofs.StationLaws.{put-common}
+use Rattle.rows.proofs.TargetLaws.{target-put}
 use Rattle.moves.specs.declared.insert.Room.{Room}
 use Rattle.moves.specs.Reply.{more}
 use Rattle.moves.specs.Insert.{insertHead, insertRoot, insertCounts, cursorsMoved}
@@ -24,10 +25,10 @@ use Rattle.history.proofs.PlaceEffects.{MovedAt, Moved, moved-none, mov
 -- the cursors on a row move to another
 abbrev pub movedCursor : ℕ → ℕ → Seat → Seat
 movedCursor gone to seat =
-    withPlace seat (record { cursor = cond (eqb (seat .place .cursor) gone) to (seat .place .cursor); phase = seat .place .phase; since = seat .place .since; missed = seat .place .missed })
+    withPlace seat (record { cursor = cond (eqb (seat .place .cursor) gone) to (seat .place .cursor); phase = seat .place .phase; since = seat .place .since; missed = seat .place .missed; target = seat .place .target })
 
 abbrev cursorTo : ℕ → ℕ → Place → Place
-cursorTo gone to p = record { cursor = cond (eqb (p .cursor) gone) to (p .cursor); phase = p .phase; since = p .since; missed = p .missed }
+cursorTo gone to p = record { cursor = cond (eqb (p .cursor) gone) to (p .cursor); phase = p .phase; since = p .since; missed = p .missed; target = p .target }
 
 cursor-moved : (gone to n : ℕ) (w : List ℕ) → n < 8 → 96 ≤ length w
     → MovedAt (cursorTo gone to) (put w (atCursor n) (cond (eqb (get w (atCursor n)) gone) to (get w (atCursor n)))) w n
@@ -41,9 +42,12 @@ cursor-moved gone to n w l long =
       moved = place-of v n (cursorTo gone to (placeAt w n)) (get-put-same w (atCursor n) x (omega arith))
           (get-put-other w (atCursor n) (atPhase n) x (λ e. omega arith))
           (get-put-other w (atCursor n) (atSince n) x (λ e. omega arith))
-          (get-put-other w (atCursor n) (atMissed n) x (λ e. omega arith));
+          (get-put-other w (atCursor n) (atMissed n) x (λ e. omega arith))
+          (target-put w (atCursor n) x n (omega arith));
       others = λ s h d.
-          place-same v w s (get-put-other w (atCursor n) (atCursor s) x (λ e. d (omega arith))) (get-put-other w (atCursor n) (atPhase s) x (λ e. omega arith)) (get-put-other w (atCursor n) (atSince s) x (λ e. omega arith)) (get-put-other w (atCursor n) (atMissed s) x (λ e. omega arith));
+          place-same v w s (get-put-other w (atCursor n) (atCursor s) x (λ e. d (omega arith))) (get-put-other w (atCursor n) (atPhase s) x (λ e. omega arith))
+          (get-put-other w (atCursor n) (atSince s) x (λ e. omega arith)) (get-put-other w (atCursor n) (atMissed s) x (λ e. omega arith))
+          (target-put w (atCursor n) x s (omega arith));
     }
 
 cursors-moved : (gone to n : ℕ) (w : List ℕ) → n ≤ 8 → 96 ≤ length w → Moved (cursorTo gone to) (cursorsMoved gone to n w) w n

@@ -93,3 +93,5 @@ pub mod Reseated
 pub mod Somebody
 pub mod Everybody
 pub mod Withdrawn
+pub mod Allows
+pub mod WaitFree

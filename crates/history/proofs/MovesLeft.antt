@@ -1,7 +1,7 @@
 -- What is left to a station as a function of tree, queue and seat (`movesLeft`), and to all eight together (`potential`), of which there is never more
--- than 32 × places (`potential-most`). It counts every side of a cut as open and none as excluded.
+-- than `allMoves`, 40 × places (`potential-most`). It counts every side of a cut as open and none as excluded.
 use Prim.Native.Nat.{ℕ, zero, suc, _+_, _*_, _≤_, _<_}
-use mathlib.Core.Path.{_≡_, refl, sym, subst}
+use mathlib.Core.Path.{_≡_, refl, sym, subst, _∙_}
 use mathlib.Core.Logic.{_≢_, _↔_}
 use mathlib.Core.Bool.{Bool, true, false, cond}
 use mathlib.Core.List.{List}
@@ -13,14 +13,14 @@ use borrow.Author.Tests.{eq-eqb, ne-eqb}
 use Rattle.points.specs.declared.point.Point.{Point}
 use Rattle.table.specs.Call.{Call, add, remove, contains, nearest, Answer}
 use Rattle.table.specs.Table.{Station, idle, unfinished, waiting, Table}
+use Rattle.table.proofs.Sound.{Sound}
 use Rattle.trees.specs.Tree.{Tree}
 use Rattle.trees.specs.Queue.{Free}
-use Rattle.trees.specs.Measure.{searchLeft, progressLeft}
-use Rattle.trees.proofs.ChoiceOf.{choiceOf}
+use Rattle.trees.specs.Measure.{searchLeft, stepMoves}
 use Rattle.trees.proofs.MeasureLaws.{left-is}
-use Rattle.history.specs.View.{Seat, seatAt, progressOf}
+use Rattle.history.specs.View.{Seat, seatAt}
 use Rattle.history.specs.Related.{Searching, Busy, Related}
-use Rattle.history.proofs.Outcome.{walkMoves, LeftSays}
+use Rattle.history.proofs.Outcome.{walkMoves, LeftSays, leftAt, left-target}
 use Rattle.history.proofs.RelatedLaws.{related-idle, related-busy, related-waits}
 use Rattle.history.proofs.StepOutcome.{left-most}
 
@@ -28,12 +28,12 @@ use Rattle.history.proofs.StepOutcome.{left-most}
 
 -- the call at a seat is a search, or a walk
 abbrev movesAt : Bool → Option Tree → List Free → Seat → ℕ
-movesAt true tree queue seat = progressLeft (choiceOf (seat .call .point) .side) tree queue (progressOf seat)
+movesAt true tree queue seat = leftAt tree queue seat
 movesAt false tree queue seat = walkMoves tree seat
 
 -- what is left to an unfinished call; as much as any call can need where there is none
 unfoldable pub movesLeft : ℕ → Option Tree → List Free → Seat → ℕ
-movesLeft places tree queue seat = cond (eqb (seat .state) 1) (movesAt (eqb (seat .call .kind) 4) tree queue seat) (4 * places)
+movesLeft places tree queue seat = cond (eqb (seat .state) 1) (movesAt (eqb (seat .call .kind) 4) tree queue seat) (stepMoves * places)
 
 module _ {words : List ℕ} {t : Table} (r : Related words t) (s : ℕ) (l : s < 8) where
   abbrev seat : Seat
@@ -46,12 +46,17 @@ module _ {words : List ℕ} {t : Table} (r : Related words t) (s : ℕ) (l : s <
   unfolding movesLeft
   walk-here e n = rw (eq-eqb (seat .state) 1 e, ne-eqb (seat .call .kind) 4 n)
 
-  search-here : {i : ℕ} {p : Point} {o : Option Answer} → Busy t (r .tree) (r .queue) seat i (nearest p) o → (v : Searching t (r .tree) (r .queue) seat i p o) → here ≡ searchLeft (v .search)
-  unfolding movesLeft
-  search-here b v = rw (eq-eqb (seat .state) 1 (b .state), eq-eqb (seat .call .kind) 4 (b .kind), b .point) (left-is (r .tree) (r .store) (v .search))
+  -- what is left to a search is what the trees say
+  module _ {i : ℕ} {p : Point} {o : Option Answer} (b : Busy t (r .tree) (r .queue) seat i (nearest p) o) (v : Searching t (r .tree) (r .queue) seat i p o) where
+    pub left-here : leftAt (r .tree) (r .queue) seat ≡ searchLeft (v .search)
+    left-here = left-target (r .tree) (r .queue) seat p (b .point) ∙ left-is (r .tree) (r .store) (v .search)
+
+    search-here : here ≡ searchLeft (v .search)
+    unfolding movesLeft
+    search-here = rw (eq-eqb (seat .state) 1 (b .state), eq-eqb (seat .call .kind) 4 (b .kind)) left-here
 
   -- a seat without an unfinished call
-  pub rest-here : seat .state ≢ 1 → here ≡ 4 * t .places
+  pub rest-here : seat .state ≢ 1 → here ≡ stepMoves * t .places
   unfolding movesLeft
   rest-here n = rw (ne-eqb (seat .state) 1 n)
 
@@ -65,14 +70,14 @@ module _ {words : List ℕ} {t : Table} (r : Related words t) (s : ℕ) (l : s <
   left-same (contains p) q n = let b = related-busy r l q in walk-same (b .state) (λ e. let z = b .kind in omega arith) n
   left-same (nearest p) q n = let b = related-busy r l q in (λ f. (b .works, omega (arith, f, search-here b (b .works))), λ f. omega (arith, f .1, search-here b (f .0)))
 
-  -- never more than 4 × places
-  pub most-here : here ≤ 4 * t .places
-  most-here = go (t .stations s) refl
+  -- never more than a step takes for each place
+  pub most-here : Sound t → here ≤ stepMoves * t .places
+  most-here h = go (t .stations s) refl
     where
-      go : (x : Station) → t .stations s ≡ x → here ≤ 4 * t .places
+      go : (x : Station) → t .stations s ≡ x → here ≤ stepMoves * t .places
       go idle e = omega (arith, rest-here (λ z. let y = related-idle r l e .state in omega arith))
       go (waiting a) e = omega (arith, rest-here (λ z. let y = related-waits r l e .state in omega arith))
-      go (unfinished i c o) e = left-same c e (4 * t .places) .1 (left-most s i c o l e r)
+      go (unfinished i c o) e = left-same c e (stepMoves * t .places) .1 (left-most s i c o h l e r)
 
 -- ---- all eight
 
@@ -104,9 +109,13 @@ unfoldable pub potential : {words : List ℕ} {t : Table} → Related words t �
 unfolding sumTo
 potential {words} {t} r = sumTo 8 (λ u. movesLeft (t .places) (r .tree) (r .queue) (seatAt words u))
 
-pub potential-most : {words : List ℕ} {t : Table} (r : Related words t) → potential r ≤ 32 * t .places
+-- never more than that of all eight
+abbrev pub allMoves : ℕ → ℕ
+allMoves places = 8 * (stepMoves * places)
+
+pub potential-most : {words : List ℕ} {t : Table} (r : Related words t) → Sound t → potential r ≤ allMoves (t .places)
 unfolding potential
-potential-most {words} {t} r = omega (arith, sum-most 8 (4 * t .places) (λ u. movesLeft (t .places) (r .tree) (r .queue) (seatAt words u)) (λ u l. most-here r u l))
+potential-most {words} {t} r h = omega (arith, sum-most 8 (stepMoves * t .places) (λ u. movesLeft (t .places) (r .tree) (r .queue) (seatAt words u)) (λ u l. most-here r u l h))
 
 -- what is left over one tree and one queue, before an event and next
 module _ {v w : List ℕ} {t u : Table} (a : Related v t) (b : Related w u) (places : u .places ≡ t .places) (tree : b .tree ≡ a .tree) (queue : b .queue ≡ a .queue) where

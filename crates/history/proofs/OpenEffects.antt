@@ -1,6 +1,6 @@
 -- What opening writes: no change counted, no record held, every station idle and nowhere, every row spare and linked to the next.
 use Prim.Native.Nat.{ℕ, _+_, _*_, _-_, _≤_, _<_}
-use mathlib.Core.Path.{_≡_, ap, _∙_}
+use mathlib.Core.Path.{_≡_, ap, _∙_, sym}
 use mathlib.Core.Bool.{true, cond}
 use mathlib.Core.List.{List}
 use native.Mathlib.Omega.{arith}
@@ -19,8 +19,10 @@ use Rattle.rows.specs.Common.{openedIn, placesIn, limitIn}
 use Rattle.rows.proofs.OpeningLaws.{IsOpen, opened-of}
 use Rattle.rows.proofs.StationLaws.{there-of}
 use Rattle.rows.proofs.RecordLaws.{stateAt-is}
+use Rattle.rows.specs.Target.{targetAt}
+use Rattle.rows.proofs.TargetLaws.{target-agree}
 use Rattle.steps.specs.Open.{cleared, stationsCleared, rowsSpare, headWords, openedWords}
-use Rattle.history.specs.View.{countsAt, placeAt, seatAt, noPlace}
+use Rattle.history.specs.View.{countsAt, placeAt, seatAt, noPlace, Place}
 use Rattle.history.proofs.Frame.{place-same, counts-same}
 use Rattle.history.proofs.PlaceEffects.{Moved}
 use Rattle.history.proofs.OpenWords.{Zero, clear, Headed, length-six, headed, placeCleared, stations-cleared}
@@ -31,7 +33,7 @@ pub record OpenedAs (words : List ℕ) (places limit : ℕ) : Type 0 where
   pub opened : openedIn words ≡ Opened places limit
   pub counts : countsAt words ≡ record { changes = 0; held = 0; root = NONE; head = 0; tail = 2 * places - 1; removals = 0 }
   pub states : (s : ℕ) → s < 8 → seatAt words s .state ≡ 0
-  pub seats : (s : ℕ) → s < 8 → placeAt words s ≡ noPlace
+  pub seats : (s : ℕ) → s < 8 → placeAt words s ≡ noPlace (targetAt words s)
   pub rows : (r : ℕ) → r < 2 * places → rowAt words (2 * places) r ≡ Spare (cond (eqb (r + 1) (2 * places)) NONE (r + 1)) 0
 
 module _ (words : List ℕ) (places limit : ℕ) (p : placesIn places ≡ true) (m : limitIn limit ≡ true) (l : wordsFor places ≤ length words) where
@@ -101,12 +103,21 @@ module _ (words : List ℕ) (places limit : ℕ) (p : placesIn places ≡ true) 
       ∙ place-words .only .others (atStation s) (λ a b. omega arith)
       ∙ head-words .zeros (atStation s) (omega arith) (omega arith)
 
-  nowhere : (s : ℕ) → s < 8 → placeAt whole s ≡ noPlace
+  -- rows and places are written beside the targets
+  unaimed : (s : ℕ) → s < 8 → targetAt whole s ≡ targetAt placed s
+  unaimed s h = target-agree s (record { lengths = row-words .lengths; words = λ k a b. row-words .words k (omega arith) })
+
+  targets : (s : ℕ) → s < 8 → targetAt begun s ≡ targetAt whole s
+  unfolding placeAt
+  targets s h = sym (unaimed s h ∙ ap (λ (p : Place). p .target) (place-words .moved s h))
+
+  nowhere : (s : ℕ) → s < 8 → placeAt whole s ≡ noPlace (targetAt whole s)
   unfolding placeAt
   nowhere s h =
-      place-same whole placed s (row-words .words (atCursor s) (omega arith)) (row-words .words (atPhase s) (omega arith)) (row-words .words (atSince s) (omega arith)) (row-words .words (atMissed s) (omega arith))
+      place-same whole placed s (row-words .words (atCursor s) (omega arith)) (row-words .words (atPhase s) (omega arith))
+      (row-words .words (atSince s) (omega arith)) (row-words .words (atMissed s) (omega arith)) (unaimed s h)
       ∙ place-words .moved s h
-      ∙ (λ i. record { cursor = NONE; phase = head-words .zeros (atPhase s) (omega arith) (omega arith) i; since = NONE; missed = NONE })
+      ∙ (λ i. record { cursor = NONE; phase = head-words .zeros (atPhase s) (omega arith) (omega arith) i; since = NONE; missed = NONE; target = targets s h i })
 
   pub open-written : OpenedAs (openedWords words places limit) places limit
   unfolding openedWords

@@ -10,11 +10,12 @@ use Rattle.rows.specs.Layout.{atMark, atPlaces, atLimit, atRoot, atHead, atTail
 use Rattle.rows.specs.Words.{get, put}
 use Rattle.rows.specs.Common.{mark}
 use Rattle.rows.proofs.WordLaws.{length-put, get-put-same, get-put-other}
+use Rattle.rows.specs.Target.{targetAt}
 use Rattle.steps.specs.Open.{cleared, stationsCleared}
 use Rattle.history.specs.View.{Counts, Place, countsAt, placeAt}
 use Rattle.history.proofs.Frame.{place-of, place-same}
 use Rattle.history.proofs.CountEffects.{putCount, counts-put}
-use Rattle.history.proofs.PlaceEffects.{MovedAt, Moved, moved-none, moved-next, three-other, three-first, three-second, three-third, three-only}
+use Rattle.history.proofs.PlaceEffects.{MovedAt, Moved, moved-none, moved-next, three-other, three-first, three-second, three-third, three-only, three-target}
 
 -- ---- zero in the first words
 pub record Zero (v w : List ℕ) (n : ℕ) : Type 0 where
@@ -111,7 +112,7 @@ module _ (w : List ℕ) (places limit : ℕ) (long : records ≤ length w) where
 
 -- ---- the stations
 abbrev pub placeCleared : Place → Place
-placeCleared p = record { cursor = NONE; phase = p .phase; since = NONE; missed = NONE }
+placeCleared p = record { cursor = NONE; phase = p .phase; since = NONE; missed = NONE; target = p .target }
 
 station-cleared : (n : ℕ) (w : List ℕ) → n < 8 → 96 ≤ length w → MovedAt placeCleared (put (put (put w (atCursor n) NONE) (atSince n) NONE) (atMissed n) NONE) w n
 unfolding placeAt
@@ -122,11 +123,13 @@ station-cleared n w l long = record {
       (three-first w (atCursor n) (atSince n) (atMissed n) NONE NONE NONE (λ e. omega arith) (λ e. omega arith) (omega arith))
       (other (atPhase n) (λ e. omega arith) (λ e. omega arith) (λ e. omega arith))
       (three-second w (atCursor n) (atSince n) (atMissed n) NONE NONE NONE (λ e. omega arith) (omega arith))
-      (three-third w (atCursor n) (atSince n) (atMissed n) NONE NONE NONE (omega arith));
+      (three-third w (atCursor n) (atSince n) (atMissed n) NONE NONE NONE (omega arith))
+      (target n);
   others = λ s h d.
       place-same v w s (other (atCursor s) (λ e. d (omega arith)) (λ e. omega arith) (λ e. omega arith)) (other (atPhase s) (λ e. omega arith) (λ e. omega arith) (λ e. omega arith))
       (other (atSince s) (λ e. omega arith) (λ e. d (omega arith)) (λ e. omega arith))
-      (other (atMissed s) (λ e. omega arith) (λ e. omega arith) (λ e. d (omega arith)));
+      (other (atMissed s) (λ e. omega arith) (λ e. omega arith) (λ e. d (omega arith)))
+      (target s);
 }
   where
     v : List ℕ
@@ -134,6 +137,9 @@ station-cleared n w l long = record {
 
     other : (q : ℕ) → ¬ (q ≡ atCursor n) → ¬ (q ≡ atSince n) → ¬ (q ≡ atMissed n) → get v q ≡ get w q
     other = three-other w (atCursor n) (atSince n) (atMissed n) NONE NONE NONE
+
+    target : (s : ℕ) → targetAt v s ≡ targetAt w s
+    target s = three-target w (atCursor n) (atSince n) (atMissed n) NONE NONE NONE s (omega arith) (omega arith) (omega arith)
 
 pub stations-cleared : (n : ℕ) (w : List ℕ) → n ≤ 8 → 96 ≤ length w → Moved placeCleared (stationsCleared n w) w n
 unfolding stationsCleared

@@ -1,6 +1,6 @@
 -- What the seats say after an insert (`says-insert`): every cursor on the old leaf has moved to the new cut, so that walks stay on the way of
 -- their points and searches have all before them that they had.
-use Prim.Native.Nat.{ℕ, suc, _≤_}
+use Prim.Native.Nat.{ℕ, suc, _≤_, _+_}
 use mathlib.Core.Path.{_≡_, refl, sym, _∙_, ap}
 use mathlib.Core.Logic.{_≢_}
 use mathlib.Core.Bool.{Bool, true, false, cond, true≢false}
@@ -20,18 +20,23 @@ use Rattle.trees.specs.Row.{Entry, Heap}
 use Rattle.trees.specs.Tree.{Tree}
 use Rattle.trees.specs.Queue.{Free}
 use Rattle.trees.specs.Stand.{Stand, pickStand, afterInsert}
-use Rattle.trees.specs.Tour.{searchAfterInsert}
+use Rattle.trees.specs.Tour.{searchAfterInsert, Progress}
 use Rattle.trees.specs.Reads.{Leaf}
 use Rattle.trees.specs.Insert.{leafOf, cutFor, Inserted}
 use Rattle.trees.specs.Below.{Marks, Grows}
 use Rattle.trees.proofs.MarkLaws.{pass-grows}
 use Rattle.trees.proofs.RouteLaws.{walk-insert}
 use Rattle.trees.proofs.SearchLaws.{search-insert}
+use Rattle.trees.specs.Measure.{progressLeft}
+use Rattle.trees.specs.Store.{Store}
+use Rattle.trees.proofs.ChoiceOf.{choiceOf}
+use Rattle.trees.proofs.OthersLaws.{others-insert}
 use Rattle.history.specs.View.{Seat, phaseOf, progressOf}
-use Rattle.history.specs.Related.{Quiet, Set, Walks, Works, Says, Marking}
+use Rattle.history.specs.Related.{Quiet, Set, Walks, Works, Says, Marking, Busy}
 use Rattle.history.proofs.BusyLaws.{busy-on}
 use Rattle.history.proofs.Effects.{movedCursor}
 use Rattle.history.proofs.Readings.{nearest-fresh, insert-stand}
+use Rattle.history.proofs.Outcome.{leftAt, left-target}
 
 -- ---- cursors moved
 
@@ -93,12 +98,20 @@ module _ {h h′ : Heap} {tree : Option Tree} {queue : List Free} {released : �
   works-insert i (contains p) set l f v = walks-insert p set v
   works-insert i (nearest p) set l f v = record {
     since = rw removals (v .since);
+    aimed = v .aimed;
     entries = v .entries;
     once = v .once;
     ranged = v .ranged;
     search = rw (changes, removals, ← progress-moved (leafOf place) (cutFor place b) seat) (search-insert w l (v .search));
     answer = set-insert p (v .entries) set (set-there i p set f) (v .answer);
   }
+
+  -- a search has at most four moves more left
+  pub left-insert : Store (t .places) h tree queue (t .changes) (length (t .removals)) released → (i : ℕ) (p : Point) (x : Answer) → released ≤ seat .place .since
+      → Busy t tree queue seat i (nearest p) (some x) → leftAt (w .tree) (w .queue) moved ≤ 4 + leftAt tree queue seat
+  left-insert st i p x l v =
+      let same = ap (λ (z : Progress). progressLeft (choiceOf p .side) (w .tree) (w .queue) z) (progress-moved (leafOf place) (cutFor place b) seat) in
+      omega (arith, same, left-target (w .tree) (w .queue) moved p (v .point), left-target tree queue seat p (v .point), others-insert st w l (v .works .search))
 
   -- the seat says the same of its station
   pub says-insert : (x : Station) → released ≤ seat .place .since → (leafOf place ≡ NONE → cutFor place b ≡ NONE) → fresh x ≡ false → Says t tree queue seat x

@@ -1,4 +1,4 @@
--- The seat of the station that steps: its answer waits there (`related-answered`), or its walk goes on with fewer moves left (`left-walks`). What is
+-- The seat of the station that steps: its answer waits there (`next-answered`), or its walk goes on with fewer moves left (`left-walks`). What is
 -- released stays the same where removals and since words do (`least-same`).
 use Prim.Native.Nat.{ℕ, _*_, _≤_, _<_}
 use mathlib.Core.Path.{_≡_, refl, sym, _∙_}
@@ -17,16 +17,17 @@ use Rattle.rows.specs.Common.{leastSince}
 use Rattle.rows.specs.Answer.{answerSound}
 use Rattle.rows.specs.Station.{putPlace}
 use Rattle.rows.proofs.TakenLaws.{least-removals, least-since}
+use Rattle.rows.specs.Target.{targetAt}
 use Rattle.table.specs.Call.{Call, add, remove, contains, nearest, isSearch, pointOf}
 use Rattle.table.specs.Table.{unfinished, waiting, Table, put, withStations}
 use Rattle.table.proofs.Stations.{put-same, put-other}
 use Rattle.trees.specs.Tree.{Tree}
 use Rattle.trees.specs.Queue.{Free}
 use Rattle.trees.specs.Route.{OnRoute}
-use Rattle.trees.specs.Measure.{walkLeft}
+use Rattle.trees.specs.Measure.{walkLeft, stepMoves}
 use Rattle.moves.specs.Answer.{answeredWords}
 use Rattle.history.specs.Index.{answerOf}
-use Rattle.history.specs.View.{Seat, countsAt, placeAt, seatAt, withPlace, noPlace, marksIn}
+use Rattle.history.specs.View.{Seat, countsAt, placeAt, seatAt, withPlace, marksIn, answeredSeat}
 use Rattle.history.specs.Related.{Works, Busy, Says, Marking, Related}
 use Rattle.history.proofs.BusyLaws.{busy-on}
 use Rattle.history.proofs.Effects.{answer-written, answer-rows, walk-written, walk-rows}
@@ -34,7 +35,7 @@ use Rattle.history.proofs.Readings.{nearest-search}
 use Rattle.history.proofs.LeastLaws.{least-up}
 use Rattle.history.proofs.SaysLaws.{seat-put-same, seat-put-other, related-written}
 use Rattle.history.proofs.SeatLaws.{related-seat}
-use Rattle.history.proofs.Outcome.{walkMoves, LeftSays, Left, Aside}
+use Rattle.history.proofs.Outcome.{walkMoves, LeftSays, Left, Aside, beside-still, Next}
 
 -- ---- what is released
 
@@ -71,7 +72,7 @@ left-tells t tree queue seat i (nearest p) n e l = absurd (true≢false (sym (ne
 -- it stands on another row of the way of its point
 works-walk : (t : Table) (tree : Option Tree) (queue : List Free) (seat : Seat) (i : ℕ) (c : Call) (to : ℕ) → isSearch c ≡ false → OnRoute tree (pointOf c) to
     → Works t tree queue seat i c none
-    → Works t tree queue (withPlace seat (record { cursor = to; phase = 0; since = seat .place .since; missed = seat .place .missed })) i c none
+    → Works t tree queue (withPlace seat (record { cursor = to; phase = 0; since = seat .place .since; missed = seat .place .missed; target = seat .place .target })) i c none
 works-walk t tree queue seat i (add p c) to e o w = record { since = w .since; missed = w .missed; unset = refl; walking = inr o; best = w .best }
 works-walk t tree queue seat i (remove p) to e o w = record { since = w .since; missed = w .missed; unset = refl; walking = inr o; best = w .best }
 works-walk t tree queue seat i (contains p) to e o w = record { since = w .since; missed = w .missed; unset = refl; walking = inr o; best = w .best }
@@ -81,22 +82,34 @@ works-walk t tree queue seat i (nearest p) to e o w = absurd (true≢false (sym 
 
 module _ {words : List ℕ} {t : Table} (s : ℕ) (l : s < 8) (r : Related words t) where
   -- an answer waits at station s
-  pub related-answered : (a : Given) → length (t .removals) ≤ NONE → answerSound a ≡ true
+  related-answered : (a : Given) → length (t .removals) ≤ NONE → answerSound a ≡ true
       → Related (answeredWords words s a) (withStations t (put (t .stations) s (waiting (answerOf a))))
   unfolding countsAt
   related-answered a n e =
-      related-seat words (answeredWords words s a) t (put (t .stations) s (waiting (answerOf a))) s (record { place = noPlace; state = 2; call = seatAt words s .call; answer = a }) r
+      related-seat words (answeredWords words s a) t (put (t .stations) s (waiting (answerOf a))) s (answeredSeat (seatAt words s) a) r
       (answer-written words (t .places) (t .limit) (r .opened) s l a e) (answer-rows words (t .places) (t .limit) (r .opened) s l a)
       (omega (arith, least-removals words, r .counted .removals))
       (λ u d. put-other (t .stations) s u (waiting (answerOf a)) d)
       (rw (put-same (t .stations) s (waiting (answerOf a))) (record { state = refl; sound = e; answer = refl; quiet = record { cursor = refl; phase = refl; since = refl; missed = refl } }))
       (rw (put-same (t .stations) s (waiting (answerOf a))) tt)
 
+  -- and no other search has more left
+  pub next-answered : (a : Given) → length (t .removals) ≤ NONE → answerSound a ≡ true
+      → Next r s (answeredWords words s a) (withStations t (put (t .stations) s (waiting (answerOf a))))
+  unfolding related-answered related-seat related-written
+  next-answered a n e =
+      let v = answer-written words (t .places) (t .limit) (r .opened) s l a e in
+      let next = related-answered a n e in
+      record {
+        related = next;
+        beside = beside-still r next s refl refl (v .counted) (λ u k d. v .seated u k ∙ seat-put-other (λ z. seatAt words z) s u _ d);
+      }
+
   module _ {i : ℕ} {c : Call} (to : ℕ) (q : t .stations s ≡ unfinished i c none) (e : isSearch c ≡ false) (o : OnRoute (r .tree) (pointOf c) to)
       (marked : Marking (marksIn words) (r .tree) to (unfinished i c none)) where
     -- the seat of the walk
     abbrev walkSeat : Seat
-    walkSeat = withPlace (seatAt words s) (record { cursor = to; phase = 0; since = get words (atSince s); missed = get words (atMissed s) })
+    walkSeat = withPlace (seatAt words s) (record { cursor = to; phase = 0; since = get words (atSince s); missed = get words (atMissed s); target = targetAt words s })
 
     walk-busy : Says t (r .tree) (r .queue) walkSeat (t .stations s)
     unfolding seatAt placeAt
@@ -105,7 +118,7 @@ module _ {words : List ℕ} {t : Table} (s : ℕ) (l : s < 8) (r : Related words
         rw q (busy-on b (walkSeat .place) (b .asof) (omega arith) (works-walk t (r .tree) (r .queue) (seatAt words s) i c to e o (b .works)))
 
     -- a walk of station s goes on to a row on the way of its point
-    pub left-walks : (n : ℕ) → to ≢ NONE → 2 * walkLeft (r .tree) to ≤ n → Left (putPlace words s to 0) t s n
+    pub left-walks : (n : ℕ) → to ≢ NONE → stepMoves * walkLeft (r .tree) to ≤ n → Left (putPlace words s to 0) t s n
     unfolding related-seat related-written
     left-walks n there few = record {
       related = next;
@@ -120,7 +133,7 @@ module _ {words : List ℕ} {t : Table} (s : ℕ) (l : s < 8) (r : Related words
         seated = walk-written words (t .places) (t .limit) (r .opened) s l to .seated s l ∙ seat-put-same (λ u. seatAt words u) s walkSeat
 
     -- and nothing else moves
-    pub aside-walks : (n : ℕ) (there : to ≢ NONE) (few : 2 * walkLeft (r .tree) to ≤ n) → Aside r (left-walks n there few .related) s
+    pub aside-walks : (n : ℕ) (there : to ≢ NONE) (few : stepMoves * walkLeft (r .tree) to ≤ n) → Aside r (left-walks n there few .related) s
     unfolding left-walks related-seat related-written
     aside-walks n there few = record {
       tree = refl;

@@ -11,6 +11,8 @@ use Rattle.rows.proofs.WordLaws.{length-put, get-put-same, get-put-other}
 use Rattle.rows.proofs.AgreeLaws.{only-refl, only-trans}
 use Rattle.rows.proofs.OpeningLaws.{openedIn-first}
 use Rattle.rows.proofs.StationLaws.{put-common}
+use Rattle.rows.specs.Target.{targetAt}
+use Rattle.rows.proofs.TargetLaws.{target-put}
 use Rattle.history.specs.View.{Counts, Place, placeAt, seatAt, withPlace, SameRows, Written}
 use Rattle.history.proofs.Frame.{seat-of, counts-same, common-stations, common-rows}
 use Rattle.history.proofs.CountEffects.{Counting}
@@ -57,6 +59,9 @@ module _ (w : List ℕ) (i j k x y z : ℕ) where
 
   pub three-third : k < length w → get (put (put (put w i x) j y) k z) k ≡ z
   three-third h = get-put-same (put (put w i x) j y) k z (omega (arith, length-put w i x, length-put (put w i x) j y))
+
+  pub three-target : (s : ℕ) → i < 64 → j < 64 → k < 64 → targetAt (put (put (put w i x) j y) k z) s ≡ targetAt w s
+  three-target s a b c = target-put (put (put w i x) j y) k z s c ∙ target-put (put w i x) j y s b ∙ target-put w i x s a
 
   pub three-only : i < 96 → j < 96 → k < 96 → OnlyIn (put (put (put w i x) j y) k z) w inCommon
   three-only a b c = only-trans (put-common (put (put w i x) j y) k z c) (only-trans (put-common (put w i x) j y b) (put-common w i x a))

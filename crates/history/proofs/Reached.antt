@@ -76,7 +76,7 @@ take-alike t s = ask-all (λ r. Alike t (r .next)) (ltb s 8) 5 t _ (refl, refl) 
 retract-alike : (t : Table) (s : ℕ) → Alike t (retract t s .next)
 retract-alike t s = retract-all (λ r. Alike t (r .next)) t s (refl, refl) (refl, refl) (λ l i c o e. (refl, refl))
 
-finished-alike : (t : Table) (s : ℕ) (c : Call) (o : Option Answer) → Alike t (finished t s c o)
+pub finished-alike : (t : Table) (s : ℕ) (c : Call) (o : Option Answer) → Alike t (finished t s c o)
 unfolding finished
 finished-alike t s c (some a) = (refl, refl)
 finished-alike t s c none = changed-alike (isChange (answerOf t c)) t c

@@ -13,7 +13,7 @@ use Rattle.table.specs.Table.{Station, unfinished, Table, eight, searches, chan
 use Rattle.table.proofs.Eager.{fresh}
 use Rattle.trees.specs.Row.{Heap}
 use Rattle.trees.specs.Route.{downRow, down}
-use Rattle.trees.specs.Stand.{Down, Stand, pickStand, moveCursor, afterInsert, afterUnlink, missedAfter}
+use Rattle.trees.specs.Stand.{Phase, Stand, pickStand, moveCursor, afterInsert, afterUnlink, missedAfter}
 
 -- ---- table
 
@@ -83,11 +83,11 @@ pub insert-stand : (leaf cut : ℕ) (s : Stand) → afterInsert leaf cut s ≡ p
 unfolding moveCursor
 insert-stand leaf cut s = refl
 
-pub unlink-stand : (leaf cut sibling : ℕ) (s : Stand)
-    → afterUnlink leaf cut sibling s
-    ≡ pickStand (eqb (s .cursor) leaf) (record { cursor = sibling; phase = Down }) (pickStand (eqb (s .cursor) cut) (record { cursor = sibling; phase = s .phase }) s)
+pub unlink-stand : (leaf cut sibling : ℕ) (lands : Phase) (s : Stand)
+    → afterUnlink leaf cut sibling lands s
+    ≡ pickStand (eqb (s .cursor) leaf) (record { cursor = sibling; phase = lands }) (pickStand (eqb (s .cursor) cut) (record { cursor = sibling; phase = s .phase }) s)
 unfolding afterUnlink moveCursor
-unlink-stand leaf cut sibling s = refl
+unlink-stand leaf cut sibling lands s = refl
 
 pub unlink-missed : (leaf missed : ℕ) → missedAfter leaf missed ≡ cond (eqb missed NONE) leaf missed
 unfolding missedAfter

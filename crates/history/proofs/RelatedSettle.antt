@@ -38,6 +38,7 @@ settled-busy : {words : List ℕ} {t : Table} (s : ℕ) {i : ℕ} {p : Point} �
 unfolding answerOf
 settled-busy {words} {t} s {p = p} h r b = busy-on b (seatAt words s .place) (b .asof) (b .phase) (record {
   since = b .works .since;
+  aimed = b .works .aimed;
   entries = b .works .entries;
   once = b .works .once;
   ranged = b .works .ranged;

@@ -25,7 +25,8 @@ use Rattle.history.specs.View.{seatAt}
 use Rattle.history.specs.Related.{Related}
 use Rattle.history.proofs.RelatedLaws.{related-passes, removals-word, related-idle, related-busy, related-waits}
 use Rattle.history.proofs.RelatedSound.{related-sound}
-use Rattle.history.proofs.OwnSeat.{related-answered}
+use Rattle.history.proofs.Outcome.{Next}
+use Rattle.history.proofs.OwnSeat.{next-answered}
 
 -- ---- an unfinished call
 
@@ -42,10 +43,11 @@ module _ {words : List ℕ} {t : Table} {s i : ℕ} {c : Call} {o : Option Answe
   unfolding withdrawnAnswer
   said-is = ap (λ p. answer 11 p 0 0) point-is
 
-  pub withdrawn-related : Related (withdrawnWords words s (callAt words s)) (withStations t (put (t .stations) s (waiting (withdrawnAnswer c))))
-  withdrawn-related =
-      subst (λ a. Related (withdrawnWords words s (callAt words s)) (withStations t (put (t .stations) s (waiting a)))) said-is
-      (related-answered s l r (saidOf (callAt words s)) (omega (arith, removals-word r h)) said-sound)
+  -- it is answered, and no other search has more left
+  pub withdrawn-next : Next r s (withdrawnWords words s (callAt words s)) (withStations t (put (t .stations) s (waiting (withdrawnAnswer c))))
+  withdrawn-next =
+      subst (λ a. Next r s (withdrawnWords words s (callAt words s)) (withStations t (put (t .stations) s (waiting a)))) said-is
+      (next-answered s l r (saidOf (callAt words s)) (omega (arith, removals-word r h)) said-sound)
 
   pub withdrawal-done : withdrawOf words s ≡ done (withdrawnWords words s (callAt words s))
   unfolding withdrawOf seatAt
@@ -72,7 +74,7 @@ module _ {words : List ℕ} {t : Table} (s : ℕ) (h : Sound t) (r : Related wor
       at : s < 8 → (x : Station) → t .stations s ≡ x → Agreeing
       at l idle e = refused-alike 10 (quiet-refused l 0 (λ z. omega (arith, z)) (related-idle r l e .state)) (rw (lt-ltb s 8 l, e))
       at l (waiting a) e = refused-alike 10 (quiet-refused l 2 (λ z. omega (arith, z)) (related-waits r l e .state)) (rw (lt-ltb s 8 l, e))
-      at l (unfinished i c o) e = rw (withdrawal-done h l e r, lt-ltb s 8 l, e) (record { number = refl; given = refl; next = withdrawn-related h l e r })
+      at l (unfinished i c o) e = rw (withdrawal-done h l e r, lt-ltb s 8 l, e) (record { number = refl; given = refl; next = withdrawn-next h l e r .related })
 
       go : (b : Bool) → ltb s 8 ≡ b → Agreeing
       go true q = at (ltb-true s 8 q) (t .stations s) refl

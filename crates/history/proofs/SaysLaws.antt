@@ -42,6 +42,7 @@ module _ (t t′ : Table) (changes : t′ .changes ≡ t .changes) (removals : t
   works-kept i (contains p) o w = w
   works-kept i (nearest p) o w = record {
     since = rw removals (w .since);
+    aimed = w .aimed;
     entries = w .entries;
     once = w .once;
     ranged = w .ranged;

@@ -1,17 +1,17 @@
 -- The work of one step of a nearest call over words: no row is refused and the invariant of the search is kept (`seek-keeps`); where the search goes on,
--- two fewer are left (`seek-two`).
+-- five fewer are left (`seek-five`).
 use Prim.Native.Nat.{ℕ, zero, suc, _+_, _*_, _≤_, _<_}
 use mathlib.Core.Path.{_≡_, refl, sym, ap, _∙_, subst}
 use mathlib.Core.Logic.{_≢_, _⊎_, inl, inr}
-use mathlib.Core.Bool.{true, false, true≢false, false≢true}
+use mathlib.Core.Bool.{true, false, true≢false}
 use mathlib.Core.List.{List, [], _∷_}
 use mathlib.Core.Option.{Option, some}
 use native.Mathlib.Omega.{arith}
 use native.Mathlib.Decide.{ℕ-discrete}
-use borrow.Author.Tests.{eq-eqb}
+use borrow.Author.Tests.{eq-eqb, eqb-true}
 use Rattle.points.specs.Word.{NONE}
 use Rattle.points.proofs.ChoiceLaws.{grade-turn}
-use Rattle.points.proofs.Tests.{and-i}
+use Rattle.points.proofs.Tests.{and-i, and-l}
 use Rattle.rows.specs.declared.call.Call.{Call}
 use Rattle.rows.specs.Grades.{slotOf, admits}
 use Rattle.rows.proofs.GradeLaws.{slot-grade}
@@ -23,7 +23,7 @@ use Rattle.trees.specs.Stand.{Standing}
 use Rattle.trees.specs.Tour.{Progress, look, tour}
 use Rattle.trees.specs.Search.{Missing, Search}
 use Rattle.trees.specs.Below.{Closed, Covered}
-use Rattle.trees.specs.Measure.{searchLeft}
+use Rattle.trees.specs.Measure.{searchLeft, stepMoves}
 use Rattle.trees.proofs.ChoiceOf.{choiceOf}
 use Rattle.trees.proofs.MarkLaws.{closed-covered}
 use Rattle.trees.proofs.MissingLaws.{missing-in}
@@ -34,6 +34,7 @@ use Rattle.history.specs.View.{Reads, marksIn, opensIn}
 use Rattle.history.proofs.ProgressWords.{viewOf, Fit, Shows, Keeps}
 use Rattle.history.proofs.LookWords.{look-words}
 use Rattle.history.proofs.TourWords.{tour-words}
+use lib.Dec.{eqb}
 
 -- a search over words that no row refused, with the invariant of the search over rows that it is, and at most so many moves left
 pub record Seeks (call : Call) (since : ℕ) (Then : Entry → Type 0) (t : Option Tree) (q : List Free) (changes removals : ℕ) (p : WordProgress) (most : ℕ) : Type 0 where
@@ -51,7 +52,7 @@ shown {call} {since} {Then} {t} {q} {changes} {removals} {most} p out to k e v l
     record { fit = w .fit; search = z .0; left = z .1 }
 
 -- where the cursor is none a tour changes nothing
-pub tours-stay : (words : List ℕ) (rows slot : ℕ) (call : Call) (n : ℕ) (p : WordProgress) → p .cursor ≡ NONE → touredWord words rows slot call n p ≡ p
+tours-stay : (words : List ℕ) (rows slot : ℕ) (call : Call) (n : ℕ) (p : WordProgress) → p .cursor ≡ NONE → touredWord words rows slot call n p ≡ p
 unfolding touredWord tourWord
 tours-stay words rows slot call zero p e = refl
 tours-stay words rows slot call (suc n) p e = rw (tours-stay words rows slot call n p e, eq-eqb (p .cursor) NONE e)
@@ -86,7 +87,7 @@ module _ {places : ℕ} {h : Heap} {t : Option Tree} {q : List Free} {changes re
     look-seeks : (p : WordProgress) (most : ℕ) → Here p most → Here (lookWord words (2 * places) call p) most
     look-seeks p most g = look-shows p most (g .fit) (g .search) (omega (arith, search-look st (viewOf p) (g .search) .fewer, g .left))
 
-    look-less : (p : WordProgress) (most : ℕ) → p .missed ≢ NONE → Here p most → Fewer 2 most (lookWord words (2 * places) call p)
+    look-less : (p : WordProgress) (most : ℕ) → p .missed ≢ NONE → Here p most → Fewer stepMoves most (lookWord words (2 * places) call p)
     look-less p most n g =
         let a = search-look st (viewOf p) (g .search) in
         (searchLeft (a .search), omega (arith, a .less n, g .left), look-shows p (searchLeft (a .search)) (g .fit) (g .search) (omega arith))
@@ -131,49 +132,48 @@ module _ {places : ℕ} {h : Heap} {t : Option Tree} {q : List Free} {changes re
 
     -- ---- so many tours
 
-    -- the first of them, and then the others
-    tours-first : (n : ℕ) (p : WordProgress) → toured (suc n) p ≡ toured n (tourWord words (2 * places) slot call p)
-    unfolding touredWord
-    tours-first zero p = refl
-    tours-first (suc n) p = ap (tourWord words (2 * places) slot call) (tours-first n p)
-
     -- no more is left
     tours-seek : (n : ℕ) (p : WordProgress) (most : ℕ) → Here p most → Here (toured n p) most
     unfolding touredWord
     tours-seek zero p most g = g
     tours-seek (suc n) p most g = tour-seeks (toured n p) most (tours-seek n p most g)
 
-    -- of two tours and more, where nothing is missed: two fewer are left, or the search has come to its end
-    tours-two : (n : ℕ) (p : WordProgress) (most : ℕ) → p .missed ≡ NONE → p .cursor ≢ NONE → isFinished (toured (suc (suc n)) p) ≡ false → Here p most → Fewer 2 most (toured (suc (suc n)) p)
-    tours-two n p most e d f g = go (tour-less p most d g) (ℕ-discrete (once .cursor) NONE)
+    -- what was missed stays
+    tours-missed : (n : ℕ) (p : WordProgress) (most : ℕ) → Here p most → toured n p .missed ≡ p .missed
+    unfolding touredWord
+    tours-missed zero p most g = refl
+    tours-missed (suc n) p most g = tour-missed (toured n p) most (tours-seek n p most g) ∙ tours-missed n p most g
+
+    -- where nothing is missed as many fewer are left as there are tours, or the search has come to its end
+    tours-less : (n : ℕ) (p : WordProgress) (most : ℕ) → p .missed ≡ NONE → Here p most → Fewer n most (toured n p) ⊎ (isFinished (toured n p) ≡ true)
+    unfolding touredWord
+    tours-less zero p most e g = inl (most, omega arith, g)
+    tours-less (suc n) p most e g = go (tours-less n p most e g) (ℕ-discrete (done .cursor) NONE)
       where
-        once : WordProgress
-        once = tourWord words (2 * places) slot call p
+        done : WordProgress
+        done = toured n p
 
-        all : toured (suc (suc n)) p ≡ toured n (tourWord words (2 * places) slot call once)
-        all = tours-first (suc n) p ∙ tours-first n once
-
-        go : Fewer 1 most once → Dec (once .cursor ≡ NONE) → Fewer 2 most (toured (suc (suc n)) p)
-        go x (no c) = let y = tour-less once (x .0) c (x .2) in (y .0, omega (arith, y .1, x .1), rw all (tours-seek n (tourWord words (2 * places) slot call once) (y .0) (y .2)))
+        go : Fewer n most done ⊎ (isFinished done ≡ true) → Dec (done .cursor ≡ NONE)
+            → Fewer (suc n) most (tourWord words (2 * places) slot call done) ⊎ (isFinished (tourWord words (2 * places) slot call done) ≡ true)
         go x (yes c) =
-            let m : once .missed ≡ NONE = tour-missed p most g ∙ e in
-            let none : isFinished once ≡ true = and-i (eq-eqb (once .cursor) NONE c) (eq-eqb (once .missed) NONE m) in
-            let ended : isFinished (toured (suc (suc n)) p) ≡ true = ap isFinished (tours-first (suc n) p ∙ tours-stay words (2 * places) slot call (suc n) once c) ∙ none in
-            absurd (true≢false (sym ended ∙ f))
+            let ended : isFinished done ≡ true = and-i (eq-eqb (done .cursor) NONE c) (eq-eqb (done .missed) NONE (tours-missed n p most g ∙ e)) in
+            inr (ap isFinished (tours-stay words (2 * places) slot call 1 done c) ∙ ended)
+        go (inl x) (no d) = let y = tour-less done (x .0) d (x .2) in inl (y .0, omega (arith, y .1, x .1), y .2)
+        go (inr f) (no d) = absurd (d (eqb-true (done .cursor) NONE (and-l (eqb (done .cursor) NONE) (eqb (done .missed) NONE) f)))
 
     -- ---- the step
 
-    -- five tours, or a look and three: two fewer are left, unless the search was finished or is
-    pub seek-two : (p : WordProgress) (most : ℕ) → isFinished p ≡ false → isFinished (seekWord words (2 * places) call p) ≡ false → Here p most → Fewer 2 most (seekWord words (2 * places) call p)
+    -- five tours, or a look and three: five fewer are left, unless the search has come to its end
+    pub seek-five : (p : WordProgress) (most : ℕ) → isFinished (seekWord words (2 * places) call p) ≡ false → Here p most → Fewer stepMoves most (seekWord words (2 * places) call p)
     unfolding seekWord
-    seek-two p most f e g = go (ℕ-discrete (p .missed) NONE) (ℕ-discrete (p .cursor) NONE)
+    seek-five p most e g = go (ℕ-discrete (p .missed) NONE)
       where
-        go : Dec (p .missed ≡ NONE) → Dec (p .cursor ≡ NONE) → Fewer 2 most (toured (toursOf (p .missed)) (lookWord words (2 * places) call p))
-        go (no n) d = let x = look-less p most n g in (x .0, x .1, tours-seek (toursOf (p .missed)) (lookWord words (2 * places) call p) (x .0) (x .2))
-        go (yes m) (no n) =
+        go : Dec (p .missed ≡ NONE) → Fewer stepMoves most (toured (toursOf (p .missed)) (lookWord words (2 * places) call p))
+        go (no n) = let x = look-less p most n g in (x .0, x .1, tours-seek (toursOf (p .missed)) (lookWord words (2 * places) call p) (x .0) (x .2))
+        go (yes m) =
             let five : toursOf (p .missed) ≡ 5 = rw (eq-eqb (p .missed) NONE m) in
-            rw (look-none p m, five) (tours-two 3 p most m n (rw (look-none p m, five) at e) g)
-        go (yes m) (yes d) = absurd (false≢true (sym f ∙ and-i (eq-eqb (p .cursor) NONE d) (eq-eqb (p .missed) NONE m)))
+            let on : isFinished (toured 5 p) ≡ false = rw (look-none p m, five) at e in
+            rw (look-none p m, five) (elim (tours-less 5 p most m g) [ inl x ↦ x | inr f ↦ absurd (true≢false (sym f ∙ on)) ])
 
     -- of any search no more is left
     pub seek-keeps : (p : WordProgress) (most : ℕ) → Here p most → Here (seekWord words (2 * places) call p) most

@@ -19,6 +19,7 @@ use Rattle.history.proofs.StepOutcome.{most-left}
 use Rattle.history.proofs.Stepped.{stepped-ends}
 use Rattle.history.proofs.Demand3.{accepted, quiet-state}
 use Rattle.history.proofs.Reached.{Stands, settled-stands, history-related}
+use Rattle.trees.specs.Measure.{stepMoves}
 
 -- more steps are enough too
 pub within-more : (n m : ℕ) (words : List ℕ) (s : ℕ) → n ≤ m → AnsweredWithin n words s → AnsweredWithin m words s
@@ -58,7 +59,7 @@ solo-stands {words} {places} {limit} w s u = go (decLt s 8)
     by-station l idle q = absurd (true≢false (sym u ∙ quiet-state s l idle q tt (v .related)))
     by-station l (waiting a) q = absurd (true≢false (sym u ∙ quiet-state s l (waiting a) q tt (v .related)))
     by-station l (unfinished i c o) q =
-        let w = stepped-ends t s i c o (v .sound) (settled-stands w .1) l q words (4 * t .places) (most-left s i c o l q (v .related)) in
+        let w = stepped-ends t s i c o (v .sound) (settled-stands w .1) l q words (stepMoves * t .places) (most-left s i c o (v .sound) l q (v .related)) in
         (w .before, omega (arith, w .few, v .places-same), w .answered)
 
     go : Dec (s < 8) → AnsweredBelow (16 * places + 64) words s

@@ -1,5 +1,5 @@
--- Somebody always finishes (`somebody`): among more than 16 × places steps dealt to stations with an unfinished call, whatever submissions, takings and
--- refused events fall between them, one answers. A step that does not answer changes neither tree nor queue, and takes two from what is left to all
+-- Somebody always finishes (`somebody`): among more than 8 × places steps dealt to stations with an unfinished call, whatever submissions, takings and
+-- refused events fall between them, one answers. A step that does not answer changes neither tree nor queue, and takes five from what is left to all
 -- stations together.
 use Prim.Native.Nat.{ℕ, _+_, _*_, _≤_, _<_}
 use mathlib.Core.Path.{_≡_, refl, sym, _∙_, subst}
@@ -31,7 +31,8 @@ use Rattle.history.proofs.Reached.{Stands, settled-stands, event-stands
 use Rattle.history.proofs.Solo.{outside-state}
 use Rattle.history.proofs.StepNumbers.{quiet-refused}
 use Rattle.history.proofs.Reseated.{Reseats, submit-reseats, take-reseats}
-use Rattle.history.proofs.MovesLeft.{movesLeft, left-same, rest-here, most-here, potential, potential-most, potential-less, potential-kept}
+use Rattle.history.proofs.MovesLeft.{movesLeft, left-same, rest-here, most-here, potential, potential-most, potential-less, potential-kept, allMoves}
+use Rattle.trees.specs.Measure.{stepMoves}
 
 -- the words stand, with at most n left to all stations together
 pub record Within (words : List ℕ) (places limit n : ℕ) : Type 0 where
@@ -60,14 +61,14 @@ reseats-within {words} {words′} w b s (inr c) =
     let tree = tree-same (a .related) (b .related) p (c .same) root head in
     let queue = queue-same (a .related) (b .related) p (c .same) root head in
     let own : movesLeft (b .table .places) (b .related .tree) (b .related .queue) (seatAt words′ s) ≤ movesLeft (a .table .places) (a .related .tree) (a .related .queue) (seatAt words s) =
-    omega (arith, most-here (b .related) s (c .station), rest-here (a .related) s (c .station) (c .rests), p) in
+    omega (arith, most-here (b .related) s (c .station) (b .sound), rest-here (a .related) s (c .station) (c .rests), p) in
     record { stands = b; few = omega (arith, potential-less (a .related) (b .related) p tree queue s 0 (c .station) (c .others) (omega (arith, own)), w .few) }
 
--- a step that does not answer: two less are left where it was dealt to a station with an unfinished call
+-- a step that does not answer: five less are left where it was dealt to a station with an unfinished call
 pub record Fallen (words : List ℕ) (places limit n s : ℕ) : Type 0 where
   pub fewer : ℕ
   pub within : Within (stepOf words s .words) places limit fewer
-  pub counted : 2 * dealtStep words (singleStep s) + fewer ≤ n
+  pub counted : stepMoves * dealtStep words (singleStep s) + fewer ≤ n
 
 module _ {words : List ℕ} {places limit n : ℕ} (s : ℕ) (l : s < 8) (w : Within words places limit n) (settled : Settled (w .stands .table))
     (still : answered wordIndex words (singleStep s) ≡ false) where
@@ -80,21 +81,21 @@ module _ {words : List ℕ} {places limit n : ℕ} (s : ℕ) (l : s < 8) (w : Wi
   abbrev here : ℕ
   here = movesLeft (t .places) (r .tree) (r .queue) (seatAt words s)
 
-  goes-on : (i : ℕ) (c : Call) (o : Option Answer) → t .stations s ≡ unfinished i c o → Outcome r s c o here (stepOf words s) → (m : ℕ) × (2 + m ≤ n) × Within (stepOf words s .words) places limit m
-  goes-on i c o q (ends e x) = absurd (true≢false (sym (ends-answered words t s i c o (w .stands .sound) l q e x) ∙ still))
+  goes-on : (i : ℕ) (c : Call) (o : Option Answer) → t .stations s ≡ unfinished i c o → Outcome r s c o here (stepOf words s) → (m : ℕ) × (stepMoves + m ≤ n) × Within (stepOf words s .words) places limit m
+  goes-on i c o q (ends e x) = absurd (true≢false (sym (ends-answered words t s i c o (w .stands .sound) l q e (x .related)) ∙ still))
   goes-on i c o q (goesOn e m f z d) =
       let own : movesLeft (t .places) (z .related .tree) (z .related .queue) (seatAt (stepOf words s .words) s) ≤ m = left-same (z .related) s l c q m .1 (rw q at (z .left)) in
-      let all = potential-less r (z .related) refl (d .tree) (d .queue) s 2 l (d .others) (omega (arith, own, f)) in (
+      let all = potential-less r (z .related) refl (d .tree) (d .queue) s stepMoves l (d .others) (omega (arith, own, f)) in (
         potential (z .related),
         omega (arith, all, w .few),
         record { stands = record { table = t; sound = w .stands .sound; related = z .related; places-same = w .stands .places-same; limit-same = w .stands .limit-same }; few = omega arith },
       )
 
   -- the station has an unfinished call
-  dealt-falls : isUnfinished (stateAt words s) ≡ true → (m : ℕ) × (2 + m ≤ n) × Within (stepOf words s .words) places limit m
+  dealt-falls : isUnfinished (stateAt words s) ≡ true → (m : ℕ) × (stepMoves + m ≤ n) × Within (stepOf words s .words) places limit m
   dealt-falls u = go (t .stations s) refl
     where
-      go : (x : Station) → t .stations s ≡ x → (m : ℕ) × (2 + m ≤ n) × Within (stepOf words s .words) places limit m
+      go : (x : Station) → t .stations s ≡ x → (m : ℕ) × (stepMoves + m ≤ n) × Within (stepOf words s .words) places limit m
       go idle q = absurd (true≢false (sym u ∙ quiet-state s l idle q tt r))
       go (waiting a) q = absurd (true≢false (sym u ∙ quiet-state s l (waiting a) q tt r))
       go (unfinished i c o) q =
@@ -118,8 +119,8 @@ step-falls {words} {places} {limit} {n} s w still = go (isUnfinished (stateAt wo
 
 -- ---- the run
 
--- where twice the number of such steps is more than what is left to all stations together, one answers
-dealt-answers : (run : List Event) {words : List ℕ} {places limit n : ℕ} → Within words places limit n → Undisturbed words run → n < 2 * dealtSteps words run → SomeAnswered words run
+-- where five times the number of such steps is more than what is left to all stations together, one answers
+dealt-answers : (run : List Event) {words : List ℕ} {places limit n : ℕ} → Within words places limit n → Undisturbed words run → n < stepMoves * dealtSteps words run → SomeAnswered words run
 unfolding dealtSteps reply
 dealt-answers [] w d l = absurd (omega arith)
 dealt-answers (submission s kind p c ∷ run) {words} w d l =
@@ -130,16 +131,16 @@ dealt-answers (taking s ∷ run) {words} w d l =
     inr (dealt-answers run (reseats-within w (event-stands (taking s) a) s (take-reseats words (a .table .places) (a .table .limit) (a .related .opened) s)) (d .1) (omega arith))
 dealt-answers (withdrawal s ∷ run) {words} w d l =
     let same = withdraw-refused words s (d .0) in
-    let more : _ < 2 * (0 + dealtSteps words run) = rw same at l in
+    let more : _ < stepMoves * (0 + dealtSteps words run) = rw same at l in
     inr (rw same (dealt-answers run w (rw same at (d .1)) (omega arith)))
 dealt-answers (singleStep s ∷ run) {words} {places} {limit} {n} w d l = go (λ k v j. dealt-answers run v (d .1) j) (answered wordIndex words (singleStep s)) refl
   where
-    go : ((k : ℕ) → Within (stepOf words s .words) places limit k → k < 2 * dealtSteps (stepOf words s .words) run → SomeAnswered (stepOf words s .words) run)
+    go : ((k : ℕ) → Within (stepOf words s .words) places limit k → k < stepMoves * dealtSteps (stepOf words s .words) run → SomeAnswered (stepOf words s .words) run)
         → (b : Bool) → answered wordIndex words (singleStep s) ≡ b → SomeAnswered words (singleStep s ∷ run)
     go rest true e = inl e
     go rest false e = let f = step-falls s w e in inr (rest (f .fewer) (f .within) (omega (arith, f .counted)))
 
--- After every history, more than 16 × places steps dealt to stations with an unfinished call, with whatever submissions, takings and refused events
+-- After every history, more than 8 × places steps dealt to stations with an unfinished call, with whatever submissions, takings and refused events
 -- between them, answer a call.
 pub somebody : (words : List ℕ) (places limit : ℕ) → openOf words places limit .number ≡ 0 → (evs run : List Event)
     → Undisturbed (after evs (openOf words places limit .words)) run
@@ -147,7 +148,7 @@ pub somebody : (words : List ℕ) (places limit : ℕ) → openOf words places l
 somebody words places limit e evs run d l =
     let a = accepted words places limit e in
     let v : Stands (after evs (openOf words places limit .words)) places limit = rw (a .opens) (history-related words places limit a evs) in
-    dealt-answers run {n = 32 * places} (record { stands = v; few = omega (arith, potential-most (v .related), v .places-same) }) d (omega arith)
+    dealt-answers run {n = allMoves places} (record { stands = v; few = omega (arith, potential-most (v .related) (v .sound), v .places-same) }) d (omega arith)
 
 -- Request 2026-11, by its own figure.
 pub somebody-finishes : (words : List ℕ) (places limit : ℕ) → openOf words places limit .number ≡ 0 → (evs run : List Event)

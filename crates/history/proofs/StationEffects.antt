@@ -2,9 +2,10 @@
 -- the seats of the other stations.
 use Prim.Native.Nat.{ℕ, _*_, _<_}
 use mathlib.Core.Path.{_≡_, ap, _∙_}
-use mathlib.Core.Bool.{true}
+use mathlib.Core.Bool.{true, cond}
 use mathlib.Core.List.{List}
 use native.Mathlib.Omega.{arith}
+use lib.Dec.{eqb}
 use lib.ListN.{length}
 use Rattle.points.specs.declared.point.Point.{Point}
 use Rattle.points.specs.Point.{inRange}
@@ -16,6 +17,7 @@ use Rattle.rows.specs.Words.{get}
 use Rattle.rows.specs.Agree.{inCommon, inStation, OnlyIn}
 use Rattle.rows.specs.Common.{openedIn}
 use Rattle.rows.specs.Station.{hasStation, submitted, answered, taken, stateAt, putState, putPlace}
+use Rattle.rows.specs.Target.{targetAt}
 use Rattle.rows.specs.Call.{putBest, putCall}
 use Rattle.rows.specs.Answer.{answerSound, putAnswer}
 use Rattle.rows.proofs.AgreeLaws.{only-trans, common-station, elsewhere}
@@ -28,9 +30,10 @@ use Rattle.moves.specs.declared.search.Progress.{Progress}
 use Rattle.moves.specs.Answer.{letGo, answeredWords}
 use Rattle.steps.specs.Submit.{callFor, sinceFor, begunWords, submittedWords}
 use Rattle.moves.specs.Search.{keptWords}
-use Rattle.history.specs.View.{countsAt, placeAt, seatAt, withPlace, seatPut, noPlace, SameRows, Written}
+use Rattle.history.specs.View.{Place, countsAt, placeAt, seatAt, withPlace, seatPut, noPlace, SameRows, Written, answeredSeat}
 use Rattle.history.proofs.Frame.{seat-of, place-agree, common-stations}
-use Rattle.history.proofs.OwnEffects.{Own, own-trans, own-station, own-rows, own-written, withMissed, withStand, own-place, own-missed, place-putPlace, place-putMissed, own-placed, placed-only, place-placed}
+use Rattle.history.proofs.OwnEffects.{Own, own-trans, own-station, own-rows, own-written, own-aimed, own-place, own-missed, own-placed}
+use Rattle.history.proofs.OwnEffects.{withMissed, withStand, withAim, aimed-only, place-aimed, place-putPlace, place-putMissed, placed-only, place-placed}
 
 module _ (words : List ℕ) (places limit : ℕ) (o : openedIn words ≡ Opened places limit) (s : ℕ) (l : s < 8) where
   here : hasStation words s ≡ true
@@ -50,30 +53,44 @@ module _ (words : List ℕ) (places limit : ℕ) (o : openedIn words ≡ Opened 
     asked-only : OnlyIn asked words (inStation s)
     asked-only = only-trans (putState-only called s (submitted (stateAt words s))) (putCall-only words s (callFor (get words atChanges) kind p c))
 
+    begun-only : OnlyIn (begunWords asked s kind) asked inCommon
+    unfolding begunWords
+    begun-only = placed-only asked s (get asked atRoot) 0 (sinceFor (get asked atRemovals) kind) NONE
+
     own-submit : Own (submittedWords words s kind p c) words s
     unfolding submittedWords begunWords
-    own-submit = own-trans (own-placed asked s (get asked atRoot) 0 (sinceFor (get asked atRemovals) kind) NONE) (own-station s asked-only)
+    own-submit =
+        own-trans (own-aimed (begunWords asked s kind) s kind p)
+        (own-trans (own-placed asked s (get asked atRoot) 0 (sinceFor (get asked atRemovals) kind) NONE) (own-station s asked-only))
 
     pub submit-written : inRange p ≡ true → Written words (submittedWords words s kind p c) (countsAt words)
         (seatPut (λ u. seatAt words u) s
         (record {
-          place = record { cursor = get words atRoot; phase = 0; since = sinceFor (get words atRemovals) kind; missed = NONE };
+          place = record {
+            cursor = get words atRoot;
+            phase = 0;
+            since = sinceFor (get words atRemovals) kind;
+            missed = NONE;
+            target = cond (eqb kind 4) p (targetAt words s);
+          };
           state = 1;
           call = callFor (get words atChanges) kind p c;
           answer = seatAt words s .answer;
         }))
-    unfolding submittedWords begunWords seatAt callFor
+    unfolding submittedWords begunWords seatAt placeAt callFor
     submit-written r =
         let call = callFor (get words atChanges) kind p c in
         let common = elsewhere (inStation s) inCommon asked-only (common-station s) in
         let root : get asked atRoot ≡ get words atRoot = common .words atRoot (omega arith) (omega arith) in
         let removals : get asked atRemovals ≡ get words atRemovals = common .words atRemovals (omega arith) (omega arith) in
-        let reads = common-stations (placed-only asked s (get asked atRoot) 0 (sinceFor (get asked atRemovals) kind) NONE) s in
+        let aim : targetAt asked s ≡ targetAt words s = ap (λ (x : Place). x .target) (place-agree common s l) in
+        let reads = common-stations (only-trans (aimed-only (begunWords asked s kind) s kind p) begun-only) s in
         let there : hasStation called s ≡ true = still called (putCall-only words s call .lengths) in
         own-written (submittedWords words s kind p c) words s _ l own-submit
         (seat-of (submittedWords words s kind p c) s _
-        (place-placed asked s (get asked atRoot) 0 (sinceFor (get asked atRemovals) kind) NONE (still asked (asked-only .lengths))
-        ∙ (λ i. record { cursor = root i; phase = 0; since = sinceFor (removals i) kind; missed = NONE }))
+        (place-aimed (begunWords asked s kind) s kind p (still (begunWords asked s kind) (begun-only .lengths ∙ asked-only .lengths)) r
+        ∙ ap (withAim kind p) (place-placed asked s (get asked atRoot) 0 (sinceFor (get asked atRemovals) kind) NONE (still asked (asked-only .lengths)))
+        ∙ (λ i. record { cursor = root i; phase = 0; since = sinceFor (removals i) kind; missed = NONE; target = cond (eqb kind 4) p (aim i) }))
         (ap (λ x. x .word) (reads .state ∙ stateAt-putState-same called s there (submitted (stateAt words s))))
         (reads .call ∙ callAt-putState called s (submitted (stateAt words s)) ∙ callAt-putCall-same words s here call r noBest-point)
         (reads .answer ∙ answerAt-putState called s (submitted (stateAt words s)) ∙ answerAt-putCall words s call))
@@ -115,13 +132,14 @@ module _ (words : List ℕ) (places limit : ℕ) (o : openedIn words ≡ Opened 
     own-answer = own-trans (own-placed waits s NONE 0 NONE NONE) (own-station s waits-only)
 
     pub answer-written : answerSound a ≡ true → Written words (answeredWords words s a) (countsAt words)
-        (seatPut (λ u. seatAt words u) s (record { place = noPlace; state = 2; call = seatAt words s .call; answer = a }))
-    unfolding answeredWords letGo seatAt
+        (seatPut (λ u. seatAt words u) s (answeredSeat (seatAt words s) a))
+    unfolding answeredWords letGo seatAt placeAt
     answer-written e =
+        let aim : targetAt waits s ≡ targetAt words s = ap (λ (x : Place). x .target) (place-agree (elsewhere (inStation s) inCommon waits-only (common-station s)) s l) in
         let reads = common-stations (placed-only waits s NONE 0 NONE NONE) s in
         let there : hasStation told s ≡ true = still told (putAnswer-only words s a .lengths) in
         own-written (answeredWords words s a) words s _ l own-answer
-        (seat-of (answeredWords words s a) s _ (place-placed waits s NONE 0 NONE NONE (still waits (waits-only .lengths)))
+        (seat-of (answeredWords words s a) s _ (place-placed waits s NONE 0 NONE NONE (still waits (waits-only .lengths)) ∙ ap noPlace aim)
         (ap (λ x. x .word) (reads .state ∙ stateAt-putState-same told s there (answered (stateAt words s))))
         (reads .call ∙ callAt-putState told s (answered (stateAt words s)) ∙ callAt-putAnswer words s a)
         (reads .answer ∙ answerAt-putState told s (answered (stateAt words s)) ∙ answerAt-putAnswer-same words s here a (answer-tells a e .point)))
@@ -144,7 +162,7 @@ module _ (words : List ℕ) (places limit : ℕ) (o : openedIn words ≡ Opened 
     pub kept-written : inRange (p .best .point) ≡ true → Written words (keptWords words s p) (countsAt words)
         (seatPut (λ u. seatAt words u) s
         (record {
-          place = record { cursor = p .cursor; phase = p .phase; since = get words (atSince s); missed = p .missed };
+          place = record { cursor = p .cursor; phase = p .phase; since = get words (atSince s); missed = p .missed; target = targetAt words s };
           state = seatAt words s .state;
           call = record { kind = seatAt words s .call .kind; point = seatAt words s .call .point; curve = seatAt words s .call .curve; asof = seatAt words s .call .asof; best = p .best };
           answer = seatAt words s .answer;
@@ -169,7 +187,7 @@ module _ (words : List ℕ) (places limit : ℕ) (o : openedIn words ≡ Opened 
   -- a walk goes on
   module _ (to : ℕ) where
     pub walk-written : Written words (putPlace words s to 0) (countsAt words)
-        (seatPut (λ u. seatAt words u) s (withPlace (seatAt words s) (record { cursor = to; phase = 0; since = get words (atSince s); missed = get words (atMissed s) })))
+        (seatPut (λ u. seatAt words u) s (withPlace (seatAt words s) (record { cursor = to; phase = 0; since = get words (atSince s); missed = get words (atMissed s); target = targetAt words s })))
     unfolding seatAt placeAt
     walk-written =
         let reads = common-stations (putPlace-only words s to 0) s in

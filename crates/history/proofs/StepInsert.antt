@@ -45,9 +45,9 @@ use Rattle.history.specs.Related.{recordOf, Busy, Related}
 use Rattle.history.proofs.Readings.{added-change, addedTable, changed-add}
 use Rattle.history.proofs.Effects.{movedCursor, insert-written, insert-same-rows}
 use Rattle.history.proofs.RelatedLaws.{more-is, related-is-open, removals-word, related-busy, related-taken}
-use Rattle.history.proofs.Outcome.{Outcome, ends}
-use Rattle.history.proofs.OwnSeat.{least-same, least-seat, related-answered}
-use Rattle.history.proofs.OtherSeats.{says-insert, marking-insert}
+use Rattle.history.proofs.Outcome.{Outcome, ends, leftAt, Beside, Next}
+use Rattle.history.proofs.OwnSeat.{least-same, least-seat, next-answered}
+use Rattle.history.proofs.OtherSeats.{says-insert, marking-insert, left-insert}
 use Rattle.history.proofs.RowWrites.{Holding, held-first}
 use Rattle.history.proofs.RowKinds.{kindAt}
 use Rattle.history.proofs.InsertMarks.{marks-inserted, mark-new, mark-old}
@@ -87,7 +87,7 @@ record Gains (words words′ : List ℕ) (tree : Option Tree) (new : Entry) (pla
 -- ---- the relation after an insert
 
 -- the words after an insert, given what was read, what is written and what that makes of tree and queue
-related-inserted : {words : List ℕ} {t : Table} {h′ : Heap} {a b : ℕ} {new : Entry} (place : Option Leaf) (room : Room) → Sound t → Settled t → (r : Related words t)
+next-inserted : {words : List ℕ} {t : Table} {h′ : Heap} {a b : ℕ} {new : Entry} (place : Option Leaf) (room : Room) → Sound t → Settled t → (r : Related words t)
     → new .added ≡ more (get words atChanges) → t .changes < NONE → countOf (r .tree) < NONE
     → (leafOf place ≡ NONE → cutFor place b ≡ NONE) → room .at ≡ leafOf place → room .second ≡ cutFor place b
     → rootAfter room (get words atRoot) ≡ insertRoot place a b (topOf (r .tree)) → headAfter room ≡ insertHead (r .heap) place a b
@@ -95,32 +95,10 @@ related-inserted : {words : List ℕ} {t : Table} {h′ : Heap} {a b : ℕ} {new
     (insertRows (cursorsMoved (room .at) (room .second) 8 (insertCounts words room)) room (new .added) (new .point) (new .curve)) (t .places) (t .limit) h′
     → Inserted (t .places) (r .heap) h′ (r .tree) (r .queue) (t .changes) (length (t .removals)) (leastSince words) new place a b
     → Gains words (insertRows (cursorsMoved (room .at) (room .second) 8 (insertCounts words room)) room (new .added) (new .point) (new .curve)) (r .tree) new place b
-    → Related (insertWords words room (new .point) (new .curve)) (addedTable t (new .point) (new .curve))
+    → Next r 8 (insertWords words room (new .point) (new .curve)) (addedTable t (new .point) (new .curve))
 unfolding countsAt insertWords
-related-inserted {words} {t} {h′} {a} {b} {new} place room sound settled r number below few still at second root head v w gains =
-    rw (← number) record {
-      opened = v .opened;
-      heap = h′;
-      tree = w .tree;
-      queue = w .queue;
-      reads = v .reads;
-      store = rw (add-one (t .changes), least) (w .store);
-      counted = rw counts (record {
-        changes = ap more (r .counted .changes) ∙ more-is (t .changes) below ∙ sym (add-one (t .changes));
-        held = ap more (r .counted .held) ∙ more-is (countOf (r .tree)) few ∙ sym (w .count);
-        root = root ∙ sym (w .root);
-        head = head ∙ sym (w .head);
-        tail = r .counted .tail ∙ sym (w .tail);
-        removals = r .counted .removals;
-      });
-      records = records-insert (r .tree) (w .tree) new (t .held) (r .records) (w .holds);
-      number = w .count ∙ ap suc (r .number);
-      seats = λ s l. rw (seated s l, at, second) (says-insert t (addedTable t (new .point) (new .curve)) w (add-one (t .changes)) refl (seatAt words s) (t .stations s) (least-seat words s l) still (settled s l) (r .seats s l));
-      covered = w .covers (marksIn words) (marksIn written) (r .covered) (gains .grown) (gains .marked);
-      marking = λ s l.
-          let e : seatAt written s ≡ movedCursor (leafOf place) (cutFor place b) (seatAt words s) = seated s l ∙ (λ j. movedCursor (at j) (second j) (seatAt words s)) in
-          rw e (marking-insert t (addedTable t (new .point) (new .curve)) w (add-one (t .changes)) refl (seatAt words s) (marksIn words) (marksIn written) (gains .grown) (t .stations s) (r .marking s l));
-    }
+next-inserted {words} {t} {h′} {a} {b} {new} place room sound settled r number below few still at second root head v w gains =
+    rw (← number) (record { related = inserted; beside = beside })
   where
     base : List ℕ
     base = cursorsMoved (room .at) (room .second) 8 (insertCounts words room)
@@ -144,6 +122,47 @@ related-inserted {words} {t} {h′} {a} {b} {new} place room sound settled r num
     least : leastSince written ≡ leastSince words
     least = least-same words written (ap (λ (c : Counts). c .removals) counts) (λ s l. ap (λ (x : Seat). x .place .since) (seated s l))
 
+    inserted : Related written (addedTable t (new .point) (new .curve))
+    inserted = record {
+      opened = v .opened;
+      heap = h′;
+      tree = w .tree;
+      queue = w .queue;
+      reads = v .reads;
+      store = rw (add-one (t .changes), least) (w .store);
+      counted = rw counts (record {
+        changes = ap more (r .counted .changes) ∙ more-is (t .changes) below ∙ sym (add-one (t .changes));
+        held = ap more (r .counted .held) ∙ more-is (countOf (r .tree)) few ∙ sym (w .count);
+        root = root ∙ sym (w .root);
+        head = head ∙ sym (w .head);
+        tail = r .counted .tail ∙ sym (w .tail);
+        removals = r .counted .removals;
+      });
+      records = records-insert (r .tree) (w .tree) new (t .held) (r .records) (w .holds);
+      number = w .count ∙ ap suc (r .number);
+      seats = λ s l. rw (seated s l, at, second) (says-insert t (addedTable t (new .point) (new .curve)) w (add-one (t .changes)) refl (seatAt words s) (t .stations s) (least-seat words s l) still (settled s l) (r .seats s l));
+      covered = w .covers (marksIn words) (marksIn written) (r .covered) (gains .grown) (gains .marked);
+      marking = λ s l.
+          let e : seatAt written s ≡ movedCursor (leafOf place) (cutFor place b) (seatAt words s) = seated s l ∙ (λ j. movedCursor (at j) (second j) (seatAt words s)) in
+          rw e (marking-insert t (addedTable t (new .point) (new .curve)) w (add-one (t .changes)) refl (seatAt words s) (marksIn words) (marksIn written) (gains .grown) (t .stations s) (r .marking s l));
+    }
+
+    -- a search has four moves more at most, which were spent with the record
+    beside : Beside r inserted 8
+    beside u k d i p x q =
+        let same : seatAt written u ≡ movedCursor (leafOf place) (cutFor place b) (seatAt words u) = seated u k ∙ (λ j. movedCursor (at j) (second j) (seatAt words u)) in
+        let fewer = left-insert t (addedTable t (new .point) (new .curve)) w (add-one (t .changes)) refl (seatAt words u) (r .store) i p x (least-seat words u k) (related-busy r k q) in
+        omega (
+          arith,
+          fewer,
+          ap (λ (z : Seat). leftAt (w .tree) (w .queue) z) same,
+          ap (λ (z : Seat). z .place .since) same,
+          ap (λ (c : Counts). c .held) counts,
+          ap (λ (c : Counts). c .removals) counts,
+          ap more (r .counted .held) ∙ more-is (countOf (r .tree)) few,
+          r .counted .held,
+        )
+
 -- ---- the step
 
 module _ {words : List ℕ} {t : Table} (r : Related words t) (sound : Sound t) where
@@ -166,16 +185,23 @@ module _ {words : List ℕ} {t : Table} {s i : ℕ} {p : Point} {c : ℕ} (sound
   busy : Busy t (r .tree) (r .queue) (seatAt words s) i (add p c) none
   busy = related-busy r l q
 
+  -- the answer is written after the record
+  next-after : {w w′ : List ℕ} {t′ : Table} (v : Next r 8 w (addedTable t p c)) → Next (v .related) s w′ t′ → Next r s w′ t′
+  next-after v z = record {
+    related = z .related;
+    beside = λ u k d j y a e. omega (arith, v .beside u k (λ x. omega arith) j y a e, z .beside u k d j y a e);
+  }
+
   -- once the record is inserted the answer waits
-  inserted-outcome : {n : ℕ} (at : ℕ) (room : Room) → roomAt words (2 * t .places) at ≡ room → roomSound room ≡ true → Related (insertWords words room p c) (addedTable t p c)
+  inserted-outcome : {n : ℕ} (at : ℕ) (room : Room) → roomAt words (2 * t .places) at ≡ room → roomSound room ≡ true → Next r 8 (insertWords words room p c) (addedTable t p c)
       → Outcome r s (add p c) none n (insertOf words (2 * t .places) s (callAt words s) at)
   unfolding insertOf seatAt
   inserted-outcome at room e ok v =
       rw (e, ok, busy .point, busy .curve)
-      (ends refl (subst (λ (u : Table). Related (answeredWords (insertWords words room p c) s (given 1 p c 0)) u)
+      (ends refl (subst (λ (u : Table). Next r s (answeredWords (insertWords words room p c) s (given 1 p c 0)) u)
       (sym (finished-change t s (add p c) (answer 1 p c 0) (add-room t p c free left place-left) (added-change p c) ∙ ap (λ (u : Table). withStations u (put (t .stations) s (waiting (answer 1 p c 0)))) (changed-add t p c)))
-      (related-answered s l v (given 1 p c 0) (omega (arith, removals-word r sound))
-      (answer-of (given 1 p c 0) (record { code = refl; point = busy .ranged; curve = curve-tells c (busy .fits) .1; square = omega arith })))))
+      (next-after v (next-answered s l (v .related) (given 1 p c 0) (omega (arith, removals-word r sound))
+      (answer-of (given 1 p c 0) (record { code = refl; point = busy .ranged; curve = curve-tells c (busy .fits) .1; square = omega arith }))))))
 
   abbrev entry : Entry
   entry = record { point = p; curve = c; added = more (get words atChanges) }
@@ -206,7 +232,7 @@ module _ {words : List ℕ} {t : Table} {s i : ℕ} {p : Point} {c : ℕ} (sound
       insert (w .0) entry (r .tree) none (r .store) (related-room r sound place-left) e tt (busy .ranged) entry-number (w .2) in
       inserted-outcome NONE (aloneRoom h a) (room-alone words (t .places) h a (f .0) (r .reads) (r .store .fits) (r .counted .head))
       (sound-alone words (t .places) h a (f .0) (r .reads) (r .store .fits) (f .1))
-      (related-inserted none (aloneRoom h a) sound settled r refl (omega (arith, changes-word r sound)) few (λ d. refl) refl refl refl (next-word (h a)) (w .1) v
+      (next-inserted none (aloneRoom h a) sound settled r refl (omega (arith, changes-word r sound)) few (λ d. refl) refl refl refl (next-word (h a)) (w .1) v
       (record { grown = λ x m side q g. absurd (rw e at m); marked = tt }))
 
   -- beside a leaf
@@ -224,7 +250,7 @@ module _ {words : List ℕ} {t : Table} {s i : ℕ} {p : Point} {c : ℕ} (sound
       let v : Inserted (t .places) h (w .0) (r .tree) (r .queue) (t .changes) (length (t .removals)) (leastSince words) entry (some leaf) a b =
       insert (w .0) entry (r .tree) (some leaf) (r .store) (related-room r sound place-left) (on, reads) other (busy .ranged) entry-number (w .2) in
       inserted-outcome (leaf .row) room (room-beside words f (r .reads) (r .store .fits) (r .counted .head)) (sound-beside words f (r .reads) (r .store .fits))
-      (related-inserted (some leaf) room sound settled r refl (omega (arith, changes-word r sound)) few (λ d. absurd (there d)) refl refl
+      (next-inserted (some leaf) room sound settled r refl (omega (arith, changes-word r sound)) few (λ d. absurd (there d)) refl refl
       (rw (ne-eqb (leaf .row) NONE there, r .counted .root)) (rw (ne-eqb (leaf .row) NONE there) (next-word (h b))) (w .1) v (gains f))
     where
       gains : {a b : ℕ} (f : Finds (t .places) (r .heap) a b leaf)

@@ -11,17 +11,21 @@ use Rattle.table.specs.Call.{Call, add, remove, contains, nearest, isSearch, An
 use Rattle.table.specs.Table.{unfinished, Table}
 use Rattle.table.proofs.Sound.{Sound}
 use Rattle.table.proofs.Eager.{Settled, fresh}
+use Rattle.table.proofs.Taken.{search-room}
 use Rattle.steps.specs.Step.{workOf, stepOf}
 use Rattle.moves.specs.Walk.{walkOf}
 use Rattle.moves.specs.Search.{searchOf}
 use Rattle.history.specs.View.{seatAt}
 use Rattle.history.specs.Related.{Related, Busy}
 use Rattle.trees.specs.Route.{standsAt}
-use Rattle.trees.proofs.MeasureLaws.{walk-bound, search-bound}
+use Rattle.trees.proofs.MeasureLaws.{walk-bound}
+use Rattle.trees.specs.Measure.{stepMoves}
+use Rattle.trees.proofs.OthersLaws.{left-counted}
 use Rattle.history.proofs.Outcome.{LeftSays, Left, Outcome}
 use Rattle.history.proofs.StepReply.{step-work}
 use Rattle.history.proofs.StepSearch.{search-outcome}
 use Rattle.history.proofs.StepWalk.{walk-outcome}
+use Rattle.history.proofs.Readings.{nearest-search}
 
 -- a settled table has an answer set down for an unfinished nearest
 settled-set : (t : Table) (s i : ℕ) (c : Call) → Settled t → s < 8 → t .stations s ≡ unfinished i c none → isSearch c ≡ true → ⊥
@@ -66,13 +70,16 @@ step-outcome {words} {t} s i m (nearest p) (some a) h k l q r =
     let b = busy s i (nearest p) (some a) l q (r .related) in
     rw (step-work h l q (r .related), work-search words (2 * t .places) s (b .kind)) (search-outcome h l q r)
 
--- at most 4 × places are ever left
-pub left-most : {words : List ℕ} {t : Table} (s i : ℕ) (c : Call) (o : Option Answer) → s < 8 → t .stations s ≡ unfinished i c o → (r : Related words t)
-    → LeftSays t (r .tree) (r .queue) (seatAt words s) (unfinished i c o) (4 * t .places)
-left-most {words} s i (add p d) o l q r = omega (arith, walk-bound (r .tree) (standsAt (r .tree) (seatAt words s .place .cursor)) (r .store))
-left-most {words} s i (remove p) o l q r = omega (arith, walk-bound (r .tree) (standsAt (r .tree) (seatAt words s .place .cursor)) (r .store))
-left-most {words} s i (contains p) o l q r = omega (arith, walk-bound (r .tree) (standsAt (r .tree) (seatAt words s .place .cursor)) (r .store))
-left-most {words} s i (nearest p) o l q r = let b = busy s i (nearest p) o l q r in (b .works, search-bound (r .tree) (r .store) (b .works .search))
+-- never more is left than one step takes for each place
+pub left-most : {words : List ℕ} {t : Table} (s i : ℕ) (c : Call) (o : Option Answer) → Sound t → s < 8 → t .stations s ≡ unfinished i c o → (r : Related words t)
+    → LeftSays t (r .tree) (r .queue) (seatAt words s) (unfinished i c o) (stepMoves * t .places)
+left-most {words} s i (add p d) o h l q r = omega (arith, walk-bound (r .tree) (standsAt (r .tree) (seatAt words s .place .cursor)) (r .store))
+left-most {words} s i (remove p) o h l q r = omega (arith, walk-bound (r .tree) (standsAt (r .tree) (seatAt words s .place .cursor)) (r .store))
+left-most {words} s i (contains p) o h l q r = omega (arith, walk-bound (r .tree) (standsAt (r .tree) (seatAt words s .place .cursor)) (r .store))
+left-most {words} {t} s i (nearest p) o h l q r =
+    let b = busy s i (nearest p) o l q r in
+    (b .works, omega (arith, left-counted (b .works .search), b .works .since, r .number, search-room t h s i (nearest p) o l q (nearest-search p)))
 
-pub most-left : {words : List ℕ} {t : Table} (s i : ℕ) (c : Call) (o : Option Answer) → s < 8 → t .stations s ≡ unfinished i c o → Related words t → Left words t s (4 * t .places)
-most-left s i c o l q r = record { related = r; left = rw q (left-most s i c o l q r) }
+pub most-left : {words : List ℕ} {t : Table} (s i : ℕ) (c : Call) (o : Option Answer) → Sound t → s < 8 → t .stations s ≡ unfinished i c o → Related words t
+    → Left words t s (stepMoves * t .places)
+most-left s i c o h l q r = record { related = r; left = rw q (left-most s i c o h l q r) }

@@ -6,19 +6,14 @@ use mathlib.Core.Bool.{Bool, true, false, false≢true}
 use mathlib.Core.List.{List, map, List·Memᴰ}
 use mathlib.Core.Option.{some}
 use native.Mathlib.Omega.{arith}
-use lib.Dec.{eqb}
 use lib.ListN.{length}
-use borrow.Author.Tests.{eqb-true}
 use Rattle.points.specs.declared.point.Point.{Point}
 use Rattle.points.specs.Point.{inRange}
 use Rattle.points.specs.Word.{NONE}
-use Rattle.points.proofs.Tests.{and-l, and-r}
-use Rattle.rows.specs.declared.call.Call.{Call}
 use Rattle.rows.specs.declared.answer.Answer.{Answer as WordAnswer}
 use Rattle.rows.specs.Layout.{atSince}
 use Rattle.rows.specs.Words.{get}
 use Rattle.rows.specs.Common.{leastSince}
-use Rattle.rows.specs.Grades.{slotOf}
 use Rattle.rows.specs.Call.{callAt}
 use Rattle.rows.specs.Answer.{answerSound}
 use Rattle.rows.proofs.OpeningLaws.{opened-tells}
@@ -32,20 +27,20 @@ use Rattle.table.proofs.Simulation.{finished}
 use Rattle.trees.specs.Row.{Entry}
 use Rattle.trees.specs.Tour.{Progress}
 use Rattle.trees.specs.Search.{Search, Nearest}
-use Rattle.trees.specs.Measure.{searchLeft}
+use Rattle.trees.specs.Measure.{searchLeft, stepMoves}
 use Rattle.trees.proofs.ChoiceOf.{choiceOf}
 use Rattle.trees.proofs.SearchLaws.{search-finish}
 use Rattle.moves.specs.declared.search.Progress.{Progress as WordProgress}
 use Rattle.moves.specs.Answer.{answeredWords}
 use Rattle.moves.specs.Reply.{done, ask}
-use Rattle.moves.specs.Search.{look, toured, toursOf, seek, progressAt, isFinished, foundAnswer, keptWords, pickWords, searchWords, searchTo, searchOf}
+use Rattle.moves.specs.Search.{seek, progressAt, isFinished, foundAnswer, keptWords, pickWords, searchWords, searchTo, searchOf}
 use Rattle.history.specs.Index.{answerOf}
-use Rattle.history.specs.View.{Seat, countsAt, placeAt, seatAt, progressOf, noPlace}
+use Rattle.history.specs.View.{Seat, countsAt, placeAt, seatAt, progressOf, answeredSeat}
 use Rattle.history.specs.Related.{recordOf, Busy, Searching, Waits, Says, Related}
 use Rattle.history.proofs.Effects.{answer-written, answer-rows, kept-written, kept-rows}
-use Rattle.history.proofs.Outcome.{LeftSays, Left, Aside, Outcome, goesOn, ends}
+use Rattle.history.proofs.Outcome.{LeftSays, Left, Aside, Outcome, goesOn, ends, beside-still, Next}
 use Rattle.history.proofs.ProgressWords.{viewOf}
-use Rattle.history.proofs.SeekLaws.{Seeks, tours-stay, seek-two, seek-keeps}
+use Rattle.history.proofs.SeekLaws.{Seeks, seek-five, seek-keeps}
 use Rattle.history.proofs.SaysLaws.{seat-put-same, seat-put-other, related-written}
 use Rattle.history.proofs.SeatLaws.{related-seat}
 use Rattle.history.proofs.FoundAnswer.{found-is, found-sound}
@@ -53,15 +48,11 @@ use Rattle.history.proofs.FoundAnswer.{found-is, found-sound}
 -- the seat of a search that goes on
 abbrev keptSeat : Seat → WordProgress → Seat
 keptSeat seat g = record {
-  place = record { cursor = g .cursor; phase = g .phase; since = seat .place .since; missed = g .missed };
+  place = record { cursor = g .cursor; phase = g .phase; since = seat .place .since; missed = g .missed; target = seat .place .target };
   state = seat .state;
   call = record { kind = seat .call .kind; point = seat .call .point; curve = seat .call .curve; asof = seat .call .asof; best = g .best };
   answer = seat .answer;
 }
-
--- the seat of a search that ends
-abbrev endedSeat : Seat → WordAnswer → Seat
-endedSeat seat x = record { place = noPlace; state = 2; call = seat .call; answer = x }
 
 module _ {words : List ℕ} {t : Table} {s i : ℕ} {p : Point} {a : Answer} (h : Sound t) (l : s < 8) (q : t .stations s ≡ unfinished i (nearest p) (some a)) (r : Related words t)
     (work : Searching t (r .tree) (r .queue) (seatAt words s) i p (some a)) where
@@ -97,7 +88,7 @@ module _ {words : List ℕ} {t : Table} {s i : ℕ} {p : Point} {a : Answer} (h 
 
     kept-works : Searching t (r .tree) (r .queue) (keptSeat (seatAt words s) g) i p (some a)
     unfolding seatAt placeAt
-    kept-works = record { since = work .since; entries = work .entries; once = work .once; ranged = work .ranged; search = sighted .0; answer = work .answer }
+    kept-works = record { since = work .since; aimed = work .aimed; entries = work .entries; once = work .once; ranged = work .ranged; search = sighted .0; answer = work .answer }
 
     kept-busy : Busy t (r .tree) (r .queue) (keptSeat (seatAt words s) g) i (nearest p) (some a)
     kept-busy = record {
@@ -166,44 +157,37 @@ module _ {words : List ℕ} {t : Table} {s i : ℕ} {p : Point} {a : Answer} (h 
       least-none =
           omega (arith, least-removals words, r .counted .removals, removals-changes t h, h .spent, opened-tells words (t .places) (t .limit) (r .opened) .limit-most)
 
-      ended-waits : Waits (endedSeat (seatAt words s) (foundAnswer (callAt words s) (g .best))) a
+      ended-waits : Waits (answeredSeat (seatAt words s) (foundAnswer (callAt words s) (g .best))) a
       ended-waits = record { state = refl; sound = found-ranged; answer = found-set; quiet = record { cursor = refl; phase = refl; since = refl; missed = refl } }
 
       ended-related : Related (answeredWords words s (foundAnswer (callAt words s) (g .best))) (finished t s (nearest p) (some a))
       unfolding finished
       ended-related =
           let x : WordAnswer = foundAnswer (callAt words s) (g .best) in
-          related-seat words (answeredWords words s x) t (put (t .stations) s (waiting a)) s (endedSeat (seatAt words s) x) r
+          related-seat words (answeredWords words s x) t (put (t .stations) s (waiting a)) s (answeredSeat (seatAt words s) x) r
           (answer-written words (t .places) (t .limit) (r .opened) s l x found-ranged) (answer-rows words (t .places) (t .limit) (r .opened) s l x) least-none
           (λ u n. put-other (t .stations) s u (waiting a) n)
-          (subst (λ (y : Station). Says t (r .tree) (r .queue) (endedSeat (seatAt words s) x) y) (sym (put-same (t .stations) s (waiting a))) ended-waits)
+          (subst (λ (y : Station). Says t (r .tree) (r .queue) (answeredSeat (seatAt words s) x) y) (sym (put-same (t .stations) s (waiting a))) ended-waits)
           (rw (put-same (t .stations) s (waiting a)) tt)
 
+      -- no other search has more left
+      ended-next : Next r s (answeredWords words s (foundAnswer (callAt words s) (g .best))) (finished t s (nearest p) (some a))
+      unfolding ended-related related-seat related-written
+      ended-next =
+          let w = answer-written words (t .places) (t .limit) (r .opened) s l (foundAnswer (callAt words s) (g .best)) found-ranged in
+          record { related = ended-related; beside = beside-still r ended-related s refl refl (w .counted) (λ u k d. w .seated u k ∙ seat-put-other (λ z. seatAt words z) s u _ d) }
+
     -- what the step writes after its moves
-    outcome-of : (n : ℕ) → (2 + m ≤ n) ⊎ (isFinished g ≡ true) → Outcome r s (nearest p) (some a) n (searchTo words s (callAt words s) g)
+    outcome-of : (n : ℕ) → (stepMoves + m ≤ n) ⊎ (isFinished g ≡ true) → Outcome r s (nearest p) (some a) n (searchTo words s (callAt words s) g)
     unfolding searchWords
     outcome-of n d =
         subst (λ (b : Bool). Outcome r s (nearest p) (some a) n (ask b 11 words (done (searchWords words s (callAt words s) g)))) (sym (v .fit .sound)) (go (isFinished g) refl d)
       where
-        go : (b : Bool) → isFinished g ≡ b → (2 + m ≤ n) ⊎ (isFinished g ≡ true)
+        go : (b : Bool) → isFinished g ≡ b → (stepMoves + m ≤ n) ⊎ (isFinished g ≡ true)
             → Outcome r s (nearest p) (some a) n (done (pickWords b (answeredWords words s (foundAnswer (callAt words s) (g .best))) (keptWords words s g)))
-        go true f d = ends refl (ended-related f)
+        go true f d = ends refl (ended-next f)
         go false f (inl k) = goesOn refl m k kept-left kept-aside
         go false f (inr e) = absurd (false≢true (sym f ∙ e))
-
--- a search that is not finished was not finished before: one with nothing left to look at stays where it is
-seek-unfinished : (words : List ℕ) (rows : ℕ) (call : Call) (g : WordProgress) → isFinished (seek words rows call g) ≡ false → isFinished g ≡ false
-unfolding seek look
-seek-unfinished words rows call g e = go (isFinished g) refl
-  where
-    go : (b : Bool) → isFinished g ≡ b → b ≡ false
-    go false f = refl
-    go true f =
-        let c : g .cursor ≡ NONE = eqb-true (g .cursor) NONE (and-l (eqb (g .cursor) NONE) (eqb (g .missed) NONE) f) in
-        let m : eqb (g .missed) NONE ≡ true = and-r (eqb (g .cursor) NONE) (eqb (g .missed) NONE) f in
-        let looked : look words rows call g ≡ g = rw m in
-        let z : seek words rows call g ≡ g = ap (toured words rows (slotOf (call .point)) call (toursOf (g .missed))) looked ∙ tours-stay words rows (slotOf (call .point)) call (toursOf (g .missed)) g c in
-        sym f ∙ ap isFinished (sym z) ∙ e
 
 -- The step of an unfinished nearest call whose answer is set down: its moves, and then it is kept for the next step with less left, or ends with
 -- that answer.
@@ -229,6 +213,5 @@ search-outcome {words} {t} {s} {i} {n} {p} {a} h l q r =
         outcome-of h l q (r .related) work sought n v n (inr e)
     go work few false e =
         let held : Entry → Type 0 = (λ d. List·Memᴰ d (work .entries)) in
-        let f : isFinished start ≡ false = seek-unfinished words (2 * t .places) (callAt words s) start e in
-        let x = seek-two (r .related .store) words (r .related .reads) (r .related .covered) (callAt words s) (get words (atSince s)) held start n f e (begins h l q (r .related) work n few) in
+        let x = seek-five (r .related .store) words (r .related .reads) (r .related .covered) (callAt words s) (get words (atSince s)) held start n e (begins h l q (r .related) work n few) in
         outcome-of h l q (r .related) work sought (x .0) (x .2) n (inl (x .1))

@@ -5,7 +5,7 @@ use mathlib.Core.Path.{_≡_, refl, sym, ap, subst, _∙_}
 use mathlib.Core.Logic.{inl, inr}
 use mathlib.Core.Bool.{true, cond, _&&_}
 use mathlib.Core.List.{List, map}
-use mathlib.Core.Option.{none}
+use mathlib.Core.Option.{none, some}
 use native.Mathlib.Omega.{arith}
 use native.Mathlib.Numerals.{add-one}
 use native.Mathlib.Decide.{ℕ-discrete}
@@ -30,13 +30,14 @@ use Rattle.rows.proofs.OpeningLaws.{opened-tells}
 use Rattle.rows.proofs.TakenLaws.{least-removals, least-since, least-greatest}
 use Rattle.rows.proofs.SoundLaws.{answer-of}
 use Rattle.table.specs.Record.{Same, without}
-use Rattle.table.specs.Call.{remove, Answer, answer}
+use Rattle.table.specs.Call.{remove, Answer, answer, nearest}
 use Rattle.table.specs.Table.{Station, unfinished, waiting, Table, put, withStations, answerOf}
 use Rattle.table.proofs.Sound.{Sound, removals-changes}
 use Rattle.table.proofs.Eager.{Settled}
 use Rattle.table.proofs.Stations.{put-cases}
 use Rattle.table.proofs.Simulation.{finished}
 use Rattle.table.proofs.Answers.{remove-held, finished-change}
+use Rattle.table.proofs.Removals.{since-le}
 use Rattle.trees.specs.Row.{Entry, leafRow}
 use Rattle.trees.specs.Tree.{Has, entriesOf}
 use Rattle.trees.specs.Queue.{tailOf}
@@ -53,15 +54,15 @@ use Rattle.moves.specs.declared.unlink.Around.{Around}
 use Rattle.moves.specs.Reply.{done, more}
 use Rattle.moves.specs.Answer.{answer as wordAnswer, answeredWords}
 use Rattle.moves.specs.Unlink.{aroundAt, aroundSound, unlinkTail, unlinkRoot, unlinkCounts, unlinkRows, stationsMoved, unlinkWords, unlinkOf}
-use Rattle.history.specs.View.{Counts, Seat, countsAt, placeAt, seatAt, noPlace, seatPut, marksIn, Written}
+use Rattle.history.specs.View.{Counts, Seat, countsAt, placeAt, seatAt, seatPut, marksIn, Written, answeredSeat}
 use Rattle.history.specs.Related.{recordOf, Busy, Says, Marking, Counted, Related}
 use Rattle.history.proofs.RelatedLaws.{more-is}
 use Rattle.history.proofs.Effects.{reads-in, answer-written, answer-rows, movedSeat, unlink-written, unlink-same-rows}
-use Rattle.history.proofs.Outcome.{Outcome, ends}
+use Rattle.history.proofs.Outcome.{Outcome, ends, leftAt, Beside, Next}
 use Rattle.history.proofs.Readings.{removed-change, removedTable, changed-remove}
 use Rattle.history.proofs.UnlinkAround.{aroundOf, around-is, around-sound, alone-side}
 use Rattle.history.proofs.UnlinkRows.{RowsUnlinked, rows-unlinked}
-use Rattle.history.proofs.UnlinkSeats.{says-moved, marking-moved}
+use Rattle.history.proofs.UnlinkSeats.{says-moved, marking-moved, left-moved}
 use Rattle.history.proofs.RowKinds.{kindAt}
 use Rattle.history.proofs.UnlinkMarks.{marks-unlinked}
 use Rattle.history.proofs.UnlinkHeld.{curve-removed, records-unlinked, number-unlinked}
@@ -167,17 +168,17 @@ module _ (words : List ℕ) (t : Table) (s i : ℕ) (p : Point) (at parent : ℕ
   opened₂ : openedIn words₂ ≡ Opened (t .places) (t .limit)
   opened₂ = counted₂ .opened ∙ R .opened
 
-  answered : Written words₂ words₃ (countsAt words₂) (seatPut (λ u. seatAt words₂ u) s (record { place = noPlace; state = 2; call = seatAt words₂ s .call; answer = given }))
+  answered : Written words₂ words₃ (countsAt words₂) (seatPut (λ u. seatAt words₂ u) s (answeredSeat (seatAt words₂ s) given))
   answered = answer-written words₂ (t .places) (t .limit) opened₂ s below given given-sound
 
   counts-are : countsAt words₃ ≡ counts
   counts-are = answered .counted ∙ counted₂ .counted
 
-  seat-own : seatAt words₃ s ≡ record { place = noPlace; state = 2; call = seatAt words₂ s .call; answer = given }
-  seat-own = answered .seated s below ∙ put-own (λ u. seatAt words₂ u) s (record { place = noPlace; state = 2; call = seatAt words₂ s .call; answer = given })
+  seat-own : seatAt words₃ s ≡ answeredSeat (seatAt words₂ s) given
+  seat-own = answered .seated s below ∙ put-own (λ u. seatAt words₂ u) s (answeredSeat (seatAt words₂ s) given)
 
   seat-other : (u : ℕ) → u < 8 → ¬ (u ≡ s) → seatAt words₃ u ≡ movedSeat around (seatAt words u)
-  seat-other u k n = answered .seated u k ∙ put-other (λ v. seatAt words₂ v) s u (record { place = noPlace; state = 2; call = seatAt words₂ s .call; answer = given }) n ∙ counted₂ .seated u k
+  seat-other u k n = answered .seated u k ∙ put-other (λ v. seatAt words₂ v) s u (answeredSeat (seatAt words₂ s) given) n ∙ counted₂ .seated u k
 
   -- ---- the table
 
@@ -270,6 +271,29 @@ module _ (words : List ℕ) (t : Table) (s i : ℕ) (p : Point) (at parent : ℕ
     marking = marking-after;
   }
 
+  -- no other search has more left, but for one look, which was spent
+  beside : Beside R related s
+  unfolding related countsAt
+  beside u k d j target a q =
+      let b : Busy t (R .tree) (R .queue) (seatAt words u) j (nearest target) (some a) = rw q at (R .seats u k) in
+      let few = left-moved t p stations (R .heap) (unlinked-rows .heap) (R .tree) (R .queue) (leastSince words) (tailOf (R .queue)) leaf (R .store) has after removals-few (seatAt words u) j target a b in
+      let now = ap (λ (z : Seat). leftAt (after .tree) (after .queue) z) (seat-other u k d) in
+      let since = ap (λ (z : Seat). z .place .since) (seat-other u k d) in
+      omega (
+        arith,
+        few,
+        now,
+        since,
+        b .works .since,
+        since-le j (t .removals),
+        R .counted .held,
+        R .counted .removals,
+        number-is,
+        after .count,
+        ap (λ (c : Counts). c .held) counts-are,
+        ap (λ (c : Counts). c .removals) counts-are,
+      )
+
   -- ---- the reply
 
   passes : (aroundSound around && leb 1 (get words atHeld)) ≡ true
@@ -281,7 +305,7 @@ module _ (words : List ℕ) (t : Table) (s i : ℕ) (p : Point) (at parent : ℕ
   reply-is = rw (gathered, passes, asked) refl
 
   outcome : (n : ℕ) → Outcome R s (remove p) none n (unlinkOf words rows s (callAt words s) at)
-  outcome n = rw reply-is (ends refl (rw finished-is related))
+  outcome n = rw reply-is (ends refl (subst (λ (x : Table). Next R s words₃ x) (sym finished-is) (record { related = related; beside = beside })))
 
 -- A remove that stands at the leaf of its point, with changes left, ends there with code 5.
 pub unlink-outcome : {words : List ℕ} {t : Table} {s i : ℕ} {p : Point} (at parent : ℕ) (e : Entry) → Sound t → Settled t → s < 8 → t .stations s ≡ unfinished i (remove p) none → (R : Related words t)

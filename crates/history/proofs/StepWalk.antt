@@ -31,7 +31,7 @@ use Rattle.trees.specs.Tree.{Tree}
 use Rattle.trees.specs.Queue.{Free}
 use Rattle.trees.specs.Route.{OnRoute, Walking, standsAt, downRow}
 use Rattle.trees.specs.Reads.{LeafAt, CutAt}
-use Rattle.trees.specs.Measure.{walkLeft, Descends}
+use Rattle.trees.specs.Measure.{walkLeft, Descends, stepMoves}
 use Rattle.trees.specs.Below.{Marks, Passed}
 use Rattle.trees.proofs.MarkLaws.{pass-stands}
 use Rattle.trees.proofs.RouteLaws.{on-route-has, walk-stands, walk-down}
@@ -158,15 +158,15 @@ call-walks t tree queue seat i (nearest p) e w = absurd (true≢false (sym (near
 
 module _ {words : List ℕ} {t : Table} {s i n : ℕ} {c : Call} (l : s < 8) (q : t .stations s ≡ unfinished i c none) (e : isSearch c ≡ false) (r : Related words t) where
   -- the walk goes on to row `to`, in words that have gained marks alone
-  goes-to : (to : ℕ) → OnRoute (r .tree) (pointOf c) to → 2 + 2 * walkLeft (r .tree) to ≤ n → (w : List ℕ) (v : Related w t) → v .tree ≡ r .tree → v .queue ≡ r .queue
+  goes-to : (to : ℕ) → OnRoute (r .tree) (pointOf c) to → stepMoves + stepMoves * walkLeft (r .tree) to ≤ n → (w : List ℕ) (v : Related w t) → v .tree ≡ r .tree → v .queue ≡ r .queue
       → ((u : ℕ) → u < 8 → seatAt w u ≡ seatAt words u) → Marking (marksIn w) (r .tree) to (unfinished i c none) → Outcome r s c none n (done (putPlace w s to 0))
   goes-to to o few w v tree queue seats m =
       let there : to ≢ NONE = λ y. omega (arith, y, r .store .inside to (on-route-has (r .tree) (pointOf c) to o), r .store .fits) in
       let on : OnRoute (v .tree) (pointOf c) to = rw tree o in
       let marked : Marking (marksIn w) (v .tree) to (unfinished i c none) = rw tree m in
-      let left : 2 * walkLeft (v .tree) to ≤ 2 * walkLeft (r .tree) to = rw tree (omega arith) in
-      let a = aside-walks s l v to q e on marked (2 * walkLeft (r .tree) to) there left in
-      goesOn refl (2 * walkLeft (r .tree) to) few (left-walks s l v to q e on marked (2 * walkLeft (r .tree) to) there left)
+      let left : stepMoves * walkLeft (v .tree) to ≤ stepMoves * walkLeft (r .tree) to = rw tree (omega arith) in
+      let a = aside-walks s l v to q e on marked (stepMoves * walkLeft (r .tree) to) there left in
+      goesOn refl (stepMoves * walkLeft (r .tree) to) few (left-walks s l v to q e on marked (stepMoves * walkLeft (r .tree) to) there left)
       (record { tree = a .tree ∙ tree; queue = a .queue ∙ queue; others = λ u k d. a .others u k d ∙ seats u k })
 
 -- what its way makes of the words: an add marks it, another call does not
@@ -181,7 +181,7 @@ passed-other words call way kind k e = rw (k, e)
 -- it goes on to the end of its way, which an add has marked
 goes-on : {words : List ℕ} {t : Table} {s i n : ℕ} (c : Call) → s < 8 → t .stations s ≡ unfinished i c none → isSearch c ≡ false → (r : Related words t) (x : ℕ)
     → MarkedTo (marksIn words) (r .tree) c x → OnRoute (r .tree) (pointOf c) (wayOf words (2 * t .places) (pointOf c) x .to)
-    → 2 + 2 * walkLeft (r .tree) (wayOf words (2 * t .places) (pointOf c) x .to) ≤ n
+    → stepMoves + stepMoves * walkLeft (r .tree) (wayOf words (2 * t .places) (pointOf c) x .to) ≤ n
     → Outcome r s c none n
     (done (putPlace (passedWords words (callAt words s) (wayOf words (2 * t .places) (pointOf c) x)) s (wayOf words (2 * t .places) (pointOf c) x .to) 0))
 unfolding related-marked seatAt
@@ -220,7 +220,7 @@ module _ {words : List ℕ} {t : Table} {s i n : ℕ} {c : Call} (sound : Sound 
       rw (r .reads x (r .store .inside x (on-route-has (r .tree) (pointOf c) x o)), a .reads, or-right (eqb x NONE) {b = true} refl)
       (at-leaf c sound settled l q e r x (a .parent) (a .entry) o (a .reads) m)
 
-  from-cut : (x : ℕ) → OnRoute (r .tree) (pointOf c) x → MarkedTo (marksIn words) (r .tree) c x → 2 * walkLeft (r .tree) x ≤ n → CutAt (r .heap) (r .tree) x → From x
+  from-cut : (x : ℕ) → OnRoute (r .tree) (pointOf c) x → MarkedTo (marksIn words) (r .tree) c x → stepMoves * walkLeft (r .tree) x ≤ n → CutAt (r .heap) (r .tree) x → From x
   unfolding seatAt
   from-cut x o m few a =
       let to : ℕ = wayOf words (2 * t .places) (pointOf c) x .to in
@@ -230,7 +230,7 @@ module _ {words : List ℕ} {t : Table} {s i n : ℕ} {c : Call} (sound : Sound 
       (subst (λ (y : Point). Outcome r s c none n (walkTo words s (callAt words s) (wayOf words (2 * t .places) y x))) (sym (busy .point))
       (rw (ne-eqb to NONE there) (goes-on c l q e r x m (d .0) (omega (arith, d .1)))))
 
-  from-row : (x : ℕ) → OnRoute (r .tree) (pointOf c) x → MarkedTo (marksIn words) (r .tree) c x → 2 * walkLeft (r .tree) x ≤ n → From x
+  from-row : (x : ℕ) → OnRoute (r .tree) (pointOf c) x → MarkedTo (marksIn words) (r .tree) c x → stepMoves * walkLeft (r .tree) x ≤ n → From x
   from-row x o m few = elim (read-row (r .tree) (r .store) (on-route-has (r .tree) (pointOf c) x o)) [ inl a ↦ from-leaf x o m a | inr a ↦ from-cut x o m few a ]
 
   -- the row where the walk stands, in the words

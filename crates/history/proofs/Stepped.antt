@@ -43,7 +43,7 @@ module _ (t : Table) (s i : ℕ) (c : Call) (o : Option Answer) (h : Sound t) (k
   one-step : (words : List ℕ) (n : ℕ) (z : Left words t s n) → Outcome (z .related) s c o n (stepOf words s) → ((m : ℕ) → m < n → Left (stepOf words s .words) t s m → Stepped (stepOf words s .words) t s c o m)
       → Stepped words t s c o n
   unfolding stepped
-  one-step words n z (ends e r) f = record { before = 0; few = omega arith; answered = (e, is-answered (stepOf words s .words) r); related = r }
+  one-step words n z (ends e r) f = record { before = 0; few = omega arith; answered = (e, is-answered (stepOf words s .words) (r .related)); related = r .related }
   one-step words n z (goesOn e m g w a) f =
       let v = f m (omega arith) w in
       record { before = suc (v .before); few = omega (arith, v .few); answered = (e, not-answered (stepOf words s .words) (w .related), v .answered); related = v .related }

@@ -2,10 +2,9 @@
 -- the root.
 use Prim.Native.Nat.{ℕ, zero, suc, _≤_, _<_}
 use mathlib.Core.Path.{_≡_, refl, sym, _∙_}
-use mathlib.Core.Logic.{_↔_}
 use mathlib.Core.Bool.{Bool, true, false, cond}
 use mathlib.Core.List.{List}
-use mathlib.Core.Option.{Option, none, some}
+use mathlib.Core.Option.{Option, none}
 use native.Mathlib.Omega.{arith}
 use lib.Dec.{eqb, leb}
 use borrow.Author.Tests.{leb-true}
@@ -17,18 +16,14 @@ use Rattle.rows.specs.Words.{get}
 use Rattle.rows.specs.Common.{leastSince}
 use Rattle.rows.proofs.SoundLaws.{noBest-point}
 use Rattle.rows.proofs.TakenLaws.{least-removals, least-since, least-greatest}
+use Rattle.rows.specs.Target.{targetAt}
 use Rattle.table.specs.Call.{Call, add, remove, contains, nearest, callOf, kindInRange, pointOf}
 use Rattle.table.specs.Table.{unfinished, Table}
 use Rattle.table.specs.Event.{enter}
 use Rattle.table.proofs.Tests.{and-left, and-right}
 use Rattle.table.proofs.Sound.{Sound}
 use Rattle.table.proofs.Taken.{since-enter}
-use Rattle.trees.specs.Row.{Entry}
 use Rattle.trees.specs.Tree.{Tree, topOf, entriesOf}
-use Rattle.trees.specs.Queue.{Free}
-use Rattle.trees.specs.Tour.{Best, Progress}
-use Rattle.trees.specs.Choice.{Choice}
-use Rattle.trees.specs.Search.{Found, Search}
 use Rattle.trees.specs.Below.{Marks}
 use Rattle.trees.proofs.ChoiceOf.{choiceOf}
 use Rattle.trees.proofs.MarkLaws.{pass-begin}
@@ -51,7 +46,7 @@ use Rattle.history.proofs.SaysLaws.{seat-put-each, says-put, marking-pu
 -- the seat of a call that was just submitted
 abbrev begunSeat : List ℕ → ℕ → ℕ → Point → ℕ → Seat
 begunSeat words s kind p c = record {
-  place = record { cursor = get words atRoot; phase = 0; since = sinceFor (get words atRemovals) kind; missed = NONE };
+  place = record { cursor = get words atRoot; phase = 0; since = sinceFor (get words atRemovals) kind; missed = NONE; target = cond (eqb kind 4) p (targetAt words s) };
   state = 1;
   call = callFor (get words atChanges) kind p c;
   answer = seatAt words s .answer;
@@ -68,6 +63,7 @@ module _ {words : List ℕ} {t : Table} (s : ℕ) (p : Point) (c : ℕ) (h : Sou
   unfolding callFor enter
   search-begun = record {
     since = word-removals r ∙ sym (since-enter t s (nearest p) h);
+    aimed = refl;
     entries = entriesOf (r .tree);
     once = entries-once r;
     ranged = λ e m. held-ranged r e (entries-held (r .tree) e .0 m);

@@ -4,6 +4,7 @@ use mathlib.Core.Path.{_≡_, refl, _∙_}
 use mathlib.Core.Bool.{Bool}
 use mathlib.Core.List.{List, List·Memᴰ}
 use native.Mathlib.Omega.{arith}
+use Rattle.points.specs.declared.point.Point.{Point}
 use Rattle.rows.specs.declared.row.Row.{Row}
 use Rattle.rows.specs.declared.station.State.{State}
 use Rattle.rows.specs.declared.call.Best.{Best}
@@ -14,6 +15,7 @@ use Rattle.rows.specs.Agree.{Agree, Region, inCommon, inStation, inRow, OnlyIn}
 use Rattle.rows.specs.Row.{rowAt, putRow}
 use Rattle.rows.specs.Grades.{admits, markToward, beginGrades}
 use Rattle.rows.specs.Common.{openedIn}
+use Rattle.rows.specs.Target.{putTarget}
 use Rattle.rows.specs.Station.{putState, putPlace, putSince, putMissed}
 use Rattle.rows.specs.Call.{putBest, putCall}
 use Rattle.rows.specs.Answer.{putAnswer}
@@ -21,6 +23,7 @@ use Rattle.rows.proofs.AgreeLaws.{put-agree}
 use Rattle.rows.proofs.RowLaws.{putRow-only, putRow-agree, rowAt-agree}
 use Rattle.rows.proofs.GradeLaws.{admits-agree, toward-only, toward-agree, begin-only, begin-agree}
 use Rattle.rows.proofs.OpeningLaws.{openedIn-agree}
+use Rattle.rows.proofs.TargetLaws.{putTarget-only, putTarget-agree}
 use Rattle.rows.proofs.StationLaws.{putState-only, putState-agree, putBest-only, putBest-agree, putCall-only, putCall-agree, putAnswer-only, putAnswer-agree, putPlace-only, putPlace-agree, putSince-only, putSince-agree, putMissed-only, putMissed-agree, put-common}
 use Rattle.history.specs.Touch.{AgreeOn, KeepsOthers, Leaves}
 
@@ -92,6 +95,9 @@ module _ {v w v′ w′ : List ℕ} {s : ℕ} {rows : List ℕ} (l : Leaves v w 
 
   pub leaves-missed : (x y : ℕ) → x ≡ y → Leaves v w (putMissed v′ s x) (putMissed w′ s y) s rows
   leaves-missed x y e = rw (← e) (more-leaves inCommon the-common (λ i n a. putMissed-agree a s x) (putMissed-only v′ s x) (putMissed-only w′ s x) l)
+
+  pub leaves-target : (p : Point) → Leaves v w (putTarget v′ s p) (putTarget w′ s p) s rows
+  leaves-target p = more-leaves inCommon the-common (λ i n a. putTarget-agree a s p) (putTarget-only v′ s p) (putTarget-only w′ s p) l
 
   pub leaves-row : (r : ℕ) (x : Row) → List·Memᴰ r rows → Leaves v w (putRow v′ r x) (putRow w′ r x) s rows
   leaves-row r x m = more-leaves (inRow r) (a-row m) (λ i n a. putRow-agree a r x) (putRow-only v′ r x) (putRow-only w′ r x) l

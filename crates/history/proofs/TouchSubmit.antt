@@ -1,19 +1,21 @@
 -- What a submission touches: the common record and the station's, and these alone decide it (`submit-touch`).
 use Prim.Native.Nat.{ℕ}
 use mathlib.Core.Path.{_≡_, refl, ap}
+use mathlib.Core.Bool.{Bool, true, false, cond}
 use mathlib.Core.List.{List, []}
 use native.Mathlib.Omega.{arith}
-use lib.Dec.{ltb}
+use lib.Dec.{eqb, ltb}
 use Rattle.points.specs.declared.point.Point.{Point}
 use Rattle.points.specs.Point.{inRange}
 use Rattle.rows.specs.Layout.{atChanges, atRoot, atRemovals}
+use Rattle.rows.specs.Target.{putTarget}
 use Rattle.rows.specs.Common.{openedIn}
 use Rattle.rows.specs.Station.{isIdle, stateAt}
 use Rattle.rows.proofs.RecordLaws.{stateAt-agree}
 use Rattle.moves.specs.Reply.{isOpened}
-use Rattle.steps.specs.Submit.{kindIn, curveFits, callFor, sinceFor, begunWords, submittedWords, submitOf}
+use Rattle.steps.specs.Submit.{kindIn, curveFits, callFor, sinceFor, begunWords, aimedWords, submittedWords, submitOf}
 use Rattle.history.specs.Touch.{AgreeOn, Leaves}
-use Rattle.history.proofs.TouchLaws.{get-same, opened-same, leaves-nothing, leaves-state, leaves-call, leaves-place, leaves-since, leaves-missed}
+use Rattle.history.proofs.TouchLaws.{get-same, opened-same, leaves-nothing, leaves-state, leaves-call, leaves-place, leaves-since, leaves-missed, leaves-target}
 use Rattle.history.proofs.TouchReply.{Alike, alike-done, alike-ask}
 
 module _ {v w : List ℕ} {s : ℕ} {rows : List ℕ} where
@@ -25,12 +27,22 @@ module _ {v w : List ℕ} {s : ℕ} {rows : List ℕ} where
       (leaves-since (leaves-place l _ _ _ _ (get-same (l .agree) atRoot (omega arith)) refl) _ _
       (ap (λ x. sinceFor x kind) (get-same (l .agree) atRemovals (omega arith)))) _ _ refl
 
+  -- a nearest leaves its target
+  aimed-leaves : {v′ w′ : List ℕ} → Leaves v w v′ w′ s rows → (kind : ℕ) (p : Point) → Leaves v w (aimedWords v′ s kind p) (aimedWords w′ s kind p) s rows
+  unfolding aimedWords
+  aimed-leaves {v′} {w′} l kind p = go (eqb kind 4)
+    where
+      go : (b : Bool) → Leaves v w (cond b (putTarget v′ s p) v′) (cond b (putTarget w′ s p) w′) s rows
+      go true = leaves-target l p
+      go false = l
+
   -- what is written
   submitted-leaves : AgreeOn v w s rows → (kind : ℕ) (p : Point) (c : ℕ) → Leaves v w (submittedWords v s kind p c) (submittedWords w s kind p c) s rows
   unfolding submittedWords
   submitted-leaves a kind p c =
-      begun-leaves
-      (leaves-state (leaves-call (leaves-nothing a) _ _ (ap (λ x. callFor x kind p c) (get-same a atChanges (omega arith)))) _ _ refl) kind
+      aimed-leaves
+      (begun-leaves
+      (leaves-state (leaves-call (leaves-nothing a) _ _ (ap (λ x. callFor x kind p c) (get-same a atChanges (omega arith)))) _ _ refl) kind) kind p
 
   -- the questions, which two slices that agree answer alike
   submit-alike : AgreeOn v w s rows → (kind : ℕ) (p : Point) (c : ℕ) → Alike v w (submitOf v s kind p c) (submitOf w s kind p c) s rows

@@ -13,11 +13,12 @@ use Rattle.rows.specs.declared.call.Call.{Call}
 use Rattle.rows.specs.Layout.{atChanges, atHeld, atRoot, atTail, atRemovals, atCursor, atPhase, atSince, atMissed}
 use Rattle.rows.specs.Words.{get}
 use Rattle.rows.specs.Row.{rowAt}
+use Rattle.rows.proofs.TargetLaws.{targetAt-agree}
 use Rattle.rows.proofs.RowLaws.{rowAt-outside}
 use Rattle.moves.specs.declared.unlink.Around.{Around}
 use Rattle.moves.specs.Link.{nextOf, parentOf, siblingOf, linksTo, isLeaf, isTree, isFree, withNext, withParent, removedAs, replaced}
 use Rattle.moves.specs.Reply.{more}
-use Rattle.moves.specs.Unlink.{aroundAt, aroundSound, unlinkRows, unlinkRoot, unlinkCounts, cursorAfter, phaseAfter, missedAfter, stationMoved, stationsMoved, unlinkWords, unlinkTo, unlinkOf}
+use Rattle.moves.specs.Unlink.{aroundAt, aroundSound, unlinkRows, unlinkRoot, unlinkCounts, landing, cursorAfter, phaseAfter, missedAfter, stationMoved, stationsMoved, unlinkWords, unlinkTo, unlinkOf}
 use Rattle.history.specs.Touch.{AgreeOn, Leaves, aroundRows, rowsBelow}
 use Rattle.history.proofs.TouchLaws.{get-same, leaves-nothing, leaves-put}
 use Rattle.history.proofs.TouchRows.{the-first, the-second, the-third, the-fourth, the-fifth, row-alike, leaves-below, none-idle, bad-idle}
@@ -96,7 +97,11 @@ module _ {v w : List ℕ} {s : ℕ} {rows : List ℕ} (a : AgreeOn v w s rows) (
 
   phase-same : phaseAfter v n x ≡ phaseAfter w n x
   unfolding phaseAfter
-  phase-same = ap₂ (λ c p. cond (eqb c (x .at)) 0 p) (get-same a (atCursor n) (omega arith)) (get-same a (atPhase n) (omega arith))
+  phase-same =
+      let cursor = get-same a (atCursor n) (omega arith) in
+      let target = targetAt-agree n (omega arith) (a .common) in
+      let phase = get-same a (atPhase n) (omega arith) in
+      λ i. cond (eqb (cursor i) (x .at)) (landing (target i) (x .at) (x .cut)) (phase i)
 
   missed-same : missedAfter v n x ≡ missedAfter w n x
   unfolding missedAfter

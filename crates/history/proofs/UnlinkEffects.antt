@@ -1,5 +1,5 @@
 -- What an unlink writes of the common record: it counts a removal, puts rows behind the queue, and moves the cursors on the leaf and on the cut
--- over it to the cut's other child; an unfinished nearest that has missed nothing yet has now missed the leaf.
+-- over it to the cut's other child, those on the leaf in the phase of `landing`; an unfinished nearest that has missed nothing yet has now missed the leaf.
 use Prim.Native.Nat.{ℕ, zero, suc, _*_, _-_, _≤_, _<_}
 use mathlib.Core.Path.{_≡_}
 use mathlib.Core.Bool.{cond, _&&_, _||_, not}
@@ -11,31 +11,34 @@ use Rattle.points.specs.Word.{NONE}
 use Rattle.rows.specs.declared.common.Opening.the-variants.{Opened}
 use Rattle.rows.specs.Layout.{atChanges, atHeld, atRoot, atHead, atTail, atRemovals, atCursor, atPhase, atSince, atMissed}
 use Rattle.rows.specs.Words.{get}
+use Rattle.rows.specs.Target.{targetAt}
 use Rattle.rows.specs.Common.{openedIn}
 use Rattle.rows.proofs.OpeningLaws.{opened-tells}
 use Rattle.moves.specs.declared.unlink.Around.{Around}
 use Rattle.moves.specs.Reply.{more}
-use Rattle.moves.specs.Unlink.{unlinkTail, unlinkRoot, unlinkCounts, cursorAfter, phaseAfter, missedAfter, stationMoved, stationsMoved}
+use Rattle.moves.specs.Unlink.{unlinkTail, unlinkRoot, unlinkCounts, landing, cursorAfter, phaseAfter, missedAfter, stationMoved, stationsMoved}
 use Rattle.history.specs.View.{Counts, Place, Seat, countsAt, placeAt, seatAt, withPlace, SameRows, Written}
 use Rattle.history.proofs.Frame.{place-of, place-same}
 use Rattle.history.proofs.CountEffects.{Counting, counting-none, counting-put}
-use Rattle.history.proofs.PlaceEffects.{MovedAt, Moved, moved-none, moved-next, three-other, three-first, three-second, three-third, three-only, moved-written, moved-rows}
+use Rattle.history.proofs.PlaceEffects.{MovedAt, Moved, moved-none, moved-next, three-other, three-first, three-second, three-third, three-target, three-only, moved-written, moved-rows}
 
 -- a leaf and the cut over it leave
 abbrev pub movedSeat : Around → Seat → Seat
 movedSeat a seat = withPlace seat (record {
   cursor = cond (eqb (seat .place .cursor) (a .at) || eqb (seat .place .cursor) (a .over)) (a .side) (seat .place .cursor);
-  phase = cond (eqb (seat .place .cursor) (a .at)) 0 (seat .place .phase);
+  phase = cond (eqb (seat .place .cursor) (a .at)) (landing (seat .place .target) (a .at) (a .cut)) (seat .place .phase);
   since = seat .place .since;
   missed = cond (not (eqb (seat .place .since) NONE) && eqb (seat .place .missed) NONE) (a .at) (seat .place .missed);
+  target = seat .place .target;
 })
 
 abbrev placeAfter : Around → Place → Place
 placeAfter a p = record {
   cursor = cond (eqb (p .cursor) (a .at) || eqb (p .cursor) (a .over)) (a .side) (p .cursor);
-  phase = cond (eqb (p .cursor) (a .at)) 0 (p .phase);
+  phase = cond (eqb (p .cursor) (a .at)) (landing (p .target) (a .at) (a .cut)) (p .phase);
   since = p .since;
   missed = cond (not (eqb (p .since) NONE) && eqb (p .missed) NONE) (a .at) (p .missed);
+  target = p .target;
 }
 
 module _ (a : Around) (n : ℕ) (w : List ℕ) (l : n < 8) (long : 96 ≤ length w) where
@@ -52,6 +55,10 @@ module _ (a : Around) (n : ℕ) (w : List ℕ) (l : n < 8) (long : 96 ≤ length
   unfolding stationMoved
   other = three-other w (atCursor n) (atPhase n) (atMissed n) c p m
 
+  target : (s : ℕ) → targetAt (stationMoved w n a) s ≡ targetAt w s
+  unfolding stationMoved
+  target s = three-target w (atCursor n) (atPhase n) (atMissed n) c p m s (omega arith) (omega arith) (omega arith)
+
   station-moved : MovedAt (placeAfter a) (stationMoved w n a) w n
   unfolding placeAt stationMoved cursorAfter phaseAfter missedAfter
   station-moved = record {
@@ -61,12 +68,14 @@ module _ (a : Around) (n : ℕ) (w : List ℕ) (l : n < 8) (long : 96 ≤ length
         (three-first w (atCursor n) (atPhase n) (atMissed n) c p m (λ e. omega arith) (λ e. omega arith) (omega arith))
         (three-second w (atCursor n) (atPhase n) (atMissed n) c p m (λ e. omega arith) (omega arith))
         (other (atSince n) (λ e. omega arith) (λ e. omega arith) (λ e. omega arith))
-        (three-third w (atCursor n) (atPhase n) (atMissed n) c p m (omega arith));
+        (three-third w (atCursor n) (atPhase n) (atMissed n) c p m (omega arith))
+        (target n);
     others = λ s h d.
         place-same (stationMoved w n a) w s (other (atCursor s) (λ e. d (omega arith)) (λ e. omega arith) (λ e. omega arith))
         (other (atPhase s) (λ e. omega arith) (λ e. d (omega arith)) (λ e. omega arith))
         (other (atSince s) (λ e. omega arith) (λ e. omega arith) (λ e. omega arith))
-        (other (atMissed s) (λ e. omega arith) (λ e. omega arith) (λ e. d (omega arith)));
+        (other (atMissed s) (λ e. omega arith) (λ e. omega arith) (λ e. d (omega arith)))
+        (target s);
   }
 
 stations-moved : (a : Around) (n : ℕ) (w : List ℕ) → n ≤ 8 → 96 ≤ length w → Moved (placeAfter a) (stationsMoved a n w) w n

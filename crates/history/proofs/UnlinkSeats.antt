@@ -1,5 +1,5 @@
 -- The other stations at an unlink: each seat, moved as the unlink moves it, says what the table's station says after the removal (`says-moved`).
-use Prim.Native.Nat.{ℕ, _≤_, _<_}
+use Prim.Native.Nat.{ℕ, _≤_, _<_, _+_}
 use mathlib.Core.Path.{_≡_, refl, sym, ap, _∙_}
 use mathlib.Core.Logic.{_≢_}
 use mathlib.Core.Bool.{Bool, true, false, cond, _&&_, _||_, not, true≢false}
@@ -11,40 +11,49 @@ use lib.Dec.{eqb}
 use lib.ListN.{length}
 use borrow.Author.Tests.{eqb-true, eq-eqb, ne-eqb}
 use Rattle.points.specs.declared.point.Point.{Point}
+use Rattle.points.specs.Cut.{goesLeft}
 use Rattle.points.specs.Word.{NONE}
+use Rattle.rows.specs.declared.row.Row.{Row as WordRow}
+use Rattle.rows.specs.declared.row.Row.the-variants.{Bad, Spare, Removed, Leaf as WordLeaf, Cut}
 use Rattle.table.specs.Call.{Call, add, remove, contains, nearest, Answer}
 use Rattle.table.specs.Table.{Station, idle, unfinished, waiting, Table, eight, searches}
 use Rattle.table.proofs.Stations.{eight-mem, searches-in}
 use Rattle.table.proofs.Removals.{sinceOf, since-le, since-removal}
 use Rattle.table.proofs.Eager.{fresh}
-use Rattle.trees.specs.Row.{Heap}
+use Rattle.trees.specs.Row.{Row, spareRow, removedRow, leafRow, cutRow, Heap}
 use Rattle.trees.specs.Tree.{Tree, Has}
 use Rattle.trees.specs.Queue.{Free}
 use Rattle.trees.specs.Store.{Store}
-use Rattle.trees.specs.Stand.{Down, Stand, pickStand, afterUnlink, missedAfter}
-use Rattle.trees.specs.Tour.{searchAfterUnlink}
+use Rattle.trees.specs.Stand.{Phase, Down, Up, Stand, pickStand, pickPhase, landingRow, landing, afterUnlink, missedAfter}
+use Rattle.trees.specs.Tour.{Progress, searchAfterUnlink}
 use Rattle.trees.specs.Reads.{Leaf}
 use Rattle.trees.specs.Unlink.{siblingRow, grandRow, Unlinked}
 use Rattle.trees.specs.Below.{Marks, Grows}
 use Rattle.trees.proofs.MarkLaws.{pass-grows}
+use Rattle.trees.proofs.ChoiceOf.{choiceOf}
 use Rattle.trees.proofs.RouteLaws.{walk-unlink}
 use Rattle.trees.proofs.SearchLaws.{search-unlink}
-use Rattle.history.specs.View.{Seat, phaseOf, progressOf}
+use Rattle.trees.specs.Measure.{stepMoves, progressLeft}
+use Rattle.trees.proofs.OthersLaws.{others-unlink}
+use Rattle.moves.specs.Unlink.{landing as landingWord}
+use Rattle.history.specs.View.{Seat, wordRow, phaseOf, progressOf}
 use Rattle.history.specs.Related.{Quiet, Searching, Walks, Works, Busy, Says, Marking}
 use Rattle.history.proofs.BusyLaws.{busy-on}
 use Rattle.history.proofs.Effects.{movedSeat}
 use Rattle.history.proofs.Readings.{nearest-search, nearest-fresh, removedTable, unlink-stand, unlink-missed}
-use Rattle.history.proofs.UnlinkAround.{aroundOf}
+use Rattle.history.proofs.UnlinkAround.{linkedRow, aroundOf}
+use Rattle.history.proofs.Outcome.{leftAt, left-target}
 
 -- ---- where a call stands
 
 -- cursor and phase are moved as the trees have it
-stand-moved : (leaf cut side c phase : ℕ)
-    → record { cursor = cond (eqb c leaf || eqb c cut) side c; phase = phaseOf (cond (eqb c leaf) 0 phase) } ≡ afterUnlink leaf cut side (record { cursor = c; phase = phaseOf phase })
-stand-moved leaf cut side c phase = go (eqb c leaf) (eqb c cut) ∙ sym (unlink-stand leaf cut side (record { cursor = c; phase = phaseOf phase }))
+stand-moved : (leaf cut side c phase lands : ℕ)
+    → record { cursor = cond (eqb c leaf || eqb c cut) side c; phase = phaseOf (cond (eqb c leaf) lands phase) }
+    ≡ afterUnlink leaf cut side (phaseOf lands) (record { cursor = c; phase = phaseOf phase })
+stand-moved leaf cut side c phase lands = go (eqb c leaf) (eqb c cut) ∙ sym (unlink-stand leaf cut side (phaseOf lands) (record { cursor = c; phase = phaseOf phase }))
   where
-    go : (a b : Bool) → _≡_ {A = Stand} (record { cursor = cond (a || b) side c; phase = phaseOf (cond a 0 phase) })
-        (pickStand a (record { cursor = side; phase = Down }) (pickStand b (record { cursor = side; phase = phaseOf phase }) (record { cursor = c; phase = phaseOf phase })))
+    go : (a b : Bool) → _≡_ {A = Stand} (record { cursor = cond (a || b) side c; phase = phaseOf (cond a lands phase) })
+        (pickStand a (record { cursor = side; phase = phaseOf lands }) (pickStand b (record { cursor = side; phase = phaseOf phase }) (record { cursor = c; phase = phaseOf phase })))
     go true b = refl
     go false true = refl
     go false false = refl
@@ -57,9 +66,37 @@ missed-moved leaf since missed n = rw (ne-eqb since NONE n) (sym (unlink-missed 
 missed-stays : (leaf since missed : ℕ) → since ≡ NONE → cond (not (eqb since NONE) && eqb missed NONE) leaf missed ≡ missed
 missed-stays leaf since missed e = rw (eq-eqb since NONE e) refl
 
-phase-in : (b : Bool) (phase : ℕ) → phase ≤ 1 → cond b 0 phase ≤ 1
-phase-in true phase l = omega arith
-phase-in false phase l = l
+phase-in : (b : Bool) (lands phase : ℕ) → lands ≤ 1 → phase ≤ 1 → cond b lands phase ≤ 1
+phase-in true lands phase k l = k
+phase-in false lands phase k l = l
+
+-- the phase in which a search lands is down or up
+lands-in : (target : Point) (leaf : ℕ) (row : WordRow) → landingWord target leaf row ≤ 1
+lands-in target leaf Bad = omega arith
+lands-in target leaf (Spare next freed) = omega arith
+lands-in target leaf (Removed next freed added point curve) = omega arith
+lands-in target leaf (WordLeaf parent added point curve) = omega arith
+lands-in target leaf (Cut parent cut left right) = go (eqb (cond (goesLeft cut target) left right) leaf)
+  where
+    go : (b : Bool) → cond b 0 1 ≤ 1
+    go true = omega arith
+    go false = omega arith
+
+-- and it is that of the trees
+lands-word : (target : Point) (h : Heap) (cut leaf : ℕ) → phaseOf (landingWord target leaf (linkedRow h cut)) ≡ landing (choiceOf target .side) h cut leaf
+unfolding landing
+lands-word target h cut leaf = go (eqb cut NONE) (h cut)
+  where
+    by : (b : Bool) → phaseOf (cond b 0 1) ≡ pickPhase b Down Up
+    by true = refl
+    by false = refl
+
+    go : (b : Bool) (row : Row) → phaseOf (landingWord target leaf (cond b Bad (wordRow row))) ≡ pickPhase b Down (landingRow (choiceOf target .side) leaf row)
+    go true row = refl
+    go false (spareRow next n) = refl
+    go false (removedRow next n e) = refl
+    go false (leafRow parent e) = refl
+    go false (cutRow parent k l r) = by (eqb (cond (goesLeft k target) l r) leaf)
 
 -- ---- the seats
 
@@ -69,11 +106,15 @@ module _ (t : Table) (p : Point) (f : ℕ → Station) (h h′ : Heap) (tree : O
   abbrev moved : Seat → Seat
   moved seat = movedSeat (aroundOf h tail l) seat
 
+  -- the phase in which the search of a seat lands
+  abbrev landsAt : Seat → ℕ
+  landsAt seat = landingWord (seat .place .target) (l .row) (linkedRow h (l .parent))
+
   -- a place that stands nowhere stays so
   quiet-moved : (seat : Seat) → Quiet (seat .place) → Quiet (moved seat .place)
   quiet-moved seat v = record {
     cursor = cursor (eqb NONE (l .parent)) refl;
-    phase = phase (eqb (seat .place .cursor) (l .row)) (v .phase);
+    phase = rw (v .cursor, off) (v .phase);
     since = v .since;
     missed = missed-stays (l .row) (seat .place .since) (seat .place .missed) (v .since) ∙ v .missed;
   }
@@ -86,10 +127,6 @@ module _ (t : Table) (p : Point) (f : ℕ → Station) (h h′ : Heap) (tree : O
       cursor true e = rw (v .cursor, off, e) (rw (eq-eqb (l .parent) NONE (sym (eqb-true NONE (l .parent) e))))
       cursor false e = rw (v .cursor, off, e)
 
-      phase : (b : Bool) → seat .place .phase ≡ 0 → cond b 0 (seat .place .phase) ≡ 0
-      phase true e = refl
-      phase false e = e
-
   -- an add, a remove or a contains
   walks-moved : (seat : Seat) (point : Point) (set : Option Answer) → Walks tree seat point set → Walks (w .tree) (moved seat) point set
   walks-moved seat point set v =
@@ -98,7 +135,8 @@ module _ (t : Table) (p : Point) (f : ℕ → Station) (h h′ : Heap) (tree : O
         since = v .since;
         missed = missed-stays (l .row) (seat .place .since) (seat .place .missed) (v .since) ∙ v .missed;
         unset = v .unset;
-        walking = rw (ap (λ (x : Stand). x .cursor) (stand-moved (l .row) (l .parent) (siblingRow h l) (seat .place .cursor) (seat .place .phase))) (walk-unlink w point stand (v .walking));
+        walking = rw (ap (λ (x : Stand). x .cursor) (stand-moved (l .row) (l .parent) (siblingRow h l) (seat .place .cursor) (seat .place .phase) (landsAt seat)))
+            (walk-unlink w point (phaseOf (landsAt seat)) stand (v .walking));
         best = v .best;
       }
 
@@ -109,9 +147,14 @@ module _ (t : Table) (p : Point) (f : ℕ → Station) (h h′ : Heap) (tree : O
       since-removal i (searches eight (t .stations)) (t .removals)
       (searches-in eight (t .stations) u i (eight-mem u k) (record { call = nearest target; set = set; is = e; search = nearest-search target }))
 
-  progress-moved : (seat : Seat) → seat .place .since ≢ NONE → progressOf (moved seat) ≡ searchAfterUnlink (l .row) (l .parent) (siblingRow h l) (progressOf seat)
+  -- a search goes on where the trees have it
+  abbrev progressAfter : Point → Seat → Progress
+  progressAfter target seat = searchAfterUnlink (l .row) (l .parent) (siblingRow h l) (landing (choiceOf target .side) h (l .parent) (l .row)) (progressOf seat)
+
+  progress-moved : (seat : Seat) → seat .place .since ≢ NONE → progressOf (moved seat) ≡ progressAfter (seat .place .target) seat
   progress-moved seat n =
-      let stands = stand-moved (l .row) (l .parent) (siblingRow h l) (seat .place .cursor) (seat .place .phase) in
+      let stands = stand-moved (l .row) (l .parent) (siblingRow h l) (seat .place .cursor) (seat .place .phase) (landsAt seat)
+      ∙ ap (λ (x : Phase). afterUnlink (l .row) (l .parent) (siblingRow h l) x (progressOf seat .stand)) (lands-word (seat .place .target) h (l .parent) (l .row)) in
       let missed = missed-moved (l .row) (seat .place .since) (seat .place .missed) n in
       λ i. record { stand = stands i; missed = missed i; best = progressOf seat .best }
 
@@ -122,10 +165,11 @@ module _ (t : Table) (p : Point) (f : ℕ → Station) (h h′ : Heap) (tree : O
       let there : seat .place .since ≢ NONE = λ z. omega (arith, v .since, since-le i (t .removals)) in
       record {
         since = v .since ∙ sym (since-stays u i target (some a) k e);
+        aimed = v .aimed;
         entries = v .entries;
         once = v .once;
         ranged = v .ranged;
-        search = rw (progress-moved seat there, add-one (t .changes)) (search-unlink st w (v .search));
+        search = rw (progress-moved seat there, v .aimed, add-one (t .changes)) (search-unlink st w (v .search));
         answer = v .answer;
       }
 
@@ -133,7 +177,8 @@ module _ (t : Table) (p : Point) (f : ℕ → Station) (h h′ : Heap) (tree : O
   busy-moved : (seat : Seat) (i : ℕ) (call : Call) (set : Option Answer) (v : Busy t tree queue seat i call set)
       → Works (removedTable t p f) (w .tree) (w .queue) (moved seat) i call set → Busy (removedTable t p f) (w .tree) (w .queue) (moved seat) i call set
   busy-moved seat i call set v works =
-      busy-on v (moved seat .place) (omega (arith, v .asof)) (phase-in (eqb (seat .place .cursor) (l .row)) (seat .place .phase) (v .phase)) works
+      busy-on v (moved seat .place) (omega (arith, v .asof))
+      (phase-in (eqb (seat .place .cursor) (l .row)) (landsAt seat) (seat .place .phase) (lands-in (seat .place .target) (l .row) (linkedRow h (l .parent))) (v .phase)) works
 
   -- Each other station's seat, moved, says what its station says after the removal.
   pub says-moved : (seat : Seat) (u : ℕ) (x : Station) → u < 8 → fresh x ≡ false → t .stations u ≡ x → Says t tree queue seat x
@@ -146,6 +191,15 @@ module _ (t : Table) (p : Point) (f : ℕ → Station) (h h′ : Heap) (tree : O
   says-moved seat u (unfinished i (nearest d) none) k s e v = absurd (true≢false (sym (nearest-fresh i d) ∙ s))
   says-moved seat u (unfinished i (nearest d) (some a)) k s e v = busy-moved seat i (nearest d) (some a) v (search-moved seat u i d a k e (v .works))
 
+  -- a search has at most one look more left
+  pub left-moved : (seat : Seat) (i : ℕ) (d : Point) (a : Answer) → Busy t tree queue seat i (nearest d) (some a)
+      → leftAt (w .tree) (w .queue) (moved seat) ≤ stepMoves + leftAt tree queue seat
+  left-moved seat i d a v =
+      let there : seat .place .since ≢ NONE = λ z. omega (arith, v .works .since, since-le i (t .removals)) in
+      let e : progressOf (moved seat) ≡ progressAfter d seat = progress-moved seat there ∙ ap (λ (x : Point). progressAfter x seat) (v .works .aimed) in
+      let same = ap (λ (z : Progress). progressLeft (choiceOf d .side) (w .tree) (w .queue) z) e in
+      omega (arith, same, left-target (w .tree) (w .queue) (moved seat) d (v .point), left-target tree queue seat d (v .point), others-unlink st w (v .works .search))
+
   -- and an add has marked its way down to the row where its cursor is
   pub marking-moved : (marks marks′ : Marks) → Grows marks marks′ (w .tree) → (seat : Seat) (x : Station) → Marking marks tree (seat .place .cursor) x
       → Marking marks′ (w .tree) (moved seat .place .cursor) x
@@ -153,8 +207,8 @@ module _ (t : Table) (p : Point) (f : ℕ → Station) (h h′ : Heap) (tree : O
   marking-moved marks marks′ g seat (waiting a) v = tt
   marking-moved marks marks′ g seat (unfinished i (add d c) set) v =
       let stand : Stand = record { cursor = seat .place .cursor; phase = phaseOf (seat .place .phase) } in
-      let e = ap (λ (x : Stand). x .cursor) (stand-moved (l .row) (l .parent) (siblingRow h l) (seat .place .cursor) (seat .place .phase)) in
-      pass-grows marks marks′ (w .tree) d (moved seat .place .cursor) g (rw e (w .passes marks d stand v))
+      let e = ap (λ (x : Stand). x .cursor) (stand-moved (l .row) (l .parent) (siblingRow h l) (seat .place .cursor) (seat .place .phase) (landsAt seat)) in
+      pass-grows marks marks′ (w .tree) d (moved seat .place .cursor) g (rw e (w .passes marks d (phaseOf (landsAt seat)) stand v))
   marking-moved marks marks′ g seat (unfinished i (remove d) set) v = tt
   marking-moved marks marks′ g seat (unfinished i (contains d) set) v = tt
   marking-moved marks marks′ g seat (unfinished i (nearest d) set) v = tt

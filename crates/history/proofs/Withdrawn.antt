@@ -42,7 +42,7 @@ use Rattle.history.specs.Withdrawn.{isSearching, Withdrawn}
 use Rattle.history.proofs.RelatedLaws.{related-passes, related-busy, related-waits, related-taken}
 use Rattle.history.proofs.HeldLaws.{held-entries}
 use Rattle.history.proofs.RelatedTake.{related-takes}
-use Rattle.history.proofs.RelatedWithdraw.{point-is, withdrawn-related, withdrawal-done, related-withdraws}
+use Rattle.history.proofs.RelatedWithdraw.{point-is, withdrawn-next, withdrawal-done, related-withdraws}
 use Rattle.history.proofs.Demand3.{accepted, quiet-state, demand-3}
 use Rattle.history.proofs.Reached.{Stands, history-related}
 use Rattle.history.proofs.Solo.{outside-state}
@@ -81,7 +81,7 @@ module _ {words : List ℕ} {places limit : ℕ} (w : Stands words places limit)
   waits = put-same (w .table .stations) s (waiting (withdrawnAnswer c))
 
   next : Related words′ t
-  next = withdrawn-related (w .sound) l q (w .related)
+  next = withdrawn-next (w .sound) l q (w .related) .related
 
   taking-given : givenBy (takeOf words′ s) ≡ some (answer 11 (callAt words s .point) 0 0)
   unfolding take takeAt withdrawnAnswer

@@ -8,3 +8,4 @@ pub mod Questions
 pub mod Touch
 pub mod Somebody
 pub mod Withdrawn
+pub mod WaitFree

@@ -2,7 +2,7 @@
 use Prim.Native.Nat.{ℕ, _*_, _≤_, _<_}
 use mathlib.Core.Path.{_≡_}
 use mathlib.Core.Logic.{_↔_}
-use mathlib.Core.Bool.{Bool, true, false}
+use mathlib.Core.Bool.{true}
 use mathlib.Core.List.{List, map, List·Memᴰ}
 use mathlib.Core.Option.{Option, none, some}
 use lib.ListN.{length}
@@ -67,6 +67,7 @@ Set target entries tree (some a) = a ≡ nearestAnswer target (nearestOf target 
 -- an unfinished nearest call; `entries` were held at its submission
 pub record Searching (t : Table) (tree : Option Tree) (queue : List Free) (seat : Seat) (i : ℕ) (target : Point) (set : Option Answer) : Type 0 where
   pub since : seat .place .since ≡ sinceOf i (t .removals)
+  pub aimed : seat .place .target ≡ target
   pub entries : List Entry
   pub once : Once (map recordOf entries)
   pub ranged : (e : Entry) → List·Memᴰ e entries → (inRange (e .point) ≡ true) × (curveIn (e .curve) ≡ true)

@@ -14,7 +14,7 @@ use Rattle.history.specs.Index.{wordIndex}
 
 -- how many steps dealt to stations with an unfinished call may come one after another and answer nobody
 abbrev pub mostUnanswered : ℕ → ℕ
-mostUnanswered places = 16 * places
+mostUnanswered places = 8 * places
 
 -- 1 for a step "given to a station that has an unfinished call", 0 for any other event
 abbrev pub dealtStep : List ℕ → Event → ℕ

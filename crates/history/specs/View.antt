@@ -18,6 +18,7 @@ use Rattle.rows.specs.Row.{rowAt}
 use Rattle.rows.specs.Grades.{slotOf, admits}
 use Rattle.rows.specs.Common.{openedIn}
 use Rattle.rows.specs.Station.{stateAt}
+use Rattle.rows.specs.Target.{targetAt}
 use Rattle.rows.specs.Call.{callAt}
 use Rattle.rows.specs.Answer.{answerAt}
 use Rattle.trees.specs.Row.{Row, spareRow, removedRow, leafRow, cutRow, Heap}
@@ -44,12 +45,13 @@ countsAt words = record {
   removals = get words atRemovals;
 }
 
--- what the common record keeps of a station's call
+-- what the common record keeps of a station: where its call stands, and the target of its last search
 pub record Place : Type 0 where
   pub cursor : ℕ
   pub phase : ℕ
   pub since : ℕ
   pub missed : ℕ
+  pub target : Point
 
 -- the seat of a station: that, and the station's own record
 pub record Seat : Type 0 where
@@ -59,7 +61,13 @@ pub record Seat : Type 0 where
   pub answer : Answer
 
 unfoldable pub placeAt : List ℕ → ℕ → Place
-placeAt words s = record { cursor = get words (atCursor s); phase = get words (atPhase s); since = get words (atSince s); missed = get words (atMissed s) }
+placeAt words s = record {
+  cursor = get words (atCursor s);
+  phase = get words (atPhase s);
+  since = get words (atSince s);
+  missed = get words (atMissed s);
+  target = targetAt words s;
+}
 
 unfoldable pub seatAt : List ℕ → ℕ → Seat
 seatAt words s = record { place = placeAt words s; state = stateAt words s .word; call = callAt words s; answer = answerAt words s }
@@ -94,9 +102,13 @@ withPlace seat place = record { place = place; state = seat .state; call = seat 
 unfoldable pub seatPut : (ℕ → Seat) → ℕ → Seat → ℕ → Seat
 seatPut seats s x u = elim (eqb u s) [ true ↦ x | false ↦ seats u ]
 
--- the place of a station with no unfinished call
-abbrev pub noPlace : Place
-noPlace = record { cursor = NONE; phase = 0; since = NONE; missed = NONE }
+-- the place of a station with no unfinished call; it keeps the target
+abbrev pub noPlace : Point → Place
+noPlace target = record { cursor = NONE; phase = 0; since = NONE; missed = NONE; target = target }
+
+-- the seat of a station whose call is answered
+abbrev pub answeredSeat : Seat → Answer → Seat
+answeredSeat seat a = record { place = noPlace (seat .place .target); state = 2; call = seat .call; answer = a }
 
 -- the heap with a row written
 unfoldable pub heapPut : Heap → ℕ → Row → Heap

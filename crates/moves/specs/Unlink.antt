@@ -1,8 +1,10 @@
 -- The leaf at row `at` is taken from the tree; its record stays in the row for the searches that began before.
 use Prim.Native.Nat.{ℕ, zero, suc, _-_}
-use mathlib.Core.Bool.{Bool, true, false, cond, _&&_, _||_, not}
+use mathlib.Core.Bool.{Bool, cond, _&&_, _||_, not}
 use mathlib.Core.List.{List}
 use lib.Dec.{eqb, leb}
+use Rattle.points.specs.declared.point.Point.{Point}
+use Rattle.points.specs.Cut.{goesLeft}
 use Rattle.points.specs.Word.{NONE}
 use Rattle.rows.specs.declared.row.Row.{Row}
 use Rattle.rows.specs.declared.row.Row.the-variants.{Bad, Spare, Removed, Leaf, Cut}
@@ -10,6 +12,7 @@ use Rattle.rows.specs.declared.call.Call.{Call}
 use Rattle.rows.specs.Layout.{atChanges, atHeld, atRoot, atTail, atRemovals, atCursor, atPhase, atSince, atMissed}
 use Rattle.rows.specs.Words.{get, put}
 use Rattle.rows.specs.Row.{rowAt, putRow}
+use Rattle.rows.specs.Target.{targetAt}
 use Rattle.moves.specs.declared.unlink.Around.{Around}
 use Rattle.moves.specs.Link.{nextOf, parentOf, siblingOf, linksTo, isLeaf, isTree, isFree, leafCurve, withNext, withParent, removedAs, replaced}
 use Rattle.moves.specs.Reply.{Reply, done, ask, more}
@@ -77,14 +80,23 @@ unlinkCounts words a =
     atRemovals
     (more (get words atRemovals))
 
--- "every cursor on l moves to s, phase down; every cursor on c moves to s, its phase stays; every unfinished nearest whose missed is none
--- gets missed = l"
+-- the phase in which a search that stood at the leaf goes on at the other child of the cut: down where the leaf was the near child for its target, since
+-- the other is still to be seen; up where it was the far one, since the near one comes first. Down where the leaf had no cut over it.
+abbrev pub landing : Point → ℕ → Row → ℕ
+landing target at Bad = 0
+landing target at (Spare next freed) = 0
+landing target at (Removed next freed added point curve) = 0
+landing target at (Leaf parent added point curve) = 0
+landing target at (Cut parent cut left right) = cond (eqb (cond (goesLeft cut target) left right) at) 0 1
+
+-- Every cursor on the leaf moves to the other child, in the phase of `landing`; every cursor on the cut over it moves there too, and its phase stays;
+-- every unfinished nearest whose missed is none gets the leaf for it. Nothing reads the phase of a walk.
 unfoldable pub cursorAfter : List ℕ → ℕ → Around → ℕ
 cursorAfter words s a =
     cond (eqb (get words (atCursor s)) (a .at) || eqb (get words (atCursor s)) (a .over)) (a .side) (get words (atCursor s))
 
 unfoldable pub phaseAfter : List ℕ → ℕ → Around → ℕ
-phaseAfter words s a = cond (eqb (get words (atCursor s)) (a .at)) 0 (get words (atPhase s))
+phaseAfter words s a = cond (eqb (get words (atCursor s)) (a .at)) (landing (targetAt words s) (a .at) (a .cut)) (get words (atPhase s))
 
 unfoldable pub missedAfter : List ℕ → ℕ → Around → ℕ
 missedAfter words s a =

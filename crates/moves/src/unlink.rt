@@ -14,6 +14,9 @@ use crate::relink::with_next;
 use crate::relink::with_parent;
 use crate::reply::more;
 use crate::reply::pick;
+use points::cut::Cut;
+use points::cut::goes_left;
+use points::point::Point;
 use rows::answer::Answer;
 use rows::call::Call;
 use rows::layout::AT_CHANGES;
@@ -29,12 +32,16 @@ use rows::layout::at_since;
 use rows::row::Row;
 use rows::row::read_row;
 use rows::row::write_row;
+use rows::target::read_target;
 use rows::word::get;
 use rows::word::put;
 ghost use mathlib.Core.Path.{_≡_};
 ghost use Prim.Native.Nat.{_-_};
+ghost use mathlib.Core.Bool.{cond};
+ghost use lib.Dec.{eqb};
+ghost use Rattle.points.specs.Cut.{goesLeft};
 ghost use Rattle.moves.specs.Reply.{replied};
-ghost use Rattle.moves.specs.Unlink.{aroundAt, aroundSound, unlinkRows, unlinkTail, unlinkRoot, unlinkCounts, cursorAfter, phaseAfter, missedAfter, stationMoved, stationsMoved, unlinkWords, unlinkOf};
+ghost use Rattle.moves.specs.Unlink.{aroundAt, aroundSound, unlinkRows, unlinkTail, unlinkRoot, unlinkCounts, landing, cursorAfter, phaseAfter, missedAfter, stationMoved, stationsMoved, unlinkWords, unlinkOf};
 
 // The number of a refusal: the rows around the leaf, or the count of records, are not sound.
 const UNSOUND: u32 = 11;
@@ -165,11 +172,42 @@ fn cursor_after(words: &[u32], s: u32, a: Around) -> u32
     pick((cursor == a.at) | (cursor == a.over), a.side, cursor)
 }
 
-// The phase of its search afterwards: down, where it stood at the leaf.
+// Down where the row is the near child of the cut for a target, up where it is the far one.
+fn near_or_far(target: Point, at: u32, cut: Cut, left: u32, right: u32) -> u32
+    ensures { λ r. ⌜ r ≡ cond (eqb (cond (goesLeft cut target) left right) at) 0 1 ⌝ }
+{
+    let near = pick(goes_left(cut, target), left, right);
+    pick(near == at, 0, 1)
+}
+
+// The phase in which a search that stood at the leaf goes on at the other child of the cut.
+fn landing(target: Point, at: u32, row: Row) -> u32
+    ensures { λ r. ⌜ r ≡ landing target at row ⌝ }
+{
+    match row {
+        Row::Bad => 0,
+        Row::Spare { .. } => 0,
+        Row::Removed { .. } => 0,
+        Row::Leaf { .. } => 0,
+        Row::Cut {
+            cut,
+            left,
+            right,
+            ..
+        } => near_or_far(target, at, cut, left, right),
+    }
+}
+
+// The phase of its search afterwards. Its target is read only where it stood at the leaf.
 fn phase_after(words: &[u32], s: u32, a: Around) -> u32
     ensures { λ r. ⌜ r ≡ phaseAfter (now (words .entry)) s a ⌝ }
 {
-    pick(get(words, at_cursor(s)) == a.at, 0, get(words, at_phase(s)))
+    if get(words, at_cursor(s)) == a.at {
+        let cut = a.cut;
+        landing(read_target(words, s), a.at, cut)
+    } else {
+        get(words, at_phase(s))
+    }
 }
 
 // The first row that its search has missed afterwards: the leaf, for an unfinished nearest that had missed none.

@@ -12,7 +12,7 @@ use lib.Signed.{leZ}
 use Rattle.points.specs.declared.point.Point.{Point}
 use Rattle.points.specs.declared.point.Range.{Range}
 use Rattle.points.specs.declared.cut.Cut.{Cut}
-use Rattle.points.specs.Point.{rangeOf, withinRange, coordinateOf, onAxis, inRange}
+use Rattle.points.specs.Point.{placeOf, rangeOf, withinRange, coordinateOf, onAxis, inRange}
 use Rattle.points.specs.Word.{NONE, outside, storedIn, loadedIn, sumRangeOf, spanIn, spanOf, sumSpanOf, wordOf, coordinateAt, pointAt, isAxis, cutInRange, axisWordOf, sumWordOf, cutAt}
 use Rattle.points.proofs.Tests.{and-l, and-r, leb-cong}
 use Rattle.points.proofs.IntegerLaws.{raise, Near, near-add, near-raise, near-more, near-less, near-lt, raise-add, raise-inj, leZ-raise, apart-raise}
@@ -136,6 +136,15 @@ module _ (axis : ℕ) where
 
   word-again : (w : ℕ) → withinRange (rangeOf axis) (coordinateAt axis w) ≡ true → storedIn (rangeOf axis) (coordinateAt axis w) ≡ w
   word-again w e = word-back w (leb-true w (spanOf axis) (sym (word-test w) ∙ e))
+
+-- the words of grades and moistures, by number
+pub grade-span : spanOf 1 ≡ 9998
+unfolding spanIn rangeOf placeOf
+grade-span = refl
+
+pub moisture-span : spanOf 3 ≡ 10000
+unfolding spanIn rangeOf placeOf
+moisture-span = refl
 
 -- in range exactly if each stored word is at most high − low
 pub in-range-words : (p : Point)

@@ -54,6 +54,10 @@ atSince s = 32 + s
 abbrev pub atMissed : ℕ → ℕ
 atMissed s = 40 + s
 
+-- the four words of the target of its last search: weight, speed, draw, and grade and moisture in one
+abbrev pub atTarget : ℕ → ℕ
+atTarget s = 64 + 4 * s
+
 -- the record of station s, whose first word is the state
 abbrev pub atStation : ℕ → ℕ
 atStation s = 96 + 64 * s

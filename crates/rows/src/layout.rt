@@ -1,6 +1,6 @@
 // Where each word of the slice stands.
 ghost use mathlib.Core.Path.{_≡_};
-ghost use Rattle.rows.specs.Layout.{atCursor, atPhase, atSince, atMissed, atStation, atCall, atBest, atAnswer};
+ghost use Rattle.rows.specs.Layout.{atCursor, atPhase, atSince, atMissed, atTarget, atStation, atCall, atBest, atAnswer};
 
 // The word for none, which is no row.
 pub const NONE: u32 = 4294967295;
@@ -24,7 +24,7 @@ pub const AT_TAIL: usize = 7;
 
 pub const AT_REMOVALS: usize = 8;
 
-// The four words of a station in the common record.
+// The words of a station in the common record: four of its call, and four of the target of its last search.
 pub fn at_cursor(s: u32) -> usize
     ensures { λ r. ⌜ r ≡ atCursor s ⌝ }
 {
@@ -47,6 +47,12 @@ pub fn at_missed(s: u32) -> usize
     ensures { λ r. ⌜ r ≡ atMissed s ⌝ }
 {
     40 + (s as usize)
+}
+
+pub(crate) fn at_target(s: u32) -> usize
+    ensures { λ r. ⌜ r ≡ atTarget s ⌝ }
+{
+    64 + 4 * (s as usize)
 }
 
 // The record of a station, and the call, the best and the answer in it.

@@ -12,6 +12,7 @@ use Rattle.rows.specs.Words.{get}
 use Rattle.rows.specs.Range.{curveIn}
 use Rattle.rows.specs.Common.{openedIn}
 use Rattle.rows.specs.Station.{isIdle, submitted, stateAt, putState, putPlace, putSince, putMissed}
+use Rattle.rows.specs.Target.{putTarget}
 use Rattle.rows.specs.Call.{noBest, putCall}
 use Rattle.moves.specs.Reply.{Reply, done, ask, isOpened}
 
@@ -35,9 +36,13 @@ sinceFor removals kind = cond (eqb kind 4) removals NONE
 unfoldable pub begunWords : List ℕ → ℕ → ℕ → List ℕ
 begunWords words s kind = putMissed (putSince (putPlace words s (get words atRoot) 0) s (sinceFor (get words atRemovals) kind)) s NONE
 
+-- the target of a nearest, for the steps that take leaves from the tree meanwhile; another call leaves it
+unfoldable pub aimedWords : List ℕ → ℕ → ℕ → Point → List ℕ
+aimedWords words s kind point = cond (eqb kind 4) (putTarget words s point) words
+
 unfoldable pub submittedWords : List ℕ → ℕ → ℕ → Point → ℕ → List ℕ
 submittedWords words s kind point curve =
-    begunWords (putState (putCall words s (callFor (get words atChanges) kind point curve)) s (submitted (stateAt words s))) s kind
+    aimedWords (begunWords (putState (putCall words s (callFor (get words atChanges) kind point curve)) s (submitted (stateAt words s))) s kind) s kind point
 
 -- the first of questions 7 to 9 that the call fails, or 0
 unfoldable pub callQuestion : ℕ → Point → ℕ → ℕ

@@ -16,11 +16,12 @@ use rows::station::write_missed;
 use rows::station::write_place;
 use rows::station::write_since;
 use rows::station::write_state;
+use rows::target::write_target;
 use rows::word::curve_in;
 use rows::word::get;
 ghost use mathlib.Core.Path.{_≡_};
 ghost use Rattle.moves.specs.Reply.{replied};
-ghost use Rattle.steps.specs.Submit.{kindIn, curveFits, callFor, sinceFor, begunWords, submittedWords, callQuestion, submitQuestion, submitOf};
+ghost use Rattle.steps.specs.Submit.{kindIn, curveFits, callFor, sinceFor, begunWords, aimedWords, submittedWords, callQuestion, submitQuestion, submitOf};
 
 // Question 7: kinds are 1 to 4.
 fn kind_in(kind: u32) -> bool
@@ -67,6 +68,15 @@ fn begin(words: &mut [u32], s: u32, kind: u32)
     write_missed(words, s, NONE);
 }
 
+// The target of a nearest is written for the steps that take leaves from the tree meanwhile; another call leaves it.
+fn aim(words: &mut [u32], s: u32, kind: u32, point: Point)
+    ensures { λ _. ⌜ now (words .exit) ≡ aimedWords (now (words .entry)) s kind point ⌝ }
+{
+    if kind == 4 {
+        write_target(words, s, point);
+    }
+}
+
 // The call is written at its station, which is then unfinished.
 fn write_submitted(words: &mut [u32], s: u32, kind: u32, point: Point, curve: u32)
     ensures { λ _. ⌜ now (words .exit) ≡ submittedWords (now (words .entry)) s kind point curve ⌝ }
@@ -76,6 +86,7 @@ fn write_submitted(words: &mut [u32], s: u32, kind: u32, point: Point, curve: u3
     write_call(words, s, call_for(changes, kind, point, curve));
     write_state(words, s, state.submitted());
     begin(words, s, kind);
+    aim(words, s, kind, point);
 }
 
 // The first of questions 7 to 9 that the call fails, or 0.

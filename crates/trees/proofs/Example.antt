@@ -22,7 +22,7 @@ use Rattle.trees.specs.Row.{Entry, spareRow, removedRow, leafRow, cutRow
 use Rattle.trees.specs.Tree.{Tree, leaf, cut, top, topOf, Has, Shape, Holds, treeCount, leavesFrom, leavesLinked}
 use Rattle.trees.specs.Queue.{Free, tailOf, spareRows}
 use Rattle.trees.specs.Store.{Store}
-use Rattle.trees.specs.Stand.{Down, Up, moveCursor, afterUnlink, missedAfter}
+use Rattle.trees.specs.Stand.{Down, Up, landing, moveCursor, afterUnlink, missedAfter}
 use Rattle.trees.specs.Tour.{Progress, considered, look, Opens, tour, toured, seek, searchAfterInsert, searchAfterUnlink}
 use Rattle.trees.specs.Below.{Closed, Marks, Covered}
 use Rattle.trees.specs.Search.{begun, Search, Nearest}
@@ -42,6 +42,9 @@ use Rattle.trees.proofs.ChoiceOf.{choiceOf}
 -- a point of grade 12 with this weight
 abbrev weighing : ℕ → Point
 weighing w = record { grade = pos 12; weight = pos w; moisture = pos 550; speed = pos 9000; draw = pos 0 }
+
+abbrev target : Point
+target = weighing 12000
 
 abbrev old : Entry
 old = record { point = weighing 8000; curve = 41; added = 1 }
@@ -64,7 +67,7 @@ last = write (write (write (write two 3 (setNext 0 (two 3))) 0 (removedRow 2 1 o
 
 -- the search for weight 12,000, submitted after the first insert, as the changes of the others leave it
 abbrev left : Progress
-left = searchAfterUnlink 0 2 1 (searchAfterInsert 0 2 (begun (some (leaf 0 old))))
+left = searchAfterUnlink 0 2 1 (landing (choiceOf target .side) two 2 0) (searchAfterInsert 0 2 (begun (some (leaf 0 old))))
 
 old-in-range : inRange (old .point) ≡ true
 unfolding inRange onAxis withinRange rangeOf placeOf coordinateOf
@@ -180,8 +183,14 @@ moved : left ≡ record { stand = record { cursor = 1; phase = Down }; missed = 
 unfolding moveCursor afterUnlink missedAfter
 moved = refl
 
-abbrev target : Point
-target = weighing 12000
+-- a search that stood on the removed record, the far child, would have landed on its way up; one on the other, which is near, going down
+lands-up : landing (choiceOf target .side) two 2 0 ≡ Up
+unfolding landing write cutOf widestOf widerOf spreadOf gapOf coordinateOf cappedOf goesLeft
+lands-up = refl
+
+lands-down : landing (choiceOf target .side) two 2 1 ≡ Down
+unfolding landing write cutOf widestOf widerOf spreadOf gapOf coordinateOf cappedOf goesLeft
+lands-down = refl
 
 -- what holds of the search after all this
 searching : Search (choiceOf target) 1 0 (Holds (some (leaf 0 old))) (third .tree) (third .queue) 3 1 left

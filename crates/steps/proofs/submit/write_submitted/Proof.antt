@@ -2,7 +2,7 @@
 use borrow.Author.Needs.{needs}
 use Rattle.steps.proofs.submit.write_submitted.Statement.{statement}
 use Rattle.steps.proofs.submit.write_submitted.Tie as tie
-use Rattle.steps.specs.Submit.{submittedWords}
+use Rattle.steps.specs.Submit.{aimedWords, submittedWords}
 
 read-state-requires : tie.Need-read-state-requires
 read-state-requires c κs = search needs
@@ -25,11 +25,14 @@ write-state-requires c κs = search needs
 begin-requires : tie.Need-begin-requires
 begin-requires c κs = search needs
 
+aim-requires : tie.Need-aim-requires
+aim-requires c κs = search needs
+
 same-length : tie.Need-same-length
 same-length c = search needs
 
 returns : tie.Need-returns
-unfolding submittedWords
+unfolding aimedWords submittedWords
 returns c = cc
 
 pub write-submitted-spec : {M : Type 1} → statement M
@@ -43,5 +46,6 @@ write-submitted-spec =
     submitted-requires
     write-state-requires
     begin-requires
+    aim-requires
     same-length
     returns)
