@@ -46,14 +46,21 @@ static uint32_t *station(struct index index, uint32_t s)
     return index.words + COMMON + STATION * s;
 }
 
+static struct point point_from(const uint32_t *words)
+{
+    struct point point;
+    for (int k = 0; k < AXES; k++)
+        point.axis[k] = (int32_t)words[k] + LOW[k];
+    return point;
+}
+
 struct answer take(struct index index, uint32_t s)
 {
     struct answer a;
     const uint32_t *w = station(index, s) + 20;
     accepted(index_take(index.words, index.length, s), "a taking");
     a.code = w[0];
-    for (int k = 0; k < AXES; k++)
-        a.point.axis[k] = (int32_t)w[1 + k] + LOW[k];
+    a.point = point_from(w + 1);
     a.curve = w[6];
     a.square = w[7] + ((uint64_t)w[8] << 32);
     return a;
@@ -74,7 +81,23 @@ uint32_t missed_of(struct index index, uint32_t s)
     return index.words[40 + s];
 }
 
+static const uint32_t *words_of(struct index index, uint32_t row)
+{
+    return index.words + FIRST_ROW + ROW * (size_t)row;
+}
+
 uint32_t kind_of(struct index index, uint32_t row)
 {
-    return index.words[FIRST_ROW + ROW * (size_t)row];
+    return words_of(index, row)[0];
+}
+
+uint32_t parent_of(struct index index, uint32_t row)
+{
+    return row == NONE ? NONE : words_of(index, row)[1];
+}
+
+struct record record_at(struct index index, uint32_t row)
+{
+    const uint32_t *w = words_of(index, row);
+    return (struct record){point_from(w + 4), w[9]};
 }

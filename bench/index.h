@@ -46,6 +46,9 @@ int unfinished(struct index index, uint32_t s);
 uint32_t cursor_of(struct index index, uint32_t s);
 uint32_t missed_of(struct index index, uint32_t s);
 
+// The kind of a row; the parent of a leaf or a cut, NONE above NONE; the record of a leaf.
 uint32_t kind_of(struct index index, uint32_t row);
+uint32_t parent_of(struct index index, uint32_t row);
+struct record record_at(struct index index, uint32_t row);
 
 #endif

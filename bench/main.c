@@ -1,6 +1,7 @@
-// The benchmark: an index beside a flat scan and buckets of the same records, single calls of it, its audit, its busy case and its stack; and a
-// window of moisture readings beside a ring. All in one run.
+// The benchmark: an index beside a flat scan and buckets of the same records, single calls of it, a nearest beside another station, its audit, its
+// busy case and its stack; and a window of moisture readings beside a ring. All in one run.
 #define _GNU_SOURCE
+#include "beside.h"
 #include "measure.h"
 #include "scans.h"
 #include "singles.h"
@@ -13,6 +14,7 @@
 
 #define CALLS 10000
 #define SINGLE_CALLS 10000
+#define CALLS_BESIDE 2000
 #define READINGS 100000
 #define ROUNDS 7
 #define KINDS 4
@@ -37,6 +39,14 @@ static const struct workload WORKLOADS[] = {
 
 // The workload of the single calls.
 static const struct workload SINGLES = {"uniform", MOST_PLACES, 40, UNIFORM, AS_DRAWN, AS_RECORDS};
+
+// The workloads of a nearest beside another station.
+static const struct workload BESIDE[] = {
+    {"uniform", MOST_PLACES, 1, UNIFORM, AS_DRAWN, AS_RECORDS},
+    {"clustered", MOST_PLACES, 1, CLUSTERED, AS_DRAWN, AS_RECORDS},
+    {"uniform", MOST_PLACES, 40, UNIFORM, AS_DRAWN, AS_RECORDS},
+    {"clustered", MOST_PLACES, 40, CLUSTERED, AS_DRAWN, AS_RECORDS},
+};
 
 // A number as the tables show it.
 struct shown {
@@ -141,6 +151,45 @@ static void single_calls(struct sides *sides)
     singles_of(sides, "withdrawals of a nearest", measure_withdrawals);
 }
 
+// Whatever the others do, five times the own steps that do not answer are at most nine times the places; one more answers.
+static void print_beside(uint32_t places, uint32_t grades, const char *records, const char *other, struct beside b)
+{
+    printf("| %s | %s | %s | %s | %s | %s | %s | %s | %s | %s |\n", figure(places, 0).text, figure(grades, 0).text, records, other,
+           figure((double)b.calls, 0).text, figure((double)b.own / (double)b.calls, 1).text, figure((double)b.most, 0).text,
+           figure(9 * places / 5 + 1, 0).text, figure(b.ns / (double)b.own, 0).text, figure(b.ns / (double)b.calls / 1e3, 1).text);
+}
+
+// The round with the least time.
+static void beside_of(struct sides *sides, int other)
+{
+    struct beside best = measure_beside(sides, CALLS_BESIDE, other);
+    for (int round = 1; round < ROUNDS; round++)
+        best.ns = least(best.ns, measure_beside(sides, CALLS_BESIDE, other).ns);
+    print_beside(sides->workload.places, sides->workload.grades, sides->workload.name,
+                 other ? "removes the nearest record and adds it again" : "idle", best);
+}
+
+static void hold_up_of(struct index index, uint32_t places, int other)
+{
+    index.length = words_for(places);
+    struct beside best = measure_hold_up(index, places, other);
+    for (int round = 1; round < ROUNDS; round++)
+        best.ns = least(best.ns, measure_hold_up(index, places, other).ns);
+    print_beside(places, 1, "one grade, added by weight", other ? "removes the leaf under the search near the top" : "idle", best);
+}
+
+static void beside_others(struct sides *sides)
+{
+    printf("\n| places | grades | records | the other station | nearest calls | own steps | the most of a call | allowed | ns per own step | "
+           "µs of own steps a call |\n|---|---|---|---|---|---|---|---|---|---|\n");
+    for (size_t i = 0; i < 2 * COUNT(BESIDE); i++) {
+        sides->workload = BESIDE[i / 2];
+        beside_of(sides, i % 2);
+    }
+    for (size_t i = 0; i < 2 * COUNT(SIZES); i++)
+        hold_up_of(sides->index, SIZES[i / 2], i % 2);
+}
+
 static void print_stair(uint32_t records, enum order order, struct stair stair)
 {
     const size_t *u = stair.used;
@@ -207,6 +256,7 @@ int main(void)
     stay_here();
     whole_calls(&sides);
     single_calls(&sides);
+    beside_others(&sides);
     stairs(sides.index);
     scans();
     free(sides.index.words);

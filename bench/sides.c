@@ -85,6 +85,12 @@ static void churn(struct sides *sides)
     }
 }
 
+void thin(struct sides *sides, uint32_t removals)
+{
+    for (uint32_t n = 0; n < removals; n++)
+        everywhere(sides, 0, (struct call){REMOVE, held_record(sides)});
+}
+
 static void empty(struct sides *sides)
 {
     uint32_t places = sides->workload.places;

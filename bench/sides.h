@@ -33,6 +33,9 @@ struct sides {
 // Opens the index and fills all sides with the same records, as the workload says. The same workload gives the same records every time.
 void fill(struct sides *sides);
 
+// Removes so many of the records on all sides, so that as many places are free.
+void thin(struct sides *sides, uint32_t removals);
+
 // A record as the workload has them, and the target number n of a nearest.
 struct record drawn_record(const struct sides *sides);
 struct record drawn_target(const struct sides *sides, uint32_t n);

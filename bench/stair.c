@@ -21,9 +21,16 @@
 // The places of the index whose words are changed; every measured one has as many.
 #define FEW 256
 
-static struct call call_at(uint32_t kind, uint32_t weight)
+struct call stair_call(uint32_t kind, uint32_t weight)
 {
     return (struct call){kind, {{{GRADE, (int32_t)weight, 0, 0, 0}}, 1}};
+}
+
+struct call search_for_none(uint32_t weight)
+{
+    struct call call = stair_call(NEAREST, weight);
+    call.record.point.axis[0] = GRADE + SLOTS;
+    return call;
 }
 
 static void must(bool right, const char *what)
@@ -50,7 +57,7 @@ static void build(struct index index, uint32_t records, enum order order)
     draw_weights(weights, records, order);
     painted_open(index, records);
     for (uint32_t k = 0; k < records; k++) {
-        painted_submit(index, 0, call_at(ADD, weights[k]));
+        painted_submit(index, 0, stair_call(ADD, weights[k]));
         must(painted_run(index, 0) == 0, "a run on a stair was refused");
         painted_take(index, 0);
     }
@@ -67,15 +74,6 @@ static double audit_time(struct index index)
         best = took < best ? took : best;
     }
     return best;
-}
-
-// A search for a grade that has no record, and that is in one slot with the grade of the records: it excludes no side of a cut, and goes through
-// the whole tree.
-static void search_none(struct index index, uint32_t s)
-{
-    struct call call = call_at(NEAREST, 1);
-    call.record.point.axis[0] = GRADE + SLOTS;
-    submit(index, s, call);
 }
 
 // A step of each station in turn: how many there are up to the first answer.
@@ -102,11 +100,11 @@ static void busy_case(struct index index, uint32_t records, struct stair *stair)
     stair->busy_ns = 1e18;
     for (int round = 0; round < ROUNDS; round++) {
         for (uint32_t s = 0; s < STATIONS; s++)
-            search_none(index, s);
+            submit(index, s, search_for_none(1));
         double begin = now();
         stair->busy_steps = steps_in_turn(index);
         double took = now() - begin;
-        must(stair->busy_steps <= 16 * records + 1, "nobody was answered in 16 steps for each place and one more");
+        must(stair->busy_steps <= 8 * records + 1, "nobody was answered in 8 steps for each place and one more");
         for (uint32_t s = 0; s < STATIONS; s++)
             end_call(index, s);
         stair->busy_ns = took < stair->busy_ns ? took : stair->busy_ns;
@@ -121,7 +119,7 @@ static void some_call(struct index index, uint32_t records)
     case 0:
     case 1:
     case 2:
-        painted_submit(index, s, call_at(1 + random_below(4), 1 + random_below(records)));
+        painted_submit(index, s, stair_call(1 + random_below(4), 1 + random_below(records)));
         break;
     case 3:
     case 4:

@@ -40,6 +40,11 @@ pub const AT_STRETCH: usize = 13;
 
 pub const AT_LONGEST: usize = 14;
 
+// Of the searches in the case under way: the most own steps that did not answer one, and the greatest share of those allowed, in thousandths.
+pub const AT_MOST_OWN: usize = 36;
+
+pub const AT_SHARE: usize = 37;
+
 // Codes lie below this.
 pub const CODES: u32 = 12;
 
@@ -70,6 +75,11 @@ pub fn at_code(code: u32) -> usize {
     } else {
         NOWHERE
     }
+}
+
+// The own steps of a station's search that did not answer.
+pub fn at_own(s: u32) -> usize {
+    if s < 8 { 28 + (s as usize) } else { NOWHERE }
 }
 
 // The cells of a station: state, kind, point, curve, and the answer's code, point, curve and square.

@@ -4,6 +4,7 @@ use crate::book::Spot;
 use crate::book::as_due;
 use crate::book::at_code;
 use crate::book::point_of;
+use crate::own;
 use crate::reference;
 use crate::stretch;
 use crate::tally::judge;
@@ -17,7 +18,7 @@ use trial::cells::count;
 use trial::cells::get;
 
 // The most steps of a call that is left alone, as document 01 allows them.
-fn most_steps(book: &[u64]) -> u64 {
+pub fn most_steps(book: &[u64]) -> u64 {
     let places = get(book, AT_PLACES);
     if places <= 4096 { 16 * places + 64 } else { 0 }
 }
@@ -35,6 +36,7 @@ pub fn submit(words: &mut [u32], book: &mut [u64], s: u32, kind: u32, p: Spot, c
     let number = steps::submit::submit(words, s, kind, point_of(p), curve);
     let due = reference::submit(book, s, kind, p, curve);
     judge(book, number == due);
+    own::begin(book, s, number == 0);
     number
 }
 
@@ -46,14 +48,18 @@ fn waits(words: &[u32], s: u32) -> bool {
     }
 }
 
-// A step. The table is told whether it answered, and so is the stretch of steps that answer nobody.
+// A step. The table is told whether it answered, and so are the stretch of steps that answer nobody and the own steps of a search.
 pub fn step(words: &mut [u32], book: &mut [u64], s: u32) -> u32 {
     let dealt = reference::state(book, s) == reference::UNFINISHED;
     let number = steps::step::step(words, s);
     let answered = (number == 0) & waits(words, s);
     let due = reference::step(book, s, answered);
     stretch::pass(book, dealt, answered);
-    judge(book, (number == due) & stretch::is_bounded(book));
+    own::pass(book, s, dealt & !answered);
+    judge(
+        book,
+        (number == due) & stretch::is_bounded(book) & own::is_bounded(book, s, dealt),
+    );
     number
 }
 

@@ -49,12 +49,12 @@ fn some_kind(book: &mut [u64]) -> u32 {
 }
 
 // A curve; now and then one out of range.
-fn some_curve(book: &mut [u64]) -> u32 {
+pub fn some_curve(book: &mut [u64]) -> u32 {
     low(below(book, 1000020))
 }
 
 // Grade 1, 2 or 128, as its distance from the least. The first and the last share a slot of the cuts' grades.
-fn some_grade(book: &mut [u64]) -> u64 {
+pub fn some_grade(book: &mut [u64]) -> u64 {
     match below(book, 3) {
         0 => 0,
         1 => 1,

@@ -1,18 +1,23 @@
 // Runs the cases that the claims of the index speak of, against a plain list of records beside it, and prints a line for each.
+mod around;
 mod book;
 mod cases;
+mod contest;
 mod drive;
 mod framed;
 mod grades;
 mod history;
+mod hold_up;
 mod list;
 mod orders;
+mod own;
 mod play;
 mod raw;
 mod reference;
 mod removals;
 mod script;
 mod stairs;
+mod stand;
 mod stretch;
 mod tally;
 mod text;
@@ -63,6 +68,13 @@ fn cases_of_histories(words: &mut [u32], spare: &mut [u32], book: &mut [u64]) {
     cases::long_histories(words, spare, book);
 }
 
+// Searches that the other stations try to hold up.
+fn cases_of_hold_ups(words: &mut [u32], spare: &mut [u32], book: &mut [u64]) {
+    hold_up::stairs(words, spare, book);
+    hold_up::late_removals(words, spare, book);
+    hold_up::contests(words, spare, book);
+}
+
 fn main() {
     let mut words = [0u32; 131680];
     let mut spare = [0u32; 131680];
@@ -73,5 +85,6 @@ fn main() {
     cases_of_withdrawals(&mut words, &mut spare, &mut book);
     cases_of_grades(&mut words, &mut spare, &mut book);
     cases_of_histories(&mut words, &mut spare, &mut book);
+    cases_of_hold_ups(&mut words, &mut spare, &mut book);
     tally::end(&book);
 }

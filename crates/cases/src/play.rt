@@ -1,8 +1,11 @@
 // A case is run: its rows in turn, or two actors in every order, and its line is printed.
+use crate::contest::contests;
 use crate::history::events;
 use crate::history::histories;
 use crate::history::plan_of;
+use crate::hold_up;
 use crate::orders::every_order;
+use crate::own;
 use crate::raw;
 use crate::script;
 use crate::stairs::build;
@@ -20,8 +23,9 @@ fn busy(words: &mut [u32], spare: &mut [u32], book: &mut [u64], n: [u32; 9]) {
     events(words, spare, book, plan_of(n));
 }
 
-// What a row asks for: h random histories of a plan, b one on the index as it is, x a stair, y every axis at its ends, l the longest stretch; a
-// capital letter for a call on the index alone, and any other for an event on the index and on the plain table.
+// What a row asks for: h random histories of a plan, b one on the index as it is, x a stair, y every axis at its ends, v contests; l, m and p what
+// the line tells: the longest stretch, the most own steps of a search, their greatest share; a capital letter for a call on the index alone, and
+// any other for an event on the index and on the plain table.
 fn perform(words: &mut [u32], spare: &mut [u32], book: &mut [u64], row: Row) {
     let n = row.n;
     let letter = row.letter;
@@ -30,16 +34,26 @@ fn perform(words: &mut [u32], spare: &mut [u32], book: &mut [u64], row: Row) {
         b'b' => busy(words, spare, book, n),
         b'x' => build(words, book, n[0] == 1),
         b'y' => raw::ends(words, spare, book),
+        b'v' => contests(words, book, n),
         b'l' => stretch::tell(book),
+        b'm' => own::tell(book),
+        b'p' => own::tell_share(book),
         b'A'..=b'Z' => raw::judged(words, spare, book, row),
         _ => counted(words, book, row),
     }
 }
 
-// An event of a script, counted.
+// An event of a script, counted; d, q and u are events of a search that is held up.
 fn counted(words: &mut [u32], book: &mut [u64], row: Row) {
+    let n = row.n;
+    let letter = row.letter;
     tried(book);
-    script::event(words, book, row);
+    match letter {
+        b'd' => hold_up::remove_all(words, book, n[0]),
+        b'q' => hold_up::steps(words, book, n[0], n[1]),
+        b'u' => hold_up::hold_up(words, book, n[0], n[1]),
+        _ => script::event(words, book, row),
+    }
 }
 
 // Every row of a case.

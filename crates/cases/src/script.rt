@@ -47,7 +47,7 @@ fn eight(words: &mut [u32], book: &mut [u64], n: [u32; 9]) {
 }
 
 // A station takes a step, or its answer.
-fn turn(words: &mut [u32], book: &mut [u64], s: u32) {
+pub fn turn(words: &mut [u32], book: &mut [u64], s: u32) {
     match reference::state(book, s) {
         0 => {}
         1 => {

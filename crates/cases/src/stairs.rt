@@ -7,7 +7,7 @@ use crate::tally::tried;
 const PLACES: u32 = 4096;
 
 // The weight of a stair's record: every twentieth, from the light end or from the heavy end.
-fn weight_at(n: u32, falling: bool) -> u32 {
+pub fn weight_at(n: u32, falling: bool) -> u32 {
     if 4095 < n {
         return 0;
     }

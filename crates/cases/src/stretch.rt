@@ -1,4 +1,4 @@
-// The stretch of steps, each dealt to a station with an unfinished call, since one of them answered or a call was withdrawn: among more than 16 for
+// The stretch of steps, each dealt to a station with an unfinished call, since one of them answered or a call was withdrawn: among more than 8 for
 // each place one answers.
 use crate::book::AT_LONGEST;
 use crate::book::AT_PLACES;
@@ -11,7 +11,7 @@ use trial::cells::put;
 // The most steps that may answer nobody.
 fn most_unanswered(book: &[u64]) -> u64 {
     let places = get(book, AT_PLACES);
-    if places <= 4096 { 16 * places } else { 0 }
+    if places <= 4096 { 8 * places } else { 0 }
 }
 
 // No step was dealt yet, or since a withdrawal.

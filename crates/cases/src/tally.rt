@@ -2,6 +2,8 @@
 use crate::book::AT_CASES;
 use crate::book::AT_CHECKS;
 use crate::book::AT_LONGEST;
+use crate::book::AT_MOST_OWN;
+use crate::book::AT_SHARE;
 use crate::book::AT_TRIED;
 use crate::book::AT_WRONG;
 use crate::book::AT_WRONG_CASES;
@@ -37,6 +39,8 @@ pub fn begin_case(book: &mut [u64]) {
     put(book, AT_CHECKS, 0);
     put(book, AT_WRONG, 0);
     put(book, AT_LONGEST, 0);
+    put(book, AT_MOST_OWN, 0);
+    put(book, AT_SHARE, 0);
     for code in 0..CODES {
         put(book, at_code(code), 0);
     }

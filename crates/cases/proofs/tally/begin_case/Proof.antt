@@ -23,14 +23,20 @@ put-requires-3 c κs = search needs
 put-requires-4 : tie.Need-put-requires-4 Inv-loop μ-loop
 put-requires-4 c κs = search needs
 
+put-requires-5 : tie.Need-put-requires-5 Inv-loop μ-loop
+put-requires-5 c κs = search needs
+
+put-requires-6 : tie.Need-put-requires-6 Inv-loop μ-loop
+put-requires-6 c κs = search needs
+
 loop-holds : tie.Need-loop-holds Inv-loop μ-loop
 loop-holds c = search needs
 
 at-code-requires : tie.Need-at-code-requires Inv-loop μ-loop
 at-code-requires c κs = search needs
 
-put-requires-5 : tie.Need-put-requires-5 Inv-loop μ-loop
-put-requires-5 c κs = search needs
+put-requires-7 : tie.Need-put-requires-7 Inv-loop μ-loop
+put-requires-7 c κs = search needs
 
 add-code : tie.Need-add-code Inv-loop μ-loop
 add-code c = search needs
@@ -57,9 +63,11 @@ begin-case-spec =
     put-requires-2
     put-requires-3
     put-requires-4
+    put-requires-5
+    put-requires-6
     loop-holds
     at-code-requires
-    put-requires-5
+    put-requires-7
     add-code
     loop-less
     loop-again
