@@ -106,6 +106,12 @@ unfoldable pub stationMoved : List ℕ → ℕ → Around → List ℕ
 stationMoved words s a =
     put (put (put words (atCursor s) (cursorAfter words s a)) (atPhase s) (phaseAfter words s a)) (atMissed s) (missedAfter words s a)
 
+-- the call of station s stands at neither row, and does not begin to miss rows: all three words stay (`station-stays`)
+unfoldable pub stays : List ℕ → ℕ → Around → Bool
+stays words s a =
+    not (eqb (get words (atCursor s)) (a .at) || eqb (get words (atCursor s)) (a .over))
+    && (eqb (get words (atSince s)) NONE || not (eqb (get words (atMissed s)) NONE))
+
 -- the first n stations
 unfoldable pub stationsMoved : Around → ℕ → List ℕ → List ℕ
 stationsMoved a zero words = words

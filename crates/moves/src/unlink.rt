@@ -41,7 +41,7 @@ ghost use mathlib.Core.Bool.{cond};
 ghost use lib.Dec.{eqb};
 ghost use Rattle.points.specs.Cut.{goesLeft};
 ghost use Rattle.moves.specs.Reply.{replied};
-ghost use Rattle.moves.specs.Unlink.{aroundAt, aroundSound, unlinkRows, unlinkTail, unlinkRoot, unlinkCounts, landing, cursorAfter, phaseAfter, missedAfter, stationMoved, stationsMoved, unlinkWords, unlinkOf};
+ghost use Rattle.moves.specs.Unlink.{aroundAt, aroundSound, unlinkRows, unlinkTail, unlinkRoot, unlinkCounts, landing, cursorAfter, phaseAfter, missedAfter, stationMoved, stays, stationsMoved, unlinkWords, unlinkOf};
 
 // The number of a refusal: the rows around the leaf, or the count of records, are not sound.
 const UNSOUND: u32 = 11;
@@ -219,8 +219,18 @@ fn missed_after(words: &[u32], s: u32, a: Around) -> u32
     pick((since != NONE) & (missed == NONE), a.at, missed)
 }
 
-// Moves the call of station s out of the rows that leave the tree.
-fn move_station(words: &mut [u32], s: u32, a: Around)
+// Whether the call of station s stands at neither row, and does not begin to miss rows. Most stations are passed by with that.
+fn stays(words: &[u32], s: u32, a: Around) -> bool
+    ensures { λ r. ⌜ r ≡ stays (now (words .entry)) s a ⌝ }
+{
+    let cursor = get(words, at_cursor(s));
+    let since = get(words, at_since(s));
+    let missed = get(words, at_missed(s));
+    !((cursor == a.at) | (cursor == a.over)) & ((since == NONE) | (missed != NONE))
+}
+
+// Writes where the call of station s stands afterwards, and what it has missed.
+fn write_station(words: &mut [u32], s: u32, a: Around)
     ensures { λ _. ⌜ now (words .exit) ≡ stationMoved (now (words .entry)) s a ⌝ }
 {
     let cursor = cursor_after(words, s, a);
@@ -229,6 +239,15 @@ fn move_station(words: &mut [u32], s: u32, a: Around)
     put(words, at_cursor(s), cursor);
     put(words, at_phase(s), phase);
     put(words, at_missed(s), missed);
+}
+
+// Moves the call of station s out of the rows that leave the tree.
+fn move_station(words: &mut [u32], s: u32, a: Around)
+    ensures { λ _. ⌜ now (words .exit) ≡ stationMoved (now (words .entry)) s a ⌝ }
+{
+    if !stays(words, s, a) {
+        write_station(words, s, a);
+    }
 }
 
 // The same for each of the eight stations.
