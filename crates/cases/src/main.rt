@@ -1,26 +1,9 @@
 // Runs the cases that the claims of the index speak of, against a plain list of records beside it, and prints a line for each.
-mod around;
-mod book;
 mod cases;
-mod contest;
-mod drive;
-mod framed;
 mod grades;
-mod history;
 mod hold_up;
-mod list;
-mod orders;
-mod own;
 mod play;
-mod raw;
-mod reference;
-mod removals;
-mod script;
-mod stairs;
-mod stand;
-mod stretch;
 mod tally;
-mod text;
 mod withdrawals;
 
 use trial::cells::fill;

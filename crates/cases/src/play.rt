@@ -1,20 +1,20 @@
 // A case is run: its rows in turn, or two actors in every order, and its line is printed.
-use crate::contest::contests;
-use crate::history::events;
-use crate::history::histories;
-use crate::history::plan_of;
-use crate::hold_up;
-use crate::orders::every_order;
-use crate::own;
-use crate::raw;
-use crate::script;
-use crate::stairs::build;
-use crate::stretch;
-use crate::tally::begin_case;
 use crate::tally::end_case;
-use crate::tally::tried;
-use crate::text::Row;
-use crate::text::row_of;
+use contests::contest::contests;
+use contests::hindered;
+use lone_calls::raw;
+use paired::history::events;
+use paired::history::histories;
+use paired::history::plan_of;
+use paired::orders::every_order;
+use paired::script;
+use paired::stairs::build;
+use plain_list::own;
+use plain_list::stretch;
+use plain_list::text::Row;
+use plain_list::text::row_of;
+use plain_list::verdict::begin_case;
+use plain_list::verdict::tried;
 use trial::random::seed;
 
 // A random history on the index as it is.
@@ -49,9 +49,9 @@ fn counted(words: &mut [u32], book: &mut [u64], row: Row) {
     let letter = row.letter;
     tried(book);
     match letter {
-        b'd' => hold_up::remove_all(words, book, n[0]),
-        b'q' => hold_up::steps(words, book, n[0], n[1]),
-        b'u' => hold_up::hold_up(words, book, n[0], n[1]),
+        b'd' => hindered::remove_all(words, book, n[0]),
+        b'q' => hindered::steps(words, book, n[0], n[1]),
+        b'u' => hindered::hold_up(words, book, n[0], n[1]),
         _ => script::event(words, book, row),
     }
 }

@@ -1,50 +1,14 @@
-// Checks are counted, and each case ends with a line.
-use crate::book::AT_CASES;
-use crate::book::AT_CHECKS;
-use crate::book::AT_LONGEST;
-use crate::book::AT_MOST_OWN;
-use crate::book::AT_SHARE;
-use crate::book::AT_TRIED;
-use crate::book::AT_WRONG;
-use crate::book::AT_WRONG_CASES;
-use crate::book::CODES;
-use crate::book::at_code;
-use crate::text::start_of;
+// Each case ends with a line.
 use libc::STDOUT_FILENO;
+use plain_list::book::AT_CASES;
+use plain_list::book::AT_CHECKS;
+use plain_list::book::AT_TRIED;
+use plain_list::book::AT_WRONG;
+use plain_list::book::AT_WRONG_CASES;
+use plain_list::text::start_of;
+use plain_list::verdict::judge;
 use trial::cells::count;
 use trial::cells::get;
-use trial::cells::put;
-
-// One check, right or wrong.
-pub fn judge(book: &mut [u64], right: bool) {
-    count(book, AT_CHECKS);
-    if !right {
-        count(book, AT_WRONG);
-    }
-}
-
-// One more thing tried.
-pub fn tried(book: &mut [u64]) {
-    count(book, AT_TRIED);
-}
-
-// Whether answers of a code were taken in the case under way.
-pub fn met(book: &[u64], code: u32) -> bool {
-    0 < get(book, at_code(code))
-}
-
-// A new case begins.
-pub fn begin_case(book: &mut [u64]) {
-    put(book, AT_TRIED, 0);
-    put(book, AT_CHECKS, 0);
-    put(book, AT_WRONG, 0);
-    put(book, AT_LONGEST, 0);
-    put(book, AT_MOST_OWN, 0);
-    put(book, AT_SHARE, 0);
-    for code in 0..CODES {
-        put(book, at_code(code), 0);
-    }
-}
 
 // A number, with what stands before it.
 fn say_count(n: u64, before: &[u8]) {

@@ -1,0 +1,185 @@
+// Calls on the index alone, from the rows of a text: each gives the number that its row says, and a refused one leaves every word. A row has
+// a capital letter for the call, how many words it is lent, four arguments and the number.
+use crate::framed::framed;
+use plain_list::book::point_of;
+use plain_list::book::sheet;
+use plain_list::text::Row;
+use plain_list::verdict::judge;
+use plain_list::verdict::tried;
+use points::point::Point;
+use steps::audit::audit;
+use steps::open::open;
+use steps::report::read_report;
+use steps::run::run;
+use steps::step::step;
+use steps::submit::submit;
+use steps::take::Taking;
+use steps::take::take;
+use steps::withdraw::withdraw;
+use trial::cells::copy;
+use trial::cells::put_word;
+use trial::cells::same_from;
+ghost use Prim.Native.Nat.{_<_};
+
+// A number that no call gives.
+const NEVER: u32 = 99;
+
+// The number of a taking.
+fn number_of(taking: Taking) -> u32 {
+    match taking {
+        Taking::Refused(number) => number,
+        Taking::Given(_) => 0,
+    }
+}
+
+// The number of a report.
+fn report(words: &[u32]) -> u32 {
+    let read = read_report(words);
+    read.number
+}
+
+// The number of an audit, and 1 where it says no. One that is refused does not say yes.
+fn audited(words: &[u32]) -> u32 {
+    let verdict = audit(words);
+    if verdict.sound {
+        return if verdict.number == 0 { 0 } else { NEVER };
+    }
+    if verdict.number == 0 {
+        1
+    } else {
+        verdict.number
+    }
+}
+
+// The call of a row, and its number. Places and limit of an opening; station, kind, weight of a sheet of grade 12 and curve of a submission;
+// the station of a step, a run, a taking and a withdrawal (D); the bytes there, the length and the kind of a frame; a place and the word that is written there.
+fn perform(words: &mut [u32], row: Row) -> u32 {
+    let n = row.n;
+    let letter = row.letter;
+    match letter {
+        b'O' => open(words, n[1], n[2]),
+        b'S' => submit(words, n[1], n[2], point_of(sheet(12, n[3])), n[4]),
+        b'T' => step(words, n[1]),
+        b'R' => run(words, n[1]),
+        b'K' => number_of(take(words, n[1])),
+        b'D' => withdraw(words, n[1]),
+        b'P' => report(words),
+        b'A' => audited(words),
+        b'F' => framed(words, n[1], n[2], n[3]),
+        b'W' => write(words, n[1], n[2]),
+        _ => NEVER,
+    }
+}
+
+// Writes a word, as no call does.
+fn write(words: &mut [u32], at: u32, value: u32) -> u32 {
+    put_word(words, at as usize, value);
+    0
+}
+
+// A word as a length.
+fn wide(x: u32) -> usize
+    ensures { λ r. ⌜ r < 4294967296 ⌝ }
+{
+    x as usize
+}
+
+// The call of a row in the words that it is lent.
+fn perform_in(words: &mut [u32], length: usize, row: Row) -> u32 {
+    if words.len() < length {
+        return NEVER;
+    }
+    perform(&mut words[0..length], row)
+}
+
+// Where the words begin that a call must leave: all of them for a refusal, and those past its rows for an opening.
+fn kept_from(row: Row, number: u32) -> usize {
+    if number != 0 {
+        return 0;
+    }
+    if row.letter != b'O' {
+        return usize::MAX;
+    }
+    let n = row.n;
+    608 + 32 * wide(n[1])
+}
+
+// A row is judged: the number, which stands sixth, and the words kept.
+pub fn judged(words: &mut [u32], spare: &mut [u32], book: &mut [u64], row: Row) {
+    let n = row.n;
+    tried(book);
+    copy(words, spare);
+    let number = perform_in(words, wide(n[0]), row);
+    judge(book, number == n[5]);
+    judge(book, same_from(words, spare, kept_from(row, number)));
+}
+
+// Of each axis the coordinate before the least, the least, the greatest and the one after it.
+const ENDS: [i32; 20] = [
+    0,
+    1,
+    9999,
+    10000, //
+    0,
+    1,
+    100000,
+    100001, //
+    -1,
+    0,
+    10000,
+    10001, //
+    -1,
+    0,
+    30000,
+    30001, //
+    -2001,
+    -2000,
+    2000,
+    2001,
+];
+
+// A number of the ends.
+fn end_at(ends: &[i32], n: usize) -> i32 {
+    if n < ends.len() { ends[n] } else { 0 }
+}
+
+// A point in the middle of its ranges but for the coordinate on one axis, counted from 0.
+fn point_with(axis: usize, x: i32) -> Point {
+    Point {
+        grade: if axis == 0 { x } else { 12 },
+        weight: if axis == 1 { x } else { 8000 },
+        moisture: if axis == 2 { x } else { 550 },
+        speed: if axis == 3 { x } else { 9000 },
+        draw: if axis == 4 { x } else { 0 },
+    }
+}
+
+// The number of an add at one of the ends: 0 at the middle two of an axis, 8 at the outer two.
+fn end_due(n: usize) -> u32 {
+    match n % 4 {
+        1 | 2 => 0,
+        _ => 8,
+    }
+}
+
+// An add of a point at one of the ends, on a new index, which is copied before.
+fn end_number(words: &mut [u32], spare: &mut [u32], n: usize) -> u32 {
+    open(words, 1, 10);
+    copy(words, spare);
+    submit(words, 3, 1, point_with(n / 4, end_at(&ENDS, n)), 41)
+}
+
+// The add has its number, and a refused one left every word.
+fn end_judged(words: &mut [u32], spare: &mut [u32], book: &mut [u64], n: usize) {
+    let number = end_number(words, spare, n);
+    tried(book);
+    judge(book, number == end_due(n));
+    judge(book, (number == 0) | same_from(words, spare, 0));
+}
+
+// Every axis at its ends.
+pub fn ends(words: &mut [u32], spare: &mut [u32], book: &mut [u64]) {
+    for n in 0..20usize {
+        end_judged(words, spare, book, n);
+    }
+}

@@ -1,0 +1,59 @@
+use borrow.Author.Needs.{needs}
+use Rattle.paired.proofs.history.events.Statement.{statement}
+use Rattle.paired.proofs.history.events.Tie as tie
+use mathlib.Core.Path.{_≡_}
+use lib.ListN.{length}
+use Prim.Native.Nat.{_-_}
+
+abbrev Inv-loop : tie.InvT-loop
+Inv-loop words₀ spare₀ book₀ plan n₀ n-end words spare book n = (length words ≡ length words₀) × (length spare ≡ length spare₀) × (length book ≡ length book₀)
+
+abbrev μ-loop : tie.MeasureT-loop
+μ-loop words₀ spare₀ book₀ plan n₀ n-end words spare book n = n-end - n
+
+loop-holds : tie.Need-loop-holds Inv-loop μ-loop
+loop-holds c = search needs
+
+next-event-requires : tie.Need-next-event-requires Inv-loop μ-loop
+next-event-requires c κs = search needs
+
+add-n : tie.Need-add-n Inv-loop μ-loop
+add-n c = search needs
+
+loop-less : tie.Need-loop-less Inv-loop μ-loop
+loop-less c = search needs
+
+loop-again : tie.Need-loop-again Inv-loop μ-loop
+loop-again c = search needs
+
+judge-audit-requires : tie.Need-judge-audit-requires Inv-loop μ-loop
+judge-audit-requires c κs = search needs
+
+same-length : tie.Need-same-length Inv-loop μ-loop
+same-length c = search needs
+
+same-length-2 : tie.Need-same-length-2 Inv-loop μ-loop
+same-length-2 c = search needs
+
+same-length-3 : tie.Need-same-length-3 Inv-loop μ-loop
+same-length-3 c = search needs
+
+returns : tie.Need-returns Inv-loop μ-loop
+returns c = search needs
+
+pub events-spec : {M : Type 1} → statement M
+events-spec =
+    tie.close
+    (tie.spec
+    Inv-loop
+    μ-loop
+    loop-holds
+    next-event-requires
+    add-n
+    loop-less
+    loop-again
+    judge-audit-requires
+    same-length
+    same-length-2
+    same-length-3
+    returns)

@@ -1,0 +1,222 @@
+// Long random histories over all eight stations, from the fixed generator, each event judged by the plain table.
+use crate::drive;
+use plain_list::book::AT_HELD;
+use plain_list::book::Spot;
+use plain_list::list::spot_at;
+use plain_list::verdict::judge;
+use plain_list::verdict::met;
+use plain_list::verdict::tried;
+use trial::cells::copy;
+use trial::cells::get;
+use trial::cells::low;
+use trial::cells::same_from;
+use trial::random::below;
+use trial::random::seed;
+
+// A kind of history: its opening, how many weights its points have, a code that must come up, how many histories and their events, whether
+// the audit is asked after each event, and after how many events each unfinished call is tried alone.
+pub struct Plan {
+    pub places: u32,
+    pub limit: u32,
+    pub weights: u64,
+    pub code: u32,
+    pub seeds: u32,
+    pub events: u64,
+    pub audited: bool,
+    pub alone: u64,
+}
+
+// A station; now and then one that there is not.
+fn some_station(book: &mut [u64]) -> u32 {
+    let s = low(below(book, 8));
+    match below(book, 64) {
+        0 => 8,
+        1 => 4294967295,
+        _ => s,
+    }
+}
+
+// A kind of call; now and then one that there is not.
+fn some_kind(book: &mut [u64]) -> u32 {
+    match below(book, 64) {
+        0 => 0,
+        1 => 5,
+        2..=23 => 1,
+        24..=39 => 2,
+        40..=47 => 3,
+        _ => 4,
+    }
+}
+
+// A curve; now and then one out of range.
+pub fn some_curve(book: &mut [u64]) -> u32 {
+    low(below(book, 1000020))
+}
+
+// Grade 1, 2 or 128, as its distance from the least. The first and the last share a slot of the cuts' grades.
+pub fn some_grade(book: &mut [u64]) -> u64 {
+    match below(book, 3) {
+        0 => 0,
+        1 => 1,
+        _ => 127,
+    }
+}
+
+// A point of the plan; now and then one out of range.
+fn new_spot(book: &mut [u64], plan: Plan) -> Spot {
+    let grade = some_grade(book);
+    let weight = below(book, plan.weights);
+    let moisture = below(book, 3);
+    let speed = below(book, 3);
+    let draw = below(book, 3);
+    let past = below(book, 64) == 0;
+    Spot {
+        grade: grade,
+        weight: if past { 100000 } else { weight },
+        moisture: moisture,
+        speed: speed,
+        draw: draw,
+    }
+}
+
+// Of sixteen calls of a kind, how many are at a point that is held.
+fn held_points(kind: u32) -> u64 {
+    if (kind == 2) | (kind == 3) { 12 } else { 2 }
+}
+
+// The point of a record that is held, or a new one.
+fn some_spot(book: &mut [u64], plan: Plan, kind: u32) -> Spot {
+    let held = get(book, AT_HELD);
+    let again = below(book, 16) < held_points(kind);
+    if again & (0 < held) {
+        let i = below(book, held);
+        spot_at(book, i)
+    } else {
+        new_spot(book, plan)
+    }
+}
+
+// A random submission.
+fn submit(words: &mut [u32], book: &mut [u64], plan: Plan, s: u32) -> u32 {
+    let kind = some_kind(book);
+    let p = some_spot(book, plan, kind);
+    let curve = some_curve(book);
+    drive::submit(words, book, s, kind, p, curve)
+}
+
+// A random event, and its number.
+fn event(words: &mut [u32], book: &mut [u64], plan: Plan) -> u32 {
+    let s = some_station(book);
+    match below(book, 16) {
+        0..=3 => submit(words, book, plan, s),
+        4 | 5 => drive::take(words, book, s),
+        6 => drive::withdraw(words, book, s),
+        _ => drive::step(words, book, s),
+    }
+}
+
+// A random event with all that is asked after it: a refusal left every word, the audit says yes, and the report is right.
+fn audited_event(words: &mut [u32], spare: &mut [u32], book: &mut [u64], plan: Plan) {
+    copy(words, spare);
+    let number = event(words, book, plan);
+    judge(book, (number == 0) | same_from(words, spare, 0));
+    drive::judge_audit(words, book);
+    drive::judge_report(words, book);
+}
+
+// A random event in a long history, after which the report alone is asked.
+fn plain_event(words: &mut [u32], book: &mut [u64], plan: Plan) {
+    event(words, book, plan);
+    drive::judge_report(words, book);
+}
+
+// Whether the calls are tried alone at this event.
+fn is_pause(n: u64, every: u64) -> bool {
+    if every == 0 { false } else { n % every == 0 }
+}
+
+// An event of an audited history or of a long one.
+fn either_event(words: &mut [u32], spare: &mut [u32], book: &mut [u64], plan: Plan) {
+    if plan.audited {
+        audited_event(words, spare, book, plan);
+    } else {
+        plain_event(words, book, plan);
+    }
+}
+
+// Every unfinished call is tried alone, at some events.
+fn pause(words: &mut [u32], spare: &mut [u32], book: &mut [u64], n: u64, every: u64) {
+    if is_pause(n, every) {
+        drive::all_alone(words, spare, book);
+    }
+}
+
+// One event of a history.
+fn next_event(words: &mut [u32], spare: &mut [u32], book: &mut [u64], plan: Plan, n: u64) {
+    tried(book);
+    either_event(words, spare, book, plan);
+    pause(words, spare, book, n, plan.alone);
+}
+
+// The events of a history that was begun, and an audit at the end.
+pub fn events(words: &mut [u32], spare: &mut [u32], book: &mut [u64], plan: Plan) {
+    for n in 0..plan.events {
+        next_event(words, spare, book, plan, n);
+    }
+    drive::judge_audit(words, book);
+}
+
+// A history from its opening.
+fn history(words: &mut [u32], spare: &mut [u32], book: &mut [u64], plan: Plan, number: u32) {
+    seed(book, number);
+    drive::open(words, book, plan.places, plan.limit);
+    events(words, spare, book, plan);
+}
+
+// Histories of one plan with different seeds.
+fn seeded(words: &mut [u32], spare: &mut [u32], book: &mut [u64], plan: Plan) {
+    for n in 0..plan.seeds {
+        history(words, spare, book, plan, 1 + n);
+    }
+}
+
+// Whether answers of every code but 3 and 4 were taken.
+fn most_met(book: &[u64]) -> bool {
+    met(book, 1)
+        & met(book, 2)
+        & met(book, 5)
+        & met(book, 6)
+        & met(book, 7)
+        & met(book, 8)
+        & met(book, 9)
+        & met(book, 11)
+}
+
+// The same in so many of the words.
+fn seeded_in(words: &mut [u32], spare: &mut [u32], book: &mut [u64], plan: Plan, length: usize) {
+    if length <= words.len() {
+        seeded(&mut words[0..length], spare, book, plan);
+    }
+}
+
+// Histories of one plan, in exactly the words that its places need, in which answers of the plan's own code must come up, and of every code
+// but no room and changes spent.
+pub fn histories(words: &mut [u32], spare: &mut [u32], book: &mut [u64], plan: Plan) {
+    let places = plan.places;
+    seeded_in(words, spare, book, plan, 608 + 32 * (places as usize));
+    judge(book, most_met(book) & met(book, plan.code));
+}
+
+// The plan of a row: its numbers in the order of the fields.
+pub fn plan_of(n: [u32; 9]) -> Plan {
+    Plan {
+        places: n[0],
+        limit: n[1],
+        weights: n[2] as u64,
+        code: n[3],
+        seeds: n[4],
+        events: n[5] as u64,
+        audited: n[6] == 1,
+        alone: n[7] as u64,
+    }
+}

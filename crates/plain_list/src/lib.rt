@@ -1,0 +1,9 @@
+// The plain side of `cases`: a list of records with a call at each station, the bounds that steps are held to, the checks counted, and the texts of cases.
+pub mod book;
+pub mod list;
+pub mod own;
+pub mod reference;
+pub mod removals;
+pub mod stretch;
+pub mod text;
+pub mod verdict;
