@@ -41,7 +41,8 @@ ghost use mathlib.Core.Bool.{cond};
 ghost use lib.Dec.{eqb};
 ghost use Rattle.points.specs.Cut.{goesLeft};
 ghost use Rattle.moves.specs.Reply.{replied};
-ghost use Rattle.moves.specs.Unlink.{aroundAt, aroundSound, unlinkRows, unlinkTail, unlinkRoot, unlinkCounts, landing, cursorAfter, phaseAfter, missedAfter, stationMoved, stays, stationsMoved, unlinkWords, unlinkOf};
+ghost use Rattle.moves.specs.Unlink.{aroundAt, aroundSound, unlinkRows, unlinkTail, unlinkRoot, unlinkCounts, unlinkWords, unlinkOf};
+ghost use Rattle.moves.specs.Unlink.{landing, cursorAfter, phaseAfter, missedAfter, stationMoved, stays, stationsMoved};
 
 // The number of a refusal: the rows around the leaf, or the count of records, are not sound.
 const UNSOUND: u32 = 11;
