@@ -1,19 +1,13 @@
 // The climb of a leaf: by parent links to the root, where each cut on the way sends the leaf's point to the row that the climb came from.
+use calls::climb::Climb;
 use points::cut::Cut;
 use points::cut::goes_left;
 use points::point::Point;
-use rows::layout::NONE;
 use rows::row::Row;
 use rows::row::read_row;
+use words::layout::NONE;
 ghost use mathlib.Core.Path.{_≡_};
-ghost use Rattle.audits.specs.Climb.{childOf, stopped, overCut, overRow, climb};
-
-// A climb: the row that it has come to, that row's parent link, and whether every cut so far sent the point to the row below.
-pub struct Climb {
-    pub from: u32,
-    pub up: u32,
-    pub sound: bool,
-}
+ghost use Rattle.calls.specs.Climb.{childOf, stopped, overCut, overRow, climb};
 
 // The link of a cut on the side that it sends the point to.
 fn child_of(cut: Cut, left: u32, right: u32, point: Point) -> u32

@@ -1,6 +1,8 @@
-// What an audit is made of: every row of the tree answers for itself, the queue is walked from its head, and together they must be all the rows.
+// The calls that only look: audit and report. An audit is made of the tree, the queue, and whether they are all the rows.
+pub mod audit;
 mod climb;
-pub mod queue;
+mod queue;
+pub mod report;
 mod sum;
-pub mod tree;
-pub mod whole;
+mod tree;
+mod whole;

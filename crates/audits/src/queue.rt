@@ -1,27 +1,17 @@
 // The queue of an audit, walked from its head: free rows, and then the removals that await release, in order.
 use crate::sum::plus;
-use moves::reply::rows_in;
-use rows::common::least_since;
-use rows::layout::AT_HEAD;
-use rows::layout::NONE;
+use calls::queue::Line;
 use rows::row::Row;
 use rows::row::read_row;
-use rows::word::get;
+use stations::common::least_since;
+use stations::common::rows_in;
+use words::layout::AT_HEAD;
+use words::layout::NONE;
+use words::word::get;
 ghost use mathlib.Core.Path.{_≡_};
 ghost use Prim.Native.Nat.{_+_};
 ghost use lib.Dec.{eqb};
-ghost use Rattle.audits.specs.Queue.{passed, broken, noLonger, passSpare, passRemoved, passRow, walkQueue, lineAtHead, queueIn};
-
-// The queue, walked from its head up to the row `at`: the row before it, the rows passed, the number of the last awaited removal passed, and
-// whether the row before it was that removal's leaf.
-pub struct Line {
-    pub sound: bool,
-    pub at: u32,
-    pub last: u32,
-    pub rows: u32,
-    pub number: u32,
-    pub fresh: bool,
-}
+ghost use Rattle.calls.specs.Queue.{passed, broken, noLonger, passSpare, passRemoved, passRow, walkQueue, lineAtHead, queueIn};
 
 // A free row is passed.
 fn passed(l: Line, sound: bool, next: u32, number: u32, fresh: bool) -> Line

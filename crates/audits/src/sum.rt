@@ -1,7 +1,7 @@
 // Counts of an audit: sums that stop at the greatest word.
-use rows::layout::NONE;
+use words::layout::NONE;
 ghost use mathlib.Core.Path.{_≡_};
-ghost use Rattle.audits.specs.Sum.{plus, treeRows};
+ghost use Rattle.calls.specs.Sum.{plus, treeRows};
 
 // The sum, which stops at the greatest word.
 pub(crate) fn plus(x: u32, y: u32) -> u32

@@ -1,21 +1,16 @@
 // The tree of an audit: every row answers for itself, and the leaves are counted. Nothing is kept from row to row but the count.
 use crate::climb::climbs;
 use crate::sum::plus;
-use moves::reply::rows_in;
-use rows::layout::AT_ROOT;
-use rows::layout::NONE;
+use calls::tree::Count;
 use rows::row::Row;
 use rows::row::read_row;
-use rows::word::get;
+use stations::common::rows_in;
+use words::layout::AT_ROOT;
+use words::layout::NONE;
+use words::word::get;
 ghost use mathlib.Core.Path.{_≡_};
 ghost use Rattle.rows.specs.Row.{rowAt};
-ghost use Rattle.audits.specs.Tree.{linksUp, forks, rowCount, added, counted, scan, rootSound, treeOf, treeIn};
-
-// The leaves among the rows looked at, and whether all of these are sound.
-pub struct Count {
-    pub leaves: u32,
-    pub sound: bool,
-}
+ghost use Rattle.calls.specs.Tree.{linksUp, forks, rowCount, added, counted, scan, rootSound, treeOf, treeIn};
 
 // Whether a row is a leaf or a cut with this parent link.
 fn links_up(row: Row, parent: u32) -> bool

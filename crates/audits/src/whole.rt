@@ -1,15 +1,15 @@
 // Whether tree and queue are whole: together they are all the rows.
-use crate::queue::Line;
 use crate::sum::plus;
 use crate::sum::tree_rows;
-use crate::tree::Count;
-use moves::reply::rows_in;
-use rows::layout::AT_REMOVALS;
-use rows::layout::AT_TAIL;
-use rows::layout::NONE;
-use rows::word::get;
+use calls::queue::Line;
+use calls::tree::Count;
+use stations::common::rows_in;
+use words::layout::AT_REMOVALS;
+use words::layout::AT_TAIL;
+use words::layout::NONE;
+use words::word::get;
 ghost use mathlib.Core.Path.{_≡_};
-ghost use Rattle.audits.specs.Whole.{wholeQueue, allRows};
+ghost use Rattle.calls.specs.Whole.{wholeQueue, allRows};
 
 // Whether the queue ends at the tail, with the last removal.
 fn whole_queue(words: &[u32], l: Line) -> bool

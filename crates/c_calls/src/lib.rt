@@ -1,24 +1,24 @@
 // The calls for programs in C, as the benchmark makes them: a slice is lent as its first word and its length.
+use audits::audit::audit;
+use audits::report::read_report;
+use calls::take::Taking;
+use openings::open::open;
 use points::point::Point;
-use steps::audit::audit;
-use steps::open::open;
-use steps::report::read_report;
 use steps::run::run;
 use steps::step::step;
-use steps::submit::submit;
-use steps::take::Taking;
-use steps::take::take;
 use steps::withdraw::withdraw;
+use submissions::submit::submit;
+use submissions::take::take;
 ghost use mathlib.Core.Path.{_≡_};
-ghost use Rattle.moves.specs.Reply.{replied};
-ghost use Rattle.steps.specs.Open.{openOf};
-ghost use Rattle.steps.specs.Submit.{submitOf};
-ghost use Rattle.steps.specs.Step.{stepOf};
-ghost use Rattle.steps.specs.Run.{runOf};
-ghost use Rattle.steps.specs.Take.{numberOf, takeOf, takeWords};
-ghost use Rattle.steps.specs.Withdraw.{withdrawOf};
-ghost use Rattle.steps.specs.Report.{reportOf};
-ghost use Rattle.steps.specs.Audit.{verdictOf};
+ghost use Rattle.calls.specs.Reply.{replied};
+ghost use Rattle.calls.specs.Open.{openOf};
+ghost use Rattle.calls.specs.Submit.{submitOf};
+ghost use Rattle.calls.specs.Step.{stepOf};
+ghost use Rattle.calls.specs.Run.{runOf};
+ghost use Rattle.calls.specs.Take.{numberOf, takeOf, takeWords};
+ghost use Rattle.calls.specs.Withdraw.{withdrawOf};
+ghost use Rattle.calls.specs.Report.{reportOf};
+ghost use Rattle.calls.specs.Audit.{verdictOf};
 
 // Opening.
 #[no_mangle]

@@ -16,17 +16,17 @@ pub use Rattle.points.specs.Choice.{sameGrade, chosenOver, Chosen}
 -- ---- rows
 
 -- words, rows, and question 4
-pub use Rattle.rows.specs.Layout.{atPlaces, atChanges, wordsFor}
-pub use Rattle.rows.specs.Words.{get}
+pub use Rattle.words.specs.Layout.{atPlaces, atChanges, wordsFor}
+pub use Rattle.words.specs.Words.{get}
 pub use Rattle.rows.specs.Row.{rowAt}
 pub use Rattle.rows.specs.declared.row.Row.the-variants.{Spare}
-pub use Rattle.rows.specs.Common.{placesIn, limitIn, openedIn}
+pub use Rattle.stations.specs.Common.{placesIn, limitIn, openedIn, isOpened, rowsIn}
 -- a station's record
-pub use Rattle.rows.specs.Station.{isIdle, isUnfinished, stateAt}
-pub use Rattle.rows.specs.Call.{callAt}
-pub use Rattle.rows.specs.Answer.{waitingAt}
+pub use Rattle.stations.specs.Station.{isIdle, isUnfinished, stateAt}
+pub use Rattle.stations.specs.Call.{callAt}
+pub use Rattle.stations.specs.Answer.{waitingAt}
 -- where a station's words are, and how many
-pub use Rattle.rows.specs.Agree.{inStation, startOf, sizeOf}
+pub use Rattle.words.specs.Agree.{inStation, startOf, sizeOf}
 -- ---- table
 
 -- records and calls
@@ -44,19 +44,19 @@ unfoldable pub use Rattle.table.specs.History.{reply, answered}
 -- ---- steps
 
 -- number and words of a call
-pub use Rattle.moves.specs.Reply.{Reply as WordReply, done, isOpened, rowsIn}
+pub use Rattle.calls.specs.Reply.{Reply as WordReply, done}
 -- the calls
-pub use Rattle.steps.specs.Open.{openOf}
-pub use Rattle.steps.specs.Submit.{kindIn, curveFits, submitOf}
-pub use Rattle.steps.specs.Step.{recordsSound, workOf, stepOf}
-pub use Rattle.steps.specs.Run.{isGiven, goesOn}
-unfoldable pub use Rattle.steps.specs.Run.{runFor, mostSteps, runOf}
-pub use Rattle.steps.specs.Take.{takeOf, numberOf, takeWords}
-pub use Rattle.steps.specs.Withdraw.{withdrawOf}
-pub use Rattle.steps.specs.Report.{reportOf}
-pub use Rattle.steps.specs.Audit.{auditOf, verdictOf}
+pub use Rattle.calls.specs.Open.{openOf}
+pub use Rattle.calls.specs.Submit.{kindIn, curveFits, submitOf}
+pub use Rattle.calls.specs.Step.{recordsSound, workOf, stepOf}
+pub use Rattle.calls.specs.Run.{isGiven, goesOn}
+unfoldable pub use Rattle.calls.specs.Run.{runFor, mostSteps, runOf}
+pub use Rattle.calls.specs.Take.{takeOf, numberOf, takeWords}
+pub use Rattle.calls.specs.Withdraw.{withdrawOf}
+pub use Rattle.calls.specs.Report.{reportOf}
+pub use Rattle.calls.specs.Audit.{auditOf, verdictOf}
 -- the records on the leaves linked from the root
-pub use Rattle.steps.specs.Held.{heldIn}
+pub use Rattle.calls.specs.Held.{heldIn}
 -- ---- history
 
 -- the index that the calls are, and the words after a list of events

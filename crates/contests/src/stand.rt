@@ -2,14 +2,14 @@
 use plain_list::book::AT_PLACES;
 use plain_list::book::Spot;
 use plain_list::book::spot_of;
-use rows::layout::AT_ROOT;
-use rows::layout::NONE;
-use rows::layout::at_cursor;
-use rows::layout::at_phase;
 use rows::row::Row;
 use rows::row::read_row;
-use rows::word::get;
 use trial::cells::low;
+use words::layout::AT_ROOT;
+use words::layout::NONE;
+use words::layout::at_cursor;
+use words::layout::at_phase;
+use words::word::get;
 
 // The record of a leaf, where there is one.
 pub enum Found {

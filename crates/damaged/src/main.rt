@@ -1,10 +1,10 @@
 // Damages words of a live index at random and makes every call on it: each call returns with one of document 01's numbers or an answer, a
 // refused one changes nothing, a withdrawal changes no row, and none touches a word outside of its slice.
-mod calls;
+mod attempts;
 mod harm;
 
-use calls::call;
-use calls::is_allowed;
+use attempts::call;
+use attempts::is_allowed;
 use libc::STDOUT_FILENO;
 use trial::cells::copy;
 use trial::cells::count;
@@ -76,7 +76,7 @@ fn call_within(whole: &mut [u32], book: &mut [u64], kind: u64) -> u32 {
 
 // Whether the call can have changed nothing: it was refused, and was no run; or it was a report or an audit.
 fn changes_nothing(kind: u64, number: u32) -> bool {
-    ((number != 0) & (kind != calls::RUN)) | (kind == calls::REPORT) | (kind == calls::AUDIT)
+    ((number != 0) & (kind != attempts::RUN)) | (kind == attempts::REPORT) | (kind == attempts::AUDIT)
 }
 
 // Whether the words around the middle part are as they were.
@@ -87,7 +87,7 @@ fn outside_kept(whole: &[u32], spare: &[u32]) -> bool {
 // What is asked after a call: its number, the words around the slice, every word where it changes nothing, and the rows where it is a withdrawal.
 fn judge_call(whole: &[u32], spare: &[u32], book: &mut [u64], kind: u64, number: u32) {
     let kept = !changes_nothing(kind, number) | same(whole, spare, START, END);
-    let rows_kept = (kind != calls::WITHDRAW) | same(whole, spare, ROWS, END);
+    let rows_kept = (kind != attempts::WITHDRAW) | same(whole, spare, ROWS, END);
     judge(book, is_allowed(kind, number));
     judge(book, outside_kept(whole, spare));
     judge(book, kept & rows_kept);
@@ -102,14 +102,14 @@ fn count_call(book: &mut [u64], kind: u64, number: u32) {
 // A kind of call; mostly submissions and steps.
 fn some_kind(book: &mut [u64]) -> u64 {
     match below(book, 32) {
-        0..=7 => calls::SUBMIT,
-        8..=18 => calls::STEP,
-        19 | 20 => calls::RUN,
-        21..=24 => calls::TAKE,
-        25 | 26 => calls::WITHDRAW,
-        27 | 28 => calls::REPORT,
-        29 | 30 => calls::AUDIT,
-        _ => calls::OPEN,
+        0..=7 => attempts::SUBMIT,
+        8..=18 => attempts::STEP,
+        19 | 20 => attempts::RUN,
+        21..=24 => attempts::TAKE,
+        25 | 26 => attempts::WITHDRAW,
+        27 | 28 => attempts::REPORT,
+        29 | 30 => attempts::AUDIT,
+        _ => attempts::OPEN,
     }
 }
 
@@ -142,11 +142,11 @@ fn open_within(whole: &mut [u32]) -> u32 {
     if whole.len() < END {
         return 99;
     }
-    let number = steps::open::open(&mut whole[START..END], PLACES, LIMIT);
+    let number = openings::open::open(&mut whole[START..END], PLACES, LIMIT);
     if number != 0 {
         return number;
     }
-    calls::audit(&whole[START..END])
+    attempts::audit(&whole[START..END])
 }
 
 // An opening is accepted, and leaves the words around the middle part.
@@ -201,20 +201,20 @@ fn say_numbers(book: &[u64]) {
 // The calls of each kind.
 fn say_calls(book: &[u64]) {
     say(b"words damaged: ", get(book, AT_DAMAGED));
-    say(b"submissions: ", get(book, at(AT_CALLS, calls::SUBMIT)));
-    say(b"steps: ", get(book, at(AT_CALLS, calls::STEP)));
-    say(b"runs: ", get(book, at(AT_CALLS, calls::RUN)));
+    say(b"submissions: ", get(book, at(AT_CALLS, attempts::SUBMIT)));
+    say(b"steps: ", get(book, at(AT_CALLS, attempts::STEP)));
+    say(b"runs: ", get(book, at(AT_CALLS, attempts::RUN)));
 }
 
 // The rest of them.
 fn say_more_calls(book: &[u64]) {
-    say(b"takings: ", get(book, at(AT_CALLS, calls::TAKE)));
-    say(b"withdrawals: ", get(book, at(AT_CALLS, calls::WITHDRAW)));
-    say(b"reports: ", get(book, at(AT_CALLS, calls::REPORT)));
-    say(b"audits: ", get(book, at(AT_CALLS, calls::AUDIT)));
+    say(b"takings: ", get(book, at(AT_CALLS, attempts::TAKE)));
+    say(b"withdrawals: ", get(book, at(AT_CALLS, attempts::WITHDRAW)));
+    say(b"reports: ", get(book, at(AT_CALLS, attempts::REPORT)));
+    say(b"audits: ", get(book, at(AT_CALLS, attempts::AUDIT)));
     say(
         b"openings that are refused: ",
-        get(book, at(AT_CALLS, calls::OPEN)),
+        get(book, at(AT_CALLS, attempts::OPEN)),
     );
 }
 
@@ -222,7 +222,7 @@ fn say_more_calls(book: &[u64]) {
 fn say_checks(book: &[u64]) {
     say(
         b"audits that said no: ",
-        get(book, at(AT_NUMBERS, calls::NO as u64)),
+        get(book, at(AT_NUMBERS, attempts::NO as u64)),
     );
     say(
         b"checks of a number, of the words outside, of the words kept: ",

@@ -11,7 +11,7 @@ use frames::line::next_line;
 use libc::STDIN_FILENO;
 use libc::STDOUT_FILENO;
 use points::point::Point;
-use rows::answer::Answer;
+use stations::answer::Answer;
 
 // More lines than frames that the input can hold.
 const MOST_LINES: u64 = 65536;

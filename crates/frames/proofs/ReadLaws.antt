@@ -11,7 +11,7 @@ use lib.Signed.{mag}
 use lib.Dec.{eqb, leb}
 use borrow.Author.Tests.{leb-true, eqb-true}
 use Rattle.points.proofs.Tests.{and-l, and-r}
-use Rattle.rows.proofs.RangeLaws.{or-true}
+use Rattle.words.proofs.RangeLaws.{or-true}
 use Rattle.frames.specs.declared.frame.Frame.{Frame}
 use Rattle.frames.specs.declared.read.Reading.the-variants.{Read}
 use Rattle.frames.specs.Bytes.{numberAt, bytesOf, unsignedOf, signedOf}

@@ -3,15 +3,15 @@ use Prim.Native.Nat.{ℕ}
 use mathlib.Core.List.{List}
 use lib.IntN.{pos}
 use Rattle.points.specs.declared.point.Point.{Point}
-use Rattle.steps.specs.declared.take.Taking.{Taking}
-use Rattle.steps.specs.declared.take.Taking.the-variants.{Refused, Given as Taken}
-use Rattle.moves.specs.Reply.{Reply}
-use Rattle.steps.specs.Open.{openOf}
-use Rattle.steps.specs.Submit.{submitOf}
-use Rattle.steps.specs.Step.{stepOf}
-use Rattle.steps.specs.Run.{runOf}
-use Rattle.steps.specs.Take.{takeOf, takeWords}
-use Rattle.steps.specs.Withdraw.{withdrawOf}
+use Rattle.calls.specs.declared.take.Taking.{Taking}
+use Rattle.calls.specs.declared.take.Taking.the-variants.{Refused, Given as Taken}
+use Rattle.calls.specs.Reply.{Reply}
+use Rattle.calls.specs.Open.{openOf}
+use Rattle.calls.specs.Submit.{submitOf}
+use Rattle.calls.specs.Step.{stepOf}
+use Rattle.calls.specs.Run.{runOf}
+use Rattle.calls.specs.Take.{takeOf, takeWords}
+use Rattle.calls.specs.Withdraw.{withdrawOf}
 use Rattle.frames.specs.declared.frame.Submission.{Submission}
 use Rattle.frames.specs.declared.frame.Frame.{Frame}
 use Rattle.frames.specs.declared.frame.Frame.the-variants.{Open, Submit, Step, Take, Run, Withdraw}

@@ -3,19 +3,19 @@ use crate::byte::byte_as_word;
 use crate::byte::pair_as_word;
 use crate::frame::Frame;
 use crate::frame::Submission;
+use calls::take::Taking;
+use openings::open::open;
 use points::point::Point;
-use rows::answer::Answer;
-use steps::open::open;
+use stations::answer::Answer;
 use steps::run::run;
 use steps::step::step;
-use steps::submit::submit;
-use steps::take::Taking;
-use steps::take::take;
 use steps::withdraw::withdraw;
+use submissions::submit::submit;
+use submissions::take::take;
 ghost use mathlib.Core.Path.{_≡_};
 ghost use lib.IntN.{pos};
-ghost use Rattle.moves.specs.Reply.{replied};
-ghost use Rattle.steps.specs.Submit.{submitOf};
+ghost use Rattle.calls.specs.Reply.{replied};
+ghost use Rattle.calls.specs.Submit.{submitOf};
 ghost use Rattle.frames.specs.Apply.{pointOf, appliedOf, submissionReply, applyOf, applyWords};
 
 // What a frame gives: 0 or the number of a refusal, or the answer that was taken.

@@ -3,7 +3,7 @@ use crate::apply::Applied;
 use crate::apply::apply_frame;
 use crate::read::Reading;
 use crate::reader::frame_at;
-use rows::answer::Answer;
+use stations::answer::Answer;
 ghost use mathlib.Core.Path.{_≡_};
 ghost use Rattle.frames.specs.Read.{readOf};
 ghost use Rattle.frames.specs.Line.{lineAfter, lineOf, lineWords};

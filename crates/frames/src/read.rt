@@ -6,7 +6,7 @@ use crate::byte::signed_at;
 use crate::byte::two_at;
 use crate::frame::Frame;
 use crate::frame::Submission;
-use moves::reply::pick;
+use words::word::pick;
 ghost use mathlib.Core.Path.{_≡_};
 ghost use Prim.Native.Nat.{_+_, _<_};
 ghost use lib.ListN.{length};

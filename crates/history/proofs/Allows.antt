@@ -11,8 +11,8 @@ use native.Mathlib.Omega.{arith}
 use native.Mathlib.Decide.{decLt}
 use lib.ListN.{length}
 use Rattle.points.specs.declared.point.Point.{Point}
-use Rattle.rows.specs.Station.{isUnfinished, stateAt}
-use Rattle.rows.specs.Call.{callAt}
+use Rattle.stations.specs.Station.{isUnfinished, stateAt}
+use Rattle.stations.specs.Call.{callAt}
 use Rattle.table.specs.Call.{Call, add, remove, contains, nearest, Answer, withdrawnAnswer}
 use Rattle.table.specs.Table.{Station, idle, unfinished, waiting, Table, put, withStations}
 use Rattle.table.specs.Event.{singleStep}
@@ -27,8 +27,8 @@ use Rattle.table.proofs.Retract.{retract}
 use Rattle.table.proofs.Reached.{sound-wait}
 use Rattle.table.proofs.Settled.{busy, retract-ends}
 use Rattle.trees.specs.Measure.{stepMoves}
-use Rattle.steps.specs.Step.{stepOf}
-use Rattle.steps.specs.Withdraw.{withdrawOf, withdrawnWords}
+use Rattle.calls.specs.Step.{stepOf}
+use Rattle.calls.specs.Withdraw.{withdrawOf, withdrawnWords}
 use Rattle.history.specs.Index.{wordIndex}
 use Rattle.history.specs.View.{Seat, countsAt, seatAt, SameRows}
 use Rattle.history.specs.Related.{Busy, Related}
@@ -46,7 +46,7 @@ use Rattle.history.proofs.Solo.{outside-state}
 use Rattle.history.proofs.StepNumbers.{quiet-refused}
 use Rattle.history.proofs.RelatedWithdraw.{withdrawn-next, withdrawal-done, related-withdraws}
 use Rattle.history.proofs.MovesLeft.{left-here}
-use Rattle.moves.specs.Reply.{Reply}
+use Rattle.calls.specs.Reply.{Reply}
 
 -- ---- the search of a station
 

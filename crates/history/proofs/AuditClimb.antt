@@ -19,8 +19,8 @@ use Rattle.rows.specs.Row.{isRow, rowAt}
 use Rattle.trees.specs.Row.{Entry, Row, spareRow, removedRow, leafRow, cutRow, Heap}
 use Rattle.trees.specs.Tree.{Tree, leaf, cut, top, topOf, TreeHas, Has, TreeHolds, TreeShape, Shape, TreeRouted, treeSize}
 use Rattle.trees.proofs.Path.{has-top}
-use Rattle.audits.specs.Climb.{childOf, climbRow, climb}
-use Rattle.audits.specs.Tree.{linksUp, rowSound, leafCount}
+use Rattle.calls.specs.Climb.{childOf, climbRow, climb}
+use Rattle.calls.specs.Tree.{linksUp, rowSound, leafCount}
 use Rattle.history.specs.View.{wordRow}
 use Rattle.history.proofs.AuditRows.{reads-inside, TreeReads}
 use Rattle.history.proofs.AuditDistinct.{Forked}

@@ -17,7 +17,7 @@ use Rattle.rows.specs.declared.row.Row.the-variants.{Bad, Spare, Removed, Leaf,
 use Rattle.rows.specs.Row.{rowAt}
 use Rattle.trees.specs.Row.{Row, leafRow, cutRow, parentOf}
 use Rattle.trees.specs.Tree.{Tree, leaf, cut, top, TreeHas, TreeShape}
-use Rattle.audits.specs.Tree.{linksUp, rowSound}
+use Rattle.calls.specs.Tree.{linksUp, rowSound}
 use Rattle.history.specs.View.{wordRow}
 use Rattle.history.proofs.AuditRows.{valueOf, heapOf, reads-inside, TreeReads}
 use Rattle.history.proofs.AuditDistinct.{Forked}

@@ -11,28 +11,27 @@ use lib.Dec.{eqb}
 use lib.ListN.{length}
 use borrow.Author.Tests.{eqb-true, eq-eqb}
 use Rattle.points.specs.Word.{NONE}
-use Rattle.rows.specs.declared.common.Opening.{Opening}
-use Rattle.rows.specs.declared.common.Opening.the-variants.{Refused, Opened}
+use Rattle.stations.specs.declared.common.Opening.{Opening}
+use Rattle.stations.specs.declared.common.Opening.the-variants.{Refused, Opened}
 use Rattle.rows.specs.declared.row.Row.{Row as WordRow}
 use Rattle.rows.specs.declared.row.Row.the-variants.{Bad, Spare, Removed, Leaf, Cut}
-use Rattle.rows.specs.Layout.{atRoot, atHead, atTail, atRemovals}
-use Rattle.rows.specs.Words.{get}
+use Rattle.words.specs.Layout.{atRoot, atHead, atTail, atRemovals}
+use Rattle.words.specs.Words.{get}
 use Rattle.rows.specs.Row.{rowAt}
-use Rattle.rows.specs.Common.{openedIn, leastSince}
-use Rattle.rows.proofs.OpeningLaws.{opened-tells}
+use Rattle.stations.specs.Common.{openedIn, leastSince, isOpened, rowsIn}
+use Rattle.stations.proofs.OpeningLaws.{opened-tells}
 use Rattle.trees.specs.Row.{Row, spareRow, removedRow, leafRow, cutRow, Heap}
 use Rattle.trees.specs.Tree.{Tree, top, topOf, Has, Shape, Routed, Distinct, sizeOf, countOf}
 use Rattle.trees.specs.Queue.{Free, headOf, tailOf, Linked, InQueue, Once}
 use Rattle.trees.proofs.Entries.{size-count}
 use Rattle.table.specs.Table.{Table}
-use Rattle.audits.specs.declared.tree.Count.{Count}
-use Rattle.audits.specs.declared.queue.Line.{Line}
-use Rattle.moves.specs.Reply.{isOpened, rowsIn}
-use Rattle.audits.specs.Sum.{plus, treeRows}
-use Rattle.audits.specs.Tree.{linksUp, rowSound, scan, rootSound, treeIn}
-use Rattle.audits.specs.Queue.{walkQueue, lineAtHead, queueIn}
-use Rattle.audits.specs.Whole.{wholeQueue, allRows}
-use Rattle.steps.specs.Audit.{auditOf}
+use Rattle.calls.specs.declared.tree.Count.{Count}
+use Rattle.calls.specs.declared.queue.Line.{Line}
+use Rattle.calls.specs.Sum.{plus, treeRows}
+use Rattle.calls.specs.Tree.{linksUp, rowSound, scan, rootSound, treeIn}
+use Rattle.calls.specs.Queue.{walkQueue, lineAtHead, queueIn}
+use Rattle.calls.specs.Whole.{wholeQueue, allRows}
+use Rattle.calls.specs.Audit.{auditOf}
 use Rattle.history.specs.View.{countsAt, wordRow, Reads}
 use Rattle.history.specs.Related.{Related}
 use Rattle.history.specs.Audited.{InOrder, Audited}

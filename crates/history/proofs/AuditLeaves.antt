@@ -12,8 +12,8 @@ use Rattle.trees.specs.Row.{Heap}
 use Rattle.trees.specs.Tree.{Tree, leaf, cut, top, TreeHas, TreeShape, TreeDistinct, treeCount, Has, Shape, Distinct, countOf, sizeOf}
 use Rattle.trees.proofs.Entries.{size-count}
 use Rattle.trees.proofs.Path.{has-top}
-use Rattle.audits.specs.Sum.{treeRows}
-use Rattle.audits.specs.Tree.{leafCount}
+use Rattle.calls.specs.Sum.{treeRows}
+use Rattle.calls.specs.Tree.{leafCount}
 use Rattle.history.specs.View.{wordRow}
 use Rattle.history.proofs.AuditRows.{plus-min, TreeReads}
 use Rattle.history.proofs.AuditScan.{IsLeaf, leavesBelow, leaves-are, leaves-have, leaves-different}

@@ -10,8 +10,8 @@ use lib.ListN.{length}
 use Rattle.rows.specs.declared.row.Row.{Row as WordRow}
 use Rattle.rows.specs.declared.row.Row.the-variants.{Bad, Spare, Removed, Leaf, Cut}
 use Rattle.rows.specs.Row.{rowAt}
-use Rattle.audits.specs.Sum.{plus}
-use Rattle.audits.specs.Tree.{rowSound, leafCount, rowCount, pickCount, added, scan}
+use Rattle.calls.specs.Sum.{plus}
+use Rattle.calls.specs.Tree.{rowSound, leafCount, rowCount, pickCount, added, scan}
 use Rattle.history.proofs.AuditRows.{plus-min}
 use Rattle.history.proofs.Pigeonhole.{In, Different}
 

@@ -19,11 +19,11 @@ use Rattle.table.proofs.Settled.{settled, settle-stays}
 use Rattle.table.proofs.Simulation.{finished}
 use Rattle.table.proofs.Searched.{submit-accepted}
 use Rattle.table.proofs.Alone.{submit-idle, alone-search}
-use Rattle.moves.specs.Reply.{Reply, done}
-use Rattle.steps.specs.Open.{openOf}
-use Rattle.steps.specs.Submit.{submitOf}
-use Rattle.steps.specs.Take.{takeOf, takeWords}
-use Rattle.steps.specs.Run.{runOf}
+use Rattle.calls.specs.Reply.{Reply, done}
+use Rattle.calls.specs.Open.{openOf}
+use Rattle.calls.specs.Submit.{submitOf}
+use Rattle.calls.specs.Take.{takeOf, takeWords}
+use Rattle.calls.specs.Run.{runOf}
 use Rattle.history.specs.Index.{givenBy}
 use Rattle.history.specs.Related.{Related}
 use Rattle.history.specs.Alone.{stepped, ranWords}

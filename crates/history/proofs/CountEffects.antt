@@ -7,15 +7,15 @@ use native.Mathlib.Omega.{arith}
 use lib.Dec.{eqb}
 use lib.ListN.{length}
 use borrow.Author.Tests.{eqb-true, eqb-false}
-use Rattle.rows.specs.Layout.{atChanges, atHeld, atRoot, atHead, atTail, atRemovals, atCursor, atPhase, atSince, atMissed}
-use Rattle.rows.specs.Words.{get, put}
-use Rattle.rows.specs.Agree.{inCommon, OnlyIn}
-use Rattle.rows.specs.Common.{openedIn}
-use Rattle.rows.proofs.WordLaws.{get-put-same, get-put-other}
-use Rattle.rows.proofs.AgreeLaws.{only-refl, only-trans}
-use Rattle.rows.proofs.OpeningLaws.{openedIn-put}
-use Rattle.rows.proofs.StationLaws.{put-common}
-use Rattle.rows.proofs.TargetLaws.{target-put}
+use Rattle.words.specs.Layout.{atChanges, atHeld, atRoot, atHead, atTail, atRemovals, atCursor, atPhase, atSince, atMissed}
+use Rattle.words.specs.Words.{get, put}
+use Rattle.words.specs.Agree.{inCommon, OnlyIn}
+use Rattle.stations.specs.Common.{openedIn}
+use Rattle.words.proofs.WordLaws.{get-put-same, get-put-other}
+use Rattle.words.proofs.AgreeLaws.{only-refl, only-trans}
+use Rattle.stations.proofs.OpeningLaws.{openedIn-put}
+use Rattle.stations.proofs.StationLaws.{put-common}
+use Rattle.stations.proofs.TargetLaws.{target-put}
 use Rattle.history.specs.View.{Counts, countsAt, placeAt}
 use Rattle.history.proofs.Frame.{place-same}
 

@@ -15,9 +15,9 @@ use Rattle.points.specs.Order.{samePoint}
 use Rattle.points.proofs.OrderLaws.{same-point-true, same-point-false}
 use Rattle.rows.specs.declared.row.Row.{Row as WordRow}
 use Rattle.rows.specs.declared.row.Row.the-variants.{Bad}
-use Rattle.rows.specs.Call.{callAt}
-use Rattle.rows.proofs.RangeLaws.{curve-tells}
-use Rattle.rows.proofs.SoundLaws.{answer-of}
+use Rattle.stations.specs.Call.{callAt}
+use Rattle.words.proofs.RangeLaws.{curve-tells}
+use Rattle.stations.proofs.SoundLaws.{answer-of}
 use Rattle.table.specs.Record.{Record, curveAt}
 use Rattle.table.specs.Call.{Call, add, remove, contains, answer, pointOf}
 use Rattle.table.specs.Table.{unfinished, Table, taken, answerOf}
@@ -29,11 +29,11 @@ use Rattle.trees.specs.Tree.{Tree, Holds, entriesOf}
 use Rattle.trees.specs.Route.{OnRoute}
 use Rattle.trees.proofs.ShapeLaws.{entries-held}
 use Rattle.trees.proofs.RouteLaws.{on-route-has, walk-found}
-use Rattle.moves.specs.Link.{holdsPoint, leafCurve}
-use Rattle.moves.specs.Answer.{answer as given, answeredWords}
-use Rattle.moves.specs.Insert.{insertOf}
-use Rattle.moves.specs.Unlink.{unlinkOf}
-use Rattle.moves.specs.Walk.{codeOf, codeAt, plainAnswer, conclude}
+use Rattle.calls.specs.Link.{holdsPoint, leafCurve}
+use Rattle.calls.specs.Answer.{answer as given, answeredWords}
+use Rattle.calls.specs.Insert.{insertOf}
+use Rattle.calls.specs.Unlink.{unlinkOf}
+use Rattle.calls.specs.Walk.{codeOf, codeAt, plainAnswer, conclude}
 use Rattle.history.specs.View.{countsAt, seatAt, wordRow}
 use Rattle.history.specs.Related.{recordOf, kindOf, Busy, Related}
 use Rattle.history.proofs.Readings.{plain-change}

@@ -20,11 +20,11 @@ use Rattle.table.proofs.Settled.{settled, settle-keeps, settle-stays}
 use Rattle.table.proofs.Simulation.{Matches, finished, simulation-leads}
 use Rattle.table.proofs.Searched.{submit-accepted}
 use Rattle.table.proofs.Alone.{submit-idle, Finishing, alone, finishing-idle, finishing-other}
-use Rattle.moves.specs.Reply.{done}
-use Rattle.steps.specs.Open.{openedWords, openOf}
-use Rattle.steps.specs.Submit.{submitOf}
-use Rattle.steps.specs.Take.{takeWords}
-use Rattle.steps.specs.Run.{runOf}
+use Rattle.calls.specs.Reply.{done}
+use Rattle.calls.specs.Open.{openedWords, openOf}
+use Rattle.calls.specs.Submit.{submitOf}
+use Rattle.calls.specs.Take.{takeWords}
+use Rattle.calls.specs.Run.{runOf}
 use Rattle.history.specs.Index.{wordIndex}
 use Rattle.history.specs.Related.{Related}
 use Rattle.history.specs.After.{after}

@@ -11,9 +11,9 @@ use lib.Dec.{eqb, leb}
 use lib.ListN.{length}
 use borrow.Author.Tests.{ne-eqb, eqb-true, lt-ltb, le-ltb, leb-true}
 use Rattle.points.proofs.Tests.{and-l}
-use Rattle.rows.specs.Layout.{wordsFor}
-use Rattle.rows.specs.Common.{placesIn, limitIn}
-use Rattle.rows.specs.Station.{isUnfinished, stateAt}
+use Rattle.words.specs.Layout.{wordsFor}
+use Rattle.stations.specs.Common.{placesIn, limitIn}
+use Rattle.stations.specs.Station.{isUnfinished, stateAt}
 use Rattle.table.specs.Call.{Call, Answer}
 use Rattle.table.specs.Table.{Station, idle, unfinished, waiting, Table, opened, answerOf}
 use Rattle.table.specs.Event.{singleStep, accept, refuse, take, takeAt}
@@ -23,9 +23,9 @@ use Rattle.table.proofs.Sound.{Sound}
 use Rattle.table.proofs.Reached.{sound-feed}
 use Rattle.table.proofs.Eager.{Settled, own}
 use Rattle.table.proofs.Simulation.{Matches, Finishes, Simulation, still, stillAt, finished, answer-step, simulation-linear}
-use Rattle.moves.specs.Reply.{Reply as WordReply}
-use Rattle.steps.specs.Open.{openedWords, openOf}
-use Rattle.steps.specs.Step.{stepOf}
+use Rattle.calls.specs.Reply.{Reply as WordReply}
+use Rattle.calls.specs.Open.{openedWords, openOf}
+use Rattle.calls.specs.Step.{stepOf}
 use Rattle.history.specs.Index.{wordIndex}
 use Rattle.history.specs.View.{seatAt}
 use Rattle.history.specs.Related.{Related, Idle, Waits}

@@ -7,16 +7,16 @@ use mathlib.Core.List.{List, [], _∷_}
 use native.Mathlib.Omega.{arith}
 use native.Mathlib.Decide.{decLt, ℕ-discrete}
 use borrow.Author.Tests.{eq-eqb, ne-eqb}
-use Rattle.rows.specs.Station.{isUnfinished, stateAt}
+use Rattle.stations.specs.Station.{isUnfinished, stateAt}
 use Rattle.table.specs.Table.{Station, idle, unfinished, waiting, Table}
 use Rattle.table.specs.Event.{Event, submission, singleStep, taking, withdrawal, accept}
 use Rattle.table.specs.History.{reply, answered}
 use Rattle.table.proofs.Eager.{own}
 use Rattle.table.proofs.Settled.{busy, take-busy, retract-busy, retract-ends, answer-busy}
 use Rattle.table.proofs.Simulation.{finished, answer-step}
-use Rattle.steps.specs.Open.{openOf}
-use Rattle.steps.specs.Step.{stepOf}
-use Rattle.steps.specs.Withdraw.{withdrawOf}
+use Rattle.calls.specs.Open.{openOf}
+use Rattle.calls.specs.Step.{stepOf}
+use Rattle.calls.specs.Withdraw.{withdrawOf}
 use Rattle.history.specs.Index.{wordIndex}
 use Rattle.history.specs.View.{seatAt}
 use Rattle.history.specs.Related.{Related}

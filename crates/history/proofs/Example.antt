@@ -18,8 +18,8 @@ use Rattle.table.proofs.Alike.{Alike, alike-refl, alike-answer, alike-idle}
 use Rattle.table.proofs.Eager.{fresh}
 use Rattle.table.proofs.Play.{run}
 use Rattle.table.proofs.Cases.{at, m, p, target}
-use Rattle.steps.specs.Open.{openOf}
-use Rattle.steps.specs.Submit.{submitOf}
+use Rattle.calls.specs.Open.{openOf}
+use Rattle.calls.specs.Submit.{submitOf}
 use Rattle.history.proofs.Called.{RunGives, CallGives, calledWords, standing-open, Called, called, Begun, begun, set-gives}
 
 -- "open 2 places, limit 10"

@@ -11,10 +11,10 @@ use Rattle.points.specs.Point.{inRange}
 use Rattle.points.specs.Square.{squareOf}
 use Rattle.points.specs.Choice.{sameGrade, chosenOver}
 use Rattle.points.proofs.SquareLaws.{square-le}
-use Rattle.rows.specs.declared.call.Best.{Best as WordBest}
-use Rattle.rows.specs.declared.call.Call.{Call}
-use Rattle.rows.specs.Range.{curveIn}
-use Rattle.rows.specs.Answer.{answerSound}
+use Rattle.stations.specs.declared.call.Best.{Best as WordBest}
+use Rattle.stations.specs.declared.call.Call.{Call}
+use Rattle.words.specs.Range.{curveIn}
+use Rattle.stations.specs.Answer.{answerSound}
 use Rattle.table.specs.Record.{Record, Once, nearestOf}
 use Rattle.table.specs.Call.{nearestAnswer}
 use Rattle.table.proofs.Held.{record-same}
@@ -23,13 +23,13 @@ use Rattle.trees.specs.Row.{Entry}
 use Rattle.trees.specs.Tour.{Best}
 use Rattle.trees.specs.Search.{FoundAs, Nearest}
 use Rattle.trees.proofs.ChoiceOf.{choiceOf}
-use Rattle.moves.specs.Answer.{answer}
-use Rattle.moves.specs.Search.{foundAnswer}
+use Rattle.calls.specs.Answer.{answer}
+use Rattle.calls.specs.Search.{foundAnswer}
 use Rattle.history.specs.Index.{answerOf}
 use Rattle.history.specs.View.{bestOf}
 use Rattle.history.specs.Related.{recordOf}
-use Rattle.rows.proofs.RangeLaws.{curve-tells}
-use Rattle.rows.proofs.SoundLaws.{answer-of}
+use Rattle.words.proofs.RangeLaws.{curve-tells}
+use Rattle.stations.proofs.SoundLaws.{answer-of}
 
 -- the best over words, where it has a curve
 abbrev bestThere : WordBest → Best

@@ -4,18 +4,18 @@ use mathlib.Core.Path.{_≡_}
 use mathlib.Core.List.{List}
 use native.Mathlib.Omega.{arith}
 use Rattle.points.specs.declared.point.Point.{Point}
-use Rattle.rows.specs.Layout.{atChanges, atHeld, atRoot, atHead, atTail, atRemovals, atCursor, atPhase, atSince, atMissed}
-use Rattle.rows.specs.Words.{get}
-use Rattle.rows.specs.Agree.{inCommon, inStation, inRow, AgreeIn, OnlyIn}
+use Rattle.words.specs.Layout.{atChanges, atHeld, atRoot, atHead, atTail, atRemovals, atCursor, atPhase, atSince, atMissed}
+use Rattle.words.specs.Words.{get}
+use Rattle.words.specs.Agree.{inCommon, inStation, inRow, AgreeIn, OnlyIn}
 use Rattle.rows.specs.Grades.{slotOf}
-use Rattle.rows.specs.Station.{stateAt}
-use Rattle.rows.specs.Target.{targetAt}
-use Rattle.rows.specs.Call.{callAt}
-use Rattle.rows.specs.Answer.{answerAt}
-use Rattle.rows.proofs.AgreeLaws.{row-common, station-common}
+use Rattle.stations.specs.Station.{stateAt}
+use Rattle.stations.specs.Target.{targetAt}
+use Rattle.stations.specs.Call.{callAt}
+use Rattle.stations.specs.Answer.{answerAt}
+use Rattle.words.proofs.AgreeLaws.{row-common, station-common}
 use Rattle.rows.proofs.GradeLaws.{slot-below}
-use Rattle.rows.proofs.TargetLaws.{targetAt-agree}
-use Rattle.rows.proofs.UnseenLaws.{StationReads, reads-unseen}
+use Rattle.stations.proofs.TargetLaws.{targetAt-agree}
+use Rattle.calls.proofs.UnseenLaws.{StationReads, reads-unseen}
 use Rattle.history.specs.View.{Place, Seat, countsAt, placeAt, seatAt, SameRows}
 
 -- ---- places and seats by their parts

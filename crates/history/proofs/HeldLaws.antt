@@ -7,7 +7,7 @@ use mathlib.Core.Option.{Option, none, some}
 use native.Mathlib.Omega.{arith}
 use lib.ListN.{length}
 use Rattle.points.specs.Word.{NONE}
-use Rattle.rows.specs.Common.{leastSince}
+use Rattle.stations.specs.Common.{leastSince}
 use Rattle.rows.proofs.RowLaws.{rowAt-outside}
 use Rattle.table.specs.Record.{Record, Once}
 use Rattle.table.specs.Table.{Table}
@@ -15,7 +15,7 @@ use Rattle.trees.specs.Row.{Entry, Heap}
 use Rattle.trees.specs.Tree.{Tree, leaf, cut, top, topOf, TreeHas, TreeShape, treeSize, treeEntries, entriesOf, Different}
 use Rattle.trees.specs.Store.{Store}
 use Rattle.trees.proofs.ShapeLaws.{entries-different}
-use Rattle.steps.specs.Held.{heldBelow, heldIn}
+use Rattle.calls.specs.Held.{heldBelow, heldIn}
 use Rattle.history.specs.Index.{recordOf as heldRecord}
 use Rattle.history.specs.View.{Reads}
 use Rattle.history.specs.Related.{recordOf, Related}

@@ -6,17 +6,16 @@ use mathlib.Core.List.{List}
 use native.Mathlib.Omega.{arith}
 use lib.Dec.{eqb}
 use lib.ListN.{length}
-use Rattle.rows.specs.declared.common.Opening.the-variants.{Opened}
-use Rattle.rows.specs.Layout.{atChanges, atHeld, atRoot, atHead, atTail, atRemovals, atCursor, atPhase, atSince, atMissed}
-use Rattle.rows.specs.Words.{get, put}
-use Rattle.rows.specs.Common.{openedIn}
-use Rattle.rows.proofs.WordLaws.{get-put-same, get-put-other}
-use Rattle.rows.proofs.OpeningLaws.{opened-tells}
-use Rattle.rows.proofs.StationLaws.{put-common}
-use Rattle.rows.proofs.TargetLaws.{target-put}
-use Rattle.moves.specs.declared.insert.Room.{Room}
-use Rattle.moves.specs.Reply.{more}
-use Rattle.moves.specs.Insert.{insertHead, insertRoot, insertCounts, cursorsMoved}
+use Rattle.stations.specs.declared.common.Opening.the-variants.{Opened}
+use Rattle.words.specs.Layout.{atChanges, atHeld, atRoot, atHead, atTail, atRemovals, atCursor, atPhase, atSince, atMissed}
+use Rattle.words.specs.Words.{get, put, more}
+use Rattle.stations.specs.Common.{openedIn}
+use Rattle.words.proofs.WordLaws.{get-put-same, get-put-other}
+use Rattle.stations.proofs.OpeningLaws.{opened-tells}
+use Rattle.stations.proofs.StationLaws.{put-common}
+use Rattle.stations.proofs.TargetLaws.{target-put}
+use Rattle.calls.specs.declared.insert.Room.{Room}
+use Rattle.calls.specs.Insert.{insertHead, insertRoot, insertCounts, cursorsMoved}
 use Rattle.history.specs.View.{Counts, Place, Seat, countsAt, placeAt, seatAt, withPlace, SameRows, Written}
 use Rattle.history.proofs.Frame.{place-of, place-same}
 use Rattle.history.proofs.CountEffects.{Counting, counting-none, counting-put}

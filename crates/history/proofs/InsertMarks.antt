@@ -9,18 +9,18 @@ use lib.ListN.{length}
 use Rattle.points.specs.declared.point.Point.{Point}
 use Rattle.points.specs.Cut.{cutOf, goesLeft}
 use Rattle.points.specs.Word.{NONE}
-use Rattle.rows.specs.declared.common.Opening.the-variants.{Opened}
-use Rattle.rows.specs.Layout.{atRow, mostRows}
-use Rattle.rows.specs.Common.{openedIn}
-use Rattle.rows.specs.Row.{Room as RoomIn, rowAt, putRow}
+use Rattle.stations.specs.declared.common.Opening.the-variants.{Opened}
+use Rattle.words.specs.Layout.{atRow, mostRows, Room as RoomIn}
+use Rattle.stations.specs.Common.{openedIn}
+use Rattle.rows.specs.Row.{rowAt, putRow}
 use Rattle.rows.specs.Grades.{slotOf}
-use Rattle.rows.proofs.OpeningLaws.{opened-tells, opened-room}
+use Rattle.stations.proofs.OpeningLaws.{opened-tells, opened-room}
 use Rattle.rows.proofs.GradeLaws.{begin-here, begin-there}
 use Rattle.trees.specs.Row.{Entry, Heap}
 use Rattle.trees.specs.Reads.{Leaf}
-use Rattle.moves.specs.declared.insert.Room.{Room}
-use Rattle.moves.specs.Link.{isCut, replaced}
-use Rattle.moves.specs.Insert.{newLeaf, newSide, newCut, putCut, insertRows}
+use Rattle.calls.specs.declared.insert.Room.{Room}
+use Rattle.calls.specs.Link.{isCut, replaced}
+use Rattle.calls.specs.Insert.{newLeaf, newSide, newCut, putCut, insertRows}
 use Rattle.history.specs.View.{Reads, marksIn}
 use Rattle.history.proofs.Frame.{slot-fits}
 use Rattle.history.proofs.Effects.{row-written}

@@ -16,11 +16,11 @@ use Rattle.points.specs.Cut.{cutOf, goesLeft}
 use Rattle.points.specs.Word.{NONE, cutInRange}
 use Rattle.points.proofs.CutLaws.{cut-in-range}
 use Rattle.rows.specs.declared.row.Row.the-variants.{Bad}
-use Rattle.rows.specs.Layout.{atHead}
-use Rattle.rows.specs.Words.{get}
-use Rattle.rows.specs.Range.{curveIn}
+use Rattle.words.specs.Layout.{atHead}
+use Rattle.words.specs.Words.{get}
+use Rattle.words.specs.Range.{curveIn}
 use Rattle.rows.specs.Row.{rowAt, putRow, inRows}
-use Rattle.rows.proofs.RangeLaws.{or-right, link-none, link-row}
+use Rattle.words.proofs.RangeLaws.{or-right, link-none, link-row}
 use Rattle.rows.proofs.RowLaws.{rowAt-outside}
 use Rattle.rows.proofs.GradeLaws.{begin-outside}
 use Rattle.trees.specs.Row.{Entry, Row, spareRow, removedRow, leafRow, cutRow, Heap, pickRow, parentOf, nextOf, replaceChild}
@@ -34,9 +34,9 @@ use Rattle.trees.proofs.Insert.{next-free}
 use Rattle.trees.proofs.Room.{room-two, room-one}
 use Rattle.trees.proofs.ReadLaws.{read-above, link-head}
 use Rattle.trees.proofs.WriteLaws.{insert-apart, insert-writes, insert-write}
-use Rattle.moves.specs.declared.insert.Room.{Room}
-use Rattle.moves.specs.Link.{nextOf as nextIn, linksTo, leafPoint, replaced}
-use Rattle.moves.specs.Insert.{roomAt, roomSound, newLeaf, cutWith, newSide, newCut as cutIn, putCut, insertRows}
+use Rattle.calls.specs.declared.insert.Room.{Room}
+use Rattle.calls.specs.Link.{nextOf as nextIn, linksTo, leafPoint, replaced}
+use Rattle.calls.specs.Insert.{roomAt, roomSound, newLeaf, cutWith, newSide, newCut as cutIn, putCut, insertRows}
 use Rattle.history.specs.View.{wordRow, Reads, heapPut}
 use Rattle.history.proofs.Effects.{reads-in, put-none}
 use Rattle.history.proofs.RowLinks.{LeafIn, leaf-tells, leaf-of, leaf-in, cut-of, child-words, child-in}

@@ -3,10 +3,10 @@ use Prim.Native.Nat.{ℕ, _≤_, _<_}
 use mathlib.Core.Logic.{inl, inr}
 use mathlib.Core.List.{List}
 use native.Mathlib.Omega.{arith}
-use Rattle.rows.specs.Layout.{atRemovals, atSince}
-use Rattle.rows.specs.Words.{get}
-use Rattle.rows.specs.Common.{leastSince}
-use Rattle.rows.proofs.TakenLaws.{least-removals, least-since, least-greatest}
+use Rattle.words.specs.Layout.{atRemovals, atSince}
+use Rattle.words.specs.Words.{get}
+use Rattle.stations.specs.Common.{leastSince}
+use Rattle.stations.proofs.TakenLaws.{least-removals, least-since, least-greatest}
 use Rattle.table.specs.Table.{eight}
 use Rattle.table.proofs.Taken.{IsLeast, least, least-is}
 

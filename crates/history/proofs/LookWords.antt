@@ -11,20 +11,20 @@ use borrow.Author.Tests.{eqb-false, eq-eqb, ne-eqb}
 use Rattle.points.specs.Point.{inRange}
 use Rattle.points.specs.Word.{NONE}
 use Rattle.points.proofs.Tests.{and-l, and-r}
-use Rattle.rows.specs.declared.call.Best.{Best as WordBest}
-use Rattle.rows.specs.declared.call.Call.{Call}
-use Rattle.rows.specs.Range.{linkIn, curveIn}
+use Rattle.stations.specs.declared.call.Best.{Best as WordBest}
+use Rattle.stations.specs.declared.call.Call.{Call}
+use Rattle.words.specs.Range.{linkIn, curveIn}
 use Rattle.rows.specs.Row.{rowAt, inRows}
 use Rattle.trees.specs.Row.{Entry, Row, spareRow, removedRow, leafRow, cutRow, Heap}
 use Rattle.trees.specs.Tour.{Best, considered, passSpare, missedNext, withMissed, lookRow, look}
 use Rattle.trees.proofs.ChoiceOf.{choiceOf}
-use Rattle.moves.specs.declared.search.Progress.{Progress as WordProgress}
-use Rattle.moves.specs.Link.{isFree, nextOf}
-use Rattle.moves.specs.Search.{considered as consideredWord, passSpare as passWordSpare, lookAt, look as lookWord}
+use Rattle.calls.specs.declared.search.Progress.{Progress as WordProgress}
+use Rattle.calls.specs.Link.{isFree, nextOf}
+use Rattle.calls.specs.Search.{considered as consideredWord, passSpare as passWordSpare, lookAt, look as lookWord}
 use Rattle.history.specs.View.{wordRow, Reads, bestOf}
 use Rattle.history.proofs.Effects.{reads-in}
 use Rattle.rows.proofs.RowLaws.{in-rows-spare, in-rows-removed, in-rows-leaf, rowAt-outside}
-use Rattle.rows.proofs.RangeLaws.{link-tells, curve-tells}
+use Rattle.words.proofs.RangeLaws.{link-tells, curve-tells}
 use Rattle.history.proofs.ProgressWords.{viewOf, Fit, Keeps, keeps-some, keeps-none, keeps-pick, considered-words, considered-ranged}
 
 -- what the range of a row with a record says of the record

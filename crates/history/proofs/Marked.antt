@@ -26,7 +26,7 @@ use Rattle.trees.proofs.ReadLaws.{read-row, read-above}
 use Rattle.trees.proofs.RouteLaws.{on-route-has}
 use Rattle.trees.proofs.Routes.{passed-route, passed-grows}
 use Rattle.trees.proofs.MarkLaws.{cover-grows, pass-grows, pass-down}
-use Rattle.moves.specs.Walk.{down, wayOf, markedWay}
+use Rattle.calls.specs.Walk.{down, wayOf, markedWay}
 use Rattle.history.specs.View.{Counts, Seat, countsAt, seatAt, Reads, marksIn, Written}
 use Rattle.history.specs.Related.{Marking, Related}
 use Rattle.history.proofs.Frame.{slot-fits}

@@ -11,8 +11,8 @@ use Rattle.table.specs.Event.{Event, singleStep}
 use Rattle.table.specs.History.{reply, wouldGive, answered}
 use Rattle.table.proofs.Searched.{Unanswered}
 use Rattle.table.proofs.Nearer.{HeldAt, Finds, Always, nearer-held}
-use Rattle.steps.specs.Open.{openOf}
-use Rattle.steps.specs.Submit.{submitOf}
+use Rattle.calls.specs.Open.{openOf}
+use Rattle.calls.specs.Submit.{submitOf}
 use Rattle.history.specs.Index.{wordIndex}
 use Rattle.history.specs.After.{after}
 use Rattle.history.proofs.Demand3.{demand-3}

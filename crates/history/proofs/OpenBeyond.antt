@@ -8,13 +8,13 @@ use lib.Dec.{ltb}
 use lib.ListN.{length}
 use Rattle.points.specs.Word.{NONE}
 use Rattle.rows.specs.declared.row.Row.the-variants.{Spare}
-use Rattle.rows.specs.Layout.{records, atCursor, atSince, atMissed}
-use Rattle.rows.specs.Words.{get, put}
-use Rattle.rows.proofs.WordLaws.{length-put, get-put-other}
+use Rattle.words.specs.Layout.{records, atCursor, atSince, atMissed}
+use Rattle.words.specs.Words.{get, put}
+use Rattle.words.proofs.WordLaws.{length-put, get-put-other}
 use Rattle.rows.proofs.RowLaws.{length-putRow, get-putRow}
 use Rattle.table.specs.Event.{Event}
 use Rattle.table.specs.History.{Linear}
-use Rattle.steps.specs.Open.{cleared, stationsCleared, rowsSpare, headWords, openedWords, openOf}
+use Rattle.calls.specs.Open.{cleared, stationsCleared, rowsSpare, headWords, openedWords, openOf}
 use Rattle.history.specs.Index.{wordIndex}
 use Rattle.history.specs.After.{after}
 use Rattle.history.proofs.Demand3.{accepted, demand-3}

@@ -9,19 +9,18 @@ use lib.ListN.{length}
 use borrow.Author.Tests.{leb-true}
 use Rattle.points.specs.Word.{NONE}
 use Rattle.points.proofs.Tests.{and-l, and-r}
-use Rattle.rows.specs.declared.common.Opening.the-variants.{Opened}
+use Rattle.stations.specs.declared.common.Opening.the-variants.{Opened}
 use Rattle.rows.specs.declared.row.Row.the-variants.{Spare}
-use Rattle.rows.specs.Layout.{atMark, atPlaces, atLimit, atCursor, atPhase, atSince, atMissed, atStation, records, wordsFor}
-use Rattle.rows.specs.Words.{get}
-use Rattle.rows.specs.Row.{Room}
+use Rattle.words.specs.Layout.{atMark, atPlaces, atLimit, atCursor, atPhase, atSince, atMissed, atStation, records, wordsFor, Room}
+use Rattle.words.specs.Words.{get}
 use Rattle.rows.specs.Row.{rowAt}
-use Rattle.rows.specs.Common.{openedIn, placesIn, limitIn}
-use Rattle.rows.proofs.OpeningLaws.{IsOpen, opened-of}
-use Rattle.rows.proofs.StationLaws.{there-of}
-use Rattle.rows.proofs.RecordLaws.{stateAt-is}
-use Rattle.rows.specs.Target.{targetAt}
-use Rattle.rows.proofs.TargetLaws.{target-agree}
-use Rattle.steps.specs.Open.{cleared, stationsCleared, rowsSpare, headWords, openedWords}
+use Rattle.stations.specs.Common.{openedIn, placesIn, limitIn}
+use Rattle.stations.proofs.OpeningLaws.{IsOpen, opened-of}
+use Rattle.stations.proofs.StationLaws.{there-of}
+use Rattle.stations.proofs.RecordLaws.{stateAt-is}
+use Rattle.stations.specs.Target.{targetAt}
+use Rattle.stations.proofs.TargetLaws.{target-agree}
+use Rattle.calls.specs.Open.{cleared, stationsCleared, rowsSpare, headWords, openedWords}
 use Rattle.history.specs.View.{countsAt, placeAt, seatAt, noPlace, Place}
 use Rattle.history.proofs.Frame.{place-same, counts-same}
 use Rattle.history.proofs.PlaceEffects.{Moved}

@@ -11,14 +11,13 @@ use borrow.Author.Tests.{lt-ltb, le-ltb, eq-eqb, ne-eqb}
 use Rattle.points.specs.Word.{NONE}
 use Rattle.rows.specs.declared.row.Row.{Row}
 use Rattle.rows.specs.declared.row.Row.the-variants.{Spare}
-use Rattle.rows.specs.Layout.{records}
-use Rattle.rows.specs.Words.{get}
-use Rattle.rows.specs.Row.{Room}
-use Rattle.rows.specs.Range.{linkIn}
+use Rattle.words.specs.Layout.{records, Room}
+use Rattle.words.specs.Words.{get}
+use Rattle.words.specs.Range.{linkIn}
 use Rattle.rows.specs.Row.{rowAt, putRow, inRows}
-use Rattle.rows.proofs.RangeLaws.{link-none, link-row}
+use Rattle.words.proofs.RangeLaws.{link-none, link-row}
 use Rattle.rows.proofs.RowLaws.{in-rows-spare, length-putRow, get-putRow, rowAt-putRow-same, rowAt-putRow-other}
-use Rattle.steps.specs.Open.{rowsSpare}
+use Rattle.calls.specs.Open.{rowsSpare}
 
 -- row r of so many, as opening leaves it
 abbrev pub newRow : ℕ → ℕ → Row

@@ -6,12 +6,12 @@ use native.Mathlib.Omega.{arith}
 use native.Mathlib.Decide.{ℕ-discrete}
 use lib.ListN.{length}
 use Rattle.points.specs.Word.{NONE}
-use Rattle.rows.specs.Layout.{atMark, atPlaces, atLimit, atRoot, atHead, atTail, atCursor, atPhase, atSince, atMissed, records}
-use Rattle.rows.specs.Words.{get, put}
-use Rattle.rows.specs.Common.{mark}
-use Rattle.rows.proofs.WordLaws.{length-put, get-put-same, get-put-other}
-use Rattle.rows.specs.Target.{targetAt}
-use Rattle.steps.specs.Open.{cleared, stationsCleared}
+use Rattle.words.specs.Layout.{atMark, atPlaces, atLimit, atRoot, atHead, atTail, atCursor, atPhase, atSince, atMissed, records}
+use Rattle.words.specs.Words.{get, put}
+use Rattle.stations.specs.Common.{mark}
+use Rattle.words.proofs.WordLaws.{length-put, get-put-same, get-put-other}
+use Rattle.stations.specs.Target.{targetAt}
+use Rattle.calls.specs.Open.{cleared, stationsCleared}
 use Rattle.history.specs.View.{Counts, Place, countsAt, placeAt}
 use Rattle.history.proofs.Frame.{place-of, place-same}
 use Rattle.history.proofs.CountEffects.{putCount, counts-put}

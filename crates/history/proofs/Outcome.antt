@@ -13,7 +13,7 @@ use Rattle.trees.specs.Queue.{Free}
 use Rattle.trees.specs.Route.{standsAt}
 use Rattle.trees.specs.Measure.{walkLeft, searchLeft, stepMoves, progressLeft}
 use Rattle.trees.proofs.ChoiceOf.{choiceOf}
-use Rattle.moves.specs.Reply.{Reply as WordReply}
+use Rattle.calls.specs.Reply.{Reply as WordReply}
 use Rattle.history.specs.View.{Seat, seatAt, Counts, Place, countsAt, progressOf}
 use Rattle.history.specs.Related.{Searching, Related}
 use native.Mathlib.Omega.{arith}

@@ -10,19 +10,19 @@ use lib.ListN.{length}
 use borrow.Author.Tests.{eqb-true, eqb-false}
 use Rattle.points.specs.declared.point.Point.{Point}
 use Rattle.points.specs.Point.{inRange}
-use Rattle.rows.specs.Layout.{atCursor, atPhase, atSince, atMissed}
-use Rattle.rows.specs.Words.{get}
-use Rattle.rows.specs.Agree.{inCommon, inStation, inRow, OnlyIn}
+use Rattle.words.specs.Layout.{atCursor, atPhase, atSince, atMissed}
+use Rattle.words.specs.Words.{get}
+use Rattle.words.specs.Agree.{inCommon, inStation, inRow, OnlyIn}
 use Rattle.rows.specs.Grades.{slotOf}
-use Rattle.rows.specs.Target.{targetAt, putTarget}
-use Rattle.rows.specs.Station.{hasStation, putPlace, putSince, putMissed}
-use Rattle.rows.proofs.AgreeLaws.{only-refl, only-trans, row-common, common-station, station-station, row-station, elsewhere}
-use Rattle.rows.proofs.OpeningLaws.{openedIn-first}
-use Rattle.rows.proofs.StationLaws.{there-tells, there-length, putPlace-only, putSince-only, putMissed-only}
-use Rattle.rows.proofs.PlaceLaws.{get-putPlace-cursor, get-putPlace-phase, get-putSince-same, get-putMissed-same, get-putPlace-other, get-putSince-other, get-putMissed-other}
-use Rattle.rows.proofs.TargetLaws.{targetAt-agree, target-putPlace, target-putSince, target-putMissed, putTarget-only, get-putTarget, target-other, target-back}
-use Rattle.rows.proofs.UnseenLaws.{StationReads, RowReads, reads-unseen}
-use Rattle.steps.specs.Submit.{aimedWords}
+use Rattle.stations.specs.Target.{targetAt, putTarget}
+use Rattle.stations.specs.Station.{hasStation, putPlace, putSince, putMissed}
+use Rattle.words.proofs.AgreeLaws.{only-refl, only-trans, row-common, common-station, station-station, row-station, elsewhere}
+use Rattle.stations.proofs.OpeningLaws.{openedIn-first}
+use Rattle.stations.proofs.StationLaws.{there-tells, there-length, putPlace-only, putSince-only, putMissed-only}
+use Rattle.stations.proofs.PlaceLaws.{get-putPlace-cursor, get-putPlace-phase, get-putSince-same, get-putMissed-same, get-putPlace-other, get-putSince-other, get-putMissed-other}
+use Rattle.stations.proofs.TargetLaws.{targetAt-agree, target-putPlace, target-putSince, target-putMissed, putTarget-only, get-putTarget, target-other, target-back}
+use Rattle.calls.proofs.UnseenLaws.{StationReads, RowReads, reads-unseen}
+use Rattle.calls.specs.Submit.{aimedWords}
 use Rattle.history.specs.View.{Place, Seat, countsAt, placeAt, seatAt, seatPut, SameRows, Written}
 use Rattle.history.proofs.Frame.{place-of, counts-same, place-same, seat-same, slot-fits, common-stations}
 

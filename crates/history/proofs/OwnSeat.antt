@@ -10,14 +10,14 @@ use native.Mathlib.Omega.{arith}
 use lib.ListN.{length}
 use borrow.Author.Tests.{ne-eqb}
 use Rattle.points.specs.Word.{NONE}
-use Rattle.rows.specs.declared.answer.Answer.{Answer as Given}
-use Rattle.rows.specs.Layout.{atSince, atMissed}
-use Rattle.rows.specs.Words.{get}
-use Rattle.rows.specs.Common.{leastSince}
-use Rattle.rows.specs.Answer.{answerSound}
-use Rattle.rows.specs.Station.{putPlace}
-use Rattle.rows.proofs.TakenLaws.{least-removals, least-since}
-use Rattle.rows.specs.Target.{targetAt}
+use Rattle.stations.specs.declared.answer.Answer.{Answer as Given}
+use Rattle.words.specs.Layout.{atSince, atMissed}
+use Rattle.words.specs.Words.{get}
+use Rattle.stations.specs.Common.{leastSince}
+use Rattle.stations.specs.Answer.{answerSound}
+use Rattle.stations.specs.Station.{putPlace}
+use Rattle.stations.proofs.TakenLaws.{least-removals, least-since}
+use Rattle.stations.specs.Target.{targetAt}
 use Rattle.table.specs.Call.{Call, add, remove, contains, nearest, isSearch, pointOf}
 use Rattle.table.specs.Table.{unfinished, waiting, Table, put, withStations}
 use Rattle.table.proofs.Stations.{put-same, put-other}
@@ -25,7 +25,7 @@ use Rattle.trees.specs.Tree.{Tree}
 use Rattle.trees.specs.Queue.{Free}
 use Rattle.trees.specs.Route.{OnRoute}
 use Rattle.trees.specs.Measure.{walkLeft, stepMoves}
-use Rattle.moves.specs.Answer.{answeredWords}
+use Rattle.calls.specs.Answer.{answeredWords}
 use Rattle.history.specs.Index.{answerOf}
 use Rattle.history.specs.View.{Seat, countsAt, placeAt, seatAt, withPlace, marksIn, answeredSeat}
 use Rattle.history.specs.Related.{Works, Busy, Says, Marking, Related}

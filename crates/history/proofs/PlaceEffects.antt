@@ -5,14 +5,14 @@ use mathlib.Core.List.{List}
 use native.Mathlib.Omega.{arith}
 use native.Mathlib.Decide.{ℕ-discrete}
 use lib.ListN.{length}
-use Rattle.rows.specs.Words.{get, put}
-use Rattle.rows.specs.Agree.{inCommon, OnlyIn}
-use Rattle.rows.proofs.WordLaws.{length-put, get-put-same, get-put-other}
-use Rattle.rows.proofs.AgreeLaws.{only-refl, only-trans}
-use Rattle.rows.proofs.OpeningLaws.{openedIn-first}
-use Rattle.rows.proofs.StationLaws.{put-common}
-use Rattle.rows.specs.Target.{targetAt}
-use Rattle.rows.proofs.TargetLaws.{target-put}
+use Rattle.words.specs.Words.{get, put}
+use Rattle.words.specs.Agree.{inCommon, OnlyIn}
+use Rattle.words.proofs.WordLaws.{length-put, get-put-same, get-put-other}
+use Rattle.words.proofs.AgreeLaws.{only-refl, only-trans}
+use Rattle.stations.proofs.OpeningLaws.{openedIn-first}
+use Rattle.stations.proofs.StationLaws.{put-common}
+use Rattle.stations.specs.Target.{targetAt}
+use Rattle.stations.proofs.TargetLaws.{target-put}
 use Rattle.history.specs.View.{Counts, Place, placeAt, seatAt, withPlace, SameRows, Written}
 use Rattle.history.proofs.Frame.{seat-of, counts-same, common-stations, common-rows}
 use Rattle.history.proofs.CountEffects.{Counting}

@@ -10,14 +10,14 @@ use borrow.Author.Tests.{ne-eqb}
 use Rattle.points.specs.declared.point.Point.{Point}
 use Rattle.points.specs.Point.{inRange}
 use Rattle.points.specs.Choice.{sameGrade}
-use Rattle.rows.specs.declared.call.Best.{Best as WordBest}
-use Rattle.rows.specs.declared.call.Call.{Call}
+use Rattle.stations.specs.declared.call.Best.{Best as WordBest}
+use Rattle.stations.specs.declared.call.Call.{Call}
 use Rattle.trees.specs.Row.{Entry}
 use Rattle.trees.specs.Choice.{bestSquare}
 use Rattle.trees.specs.Tour.{Best, pointOf, Progress, better, pickBest, considered, pickProgress, goTo}
 use Rattle.trees.proofs.ChoiceOf.{choiceOf}
-use Rattle.moves.specs.declared.search.Progress.{Progress as WordProgress}
-use Rattle.moves.specs.Search.{pickBest as pickWordBest, pickProgress as pickWordProgress, better as betterWord, considered as consideredWord, bestSquare as bestWordSquare, onward}
+use Rattle.calls.specs.declared.search.Progress.{Progress as WordProgress}
+use Rattle.calls.specs.Search.{pickBest as pickWordBest, pickProgress as pickWordProgress, better as betterWord, considered as consideredWord, bestSquare as bestWordSquare, onward}
 use Rattle.history.specs.View.{phaseOf, bestOf}
 
 -- the progress over rows that one over words is

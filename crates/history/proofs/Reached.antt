@@ -18,8 +18,8 @@ use Rattle.table.proofs.Eager.{Settled, settle}
 use Rattle.table.proofs.Settled.{settled, settle-keeps}
 use Rattle.table.proofs.Retract.{retract, retract-all, sound-retract}
 use Rattle.table.proofs.Simulation.{stillAt, still, finished}
-use Rattle.steps.specs.Open.{openedWords}
-use Rattle.steps.specs.Step.{stepOf}
+use Rattle.calls.specs.Open.{openedWords}
+use Rattle.calls.specs.Step.{stepOf}
 use Rattle.history.specs.Index.{wordIndex}
 use Rattle.history.specs.Related.{Related}
 use Rattle.history.specs.After.{after}

@@ -10,36 +10,36 @@ use lib.ListN.{length}
 use Rattle.points.specs.declared.point.Point.{Point}
 use Rattle.points.specs.Point.{inRange}
 use Rattle.points.specs.Word.{NONE}
-use Rattle.rows.specs.declared.call.Call.{Call}
-use Rattle.rows.specs.declared.answer.Waiting.{Waiting}
-use Rattle.rows.specs.declared.answer.Waiting.the-variants.{Nothing, Given}
-use Rattle.rows.specs.Layout.{wordsFor, atHeld}
-use Rattle.rows.specs.Words.{get}
+use Rattle.stations.specs.declared.call.Call.{Call}
+use Rattle.stations.specs.declared.answer.Waiting.{Waiting}
+use Rattle.stations.specs.declared.answer.Waiting.the-variants.{Nothing, Given}
+use Rattle.words.specs.Layout.{wordsFor, atHeld}
+use Rattle.words.specs.Words.{get}
 use Rattle.rows.specs.Row.{rowAt}
-use Rattle.rows.specs.Common.{placesIn, limitIn, openedIn, takenIn}
-use Rattle.rows.specs.Station.{isIdle, isUnfinished, stateAt}
-use Rattle.rows.specs.Call.{callAt}
-use Rattle.rows.specs.Answer.{waitingAt}
-use Rattle.steps.specs.declared.take.Taking.{Taking}
-use Rattle.steps.specs.declared.take.Taking.the-variants.{Refused as Refusal, Given as Taken}
-use Rattle.moves.specs.Reply.{Reply, done, refused, pickReply, ask, isOpened, rowsIn}
-use Rattle.moves.specs.Link.{isLeaf, isCut}
-use Rattle.steps.specs.Open.{openedWords, openOf}
-use Rattle.steps.specs.Submit.{kindIn, curveFits, submittedWords, submitOf}
-use Rattle.moves.specs.Search.{seek, progressAt, searchOf}
-use Rattle.moves.specs.Insert.{roomAt, roomSound, insertOf}
-use Rattle.moves.specs.Unlink.{aroundAt, aroundSound, unlinkOf}
-use Rattle.moves.specs.Walk.{wayOf, codeAt, conclude, standsAt, walkOf}
-use Rattle.steps.specs.Step.{recordsSound, workOf, askUnfinished, stepOf}
-use Rattle.steps.specs.Withdraw.{withdrawnWords, withdrawOf}
-use Rattle.steps.specs.Take.{takingOf, takeOf, numberOf, takenWords, takeWords}
-use Rattle.steps.specs.declared.report.Report.{Report}
-use Rattle.steps.specs.Report.{reportOf}
-use Rattle.audits.specs.Tree.{treeIn}
-use Rattle.audits.specs.Queue.{queueIn}
-use Rattle.audits.specs.Whole.{allRows}
-use Rattle.steps.specs.Audit.{auditOf, verdictOf}
-use Rattle.steps.specs.Run.{isGiven}
+use Rattle.stations.specs.Common.{placesIn, limitIn, openedIn, takenIn, isOpened, rowsIn}
+use Rattle.stations.specs.Station.{isIdle, isUnfinished, stateAt}
+use Rattle.stations.specs.Call.{callAt}
+use Rattle.stations.specs.Answer.{waitingAt}
+use Rattle.calls.specs.declared.take.Taking.{Taking}
+use Rattle.calls.specs.declared.take.Taking.the-variants.{Refused as Refusal, Given as Taken}
+use Rattle.calls.specs.Reply.{Reply, done, refused, pickReply, ask}
+use Rattle.calls.specs.Link.{isLeaf, isCut}
+use Rattle.calls.specs.Open.{openedWords, openOf}
+use Rattle.calls.specs.Submit.{kindIn, curveFits, submittedWords, submitOf}
+use Rattle.calls.specs.Search.{seek, progressAt, searchOf}
+use Rattle.calls.specs.Insert.{roomAt, roomSound, insertOf}
+use Rattle.calls.specs.Unlink.{aroundAt, aroundSound, unlinkOf}
+use Rattle.calls.specs.Walk.{wayOf, codeAt, conclude, standsAt, walkOf}
+use Rattle.calls.specs.Step.{recordsSound, workOf, askUnfinished, stepOf}
+use Rattle.calls.specs.Withdraw.{withdrawnWords, withdrawOf}
+use Rattle.calls.specs.Take.{takingOf, takeOf, numberOf, takenWords, takeWords}
+use Rattle.calls.specs.declared.report.Report.{Report}
+use Rattle.calls.specs.Report.{reportOf}
+use Rattle.calls.specs.Tree.{treeIn}
+use Rattle.calls.specs.Queue.{queueIn}
+use Rattle.calls.specs.Whole.{allRows}
+use Rattle.calls.specs.Audit.{auditOf, verdictOf}
+use Rattle.calls.specs.Run.{isGiven}
 use Rattle.history.specs.Questions.{orElse, firstNo, openQuestions, submitQuestions, stepQuestions, withdrawQuestions, takeQuestions, sliceQuestions}
 
 -- ---- the work of a step is done or refused with 11

@@ -4,7 +4,7 @@ use mathlib.Core.List.{List}
 use Rattle.table.specs.Table.{Table}
 use Rattle.table.specs.History.{Agree}
 use Rattle.table.proofs.Sound.{Sound}
-use Rattle.steps.specs.Report.{reportOf}
+use Rattle.calls.specs.Report.{reportOf}
 use Rattle.history.specs.Index.{wordIndex}
 use Rattle.history.specs.Related.{Related}
 use Rattle.history.proofs.RelatedLaws.{related-passes, related-taken}

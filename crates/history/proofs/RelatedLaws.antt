@@ -9,19 +9,18 @@ use lib.ListN.{length}
 use native.Mathlib.Numerals.{add-one}
 use borrow.Author.Tests.{le-leb, lt-ltb}
 use Rattle.points.specs.Word.{NONE}
-use Rattle.rows.specs.declared.common.Opening.the-variants.{Opened}
-use Rattle.rows.specs.Layout.{atPlaces, atLimit, atChanges, atHeld, atRoot, atHead, atTail, atRemovals, atSince}
-use Rattle.rows.specs.Words.{get}
-use Rattle.rows.specs.Common.{openedIn, leastSince, takenIn}
-use Rattle.rows.proofs.OpeningLaws.{IsOpen, opened-tells}
-use Rattle.rows.proofs.TakenLaws.{awaiting-is, taken-is}
+use Rattle.stations.specs.declared.common.Opening.the-variants.{Opened}
+use Rattle.words.specs.Layout.{atPlaces, atLimit, atChanges, atHeld, atRoot, atHead, atTail, atRemovals, atSince}
+use Rattle.words.specs.Words.{get, more}
+use Rattle.stations.specs.Common.{openedIn, leastSince, takenIn, isOpened, rowsIn}
+use Rattle.stations.proofs.OpeningLaws.{IsOpen, opened-tells}
+use Rattle.stations.proofs.TakenLaws.{awaiting-is, taken-is}
 use Rattle.table.specs.Call.{Call, add, remove, contains, nearest, isSearch, Answer}
 use Rattle.table.specs.Table.{Station, idle, unfinished, waiting, Table, taken}
 use Rattle.table.proofs.Sound.{Sound, removals-changes}
 use Rattle.table.proofs.Taken.{SinceSays, IsLeast, taken-oldest}
 use Rattle.trees.specs.Tree.{Tree, topOf}
 use Rattle.trees.specs.Queue.{Free, headOf, tailOf}
-use Rattle.moves.specs.Reply.{isOpened, rowsIn, more}
 use Rattle.history.specs.View.{Seat, countsAt, placeAt, seatAt}
 use Rattle.history.specs.Related.{Idle, Busy, Waits, Says, Related}
 use Rattle.history.proofs.LeastLaws.{least-words}

@@ -7,16 +7,16 @@ use mathlib.Core.Option.{none}
 use native.Mathlib.Omega.{arith}
 use native.Mathlib.Numerals.{add-one}
 use lib.ListN.{length}
-use Rattle.rows.specs.Layout.{wordsFor}
-use Rattle.rows.specs.Common.{placesIn, limitIn, leastSince}
-use Rattle.rows.proofs.OpeningLaws.{opened-tells}
-use Rattle.rows.proofs.TakenLaws.{least-removals}
+use Rattle.words.specs.Layout.{wordsFor}
+use Rattle.stations.specs.Common.{placesIn, limitIn, leastSince}
+use Rattle.stations.proofs.OpeningLaws.{opened-tells}
+use Rattle.stations.proofs.TakenLaws.{least-removals}
 use Rattle.table.specs.Table.{opened}
 use Rattle.trees.specs.Row.{spareRow, Heap}
 use Rattle.trees.specs.Queue.{headOf, tailOf, spareRows}
 use Rattle.trees.specs.Store.{Store}
 use Rattle.trees.proofs.Open.{openedNext, open-head, open-tail, store-open}
-use Rattle.steps.specs.Open.{openedWords}
+use Rattle.calls.specs.Open.{openedWords}
 use Rattle.history.specs.View.{Counts, Place, countsAt, placeAt, seatAt}
 use Rattle.history.specs.Related.{Quiet, Related}
 use Rattle.history.proofs.Effects.{OpenedAs, open-written}

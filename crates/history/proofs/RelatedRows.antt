@@ -11,9 +11,9 @@ use lib.ListN.{length}
 use Rattle.points.specs.declared.point.Point.{Point}
 use Rattle.points.specs.Point.{inRange}
 use Rattle.points.specs.Word.{NONE}
-use Rattle.rows.specs.Range.{linkIn, curveIn}
+use Rattle.words.specs.Range.{linkIn, curveIn}
 use Rattle.rows.specs.Row.{inRows}
-use Rattle.rows.proofs.RangeLaws.{link-none, link-row}
+use Rattle.words.proofs.RangeLaws.{link-none, link-row}
 use Rattle.rows.proofs.RowLaws.{in-rows-leaf}
 use Rattle.table.specs.Table.{Table}
 use Rattle.table.proofs.Tests.{and-right}

@@ -12,15 +12,15 @@ use borrow.Author.Tests.{eqb-true, eq-eqb, le-leb}
 use Rattle.points.specs.declared.point.Point.{Point}
 use Rattle.points.specs.Point.{inRange}
 use Rattle.points.specs.Word.{NONE}
-use Rattle.rows.specs.declared.call.Best.{Best as WordBest}
-use Rattle.rows.specs.Layout.{atCursor, atMissed}
-use Rattle.rows.specs.Words.{get}
-use Rattle.rows.specs.Range.{curveIn}
-use Rattle.rows.specs.Common.{sinceIn, commonSound}
-use Rattle.rows.specs.Call.{bestSound, curveFor, callSound}
-use Rattle.rows.proofs.CommonLaws.{common-of}
-use Rattle.rows.proofs.RangeLaws.{curve-tells}
-use Rattle.rows.proofs.SoundLaws.{best-none, best-record, call-of}
+use Rattle.stations.specs.declared.call.Best.{Best as WordBest}
+use Rattle.words.specs.Layout.{atCursor, atMissed}
+use Rattle.words.specs.Words.{get}
+use Rattle.words.specs.Range.{curveIn}
+use Rattle.stations.specs.Common.{sinceIn, commonSound}
+use Rattle.stations.specs.Call.{bestSound, curveFor, callSound}
+use Rattle.stations.proofs.CommonLaws.{common-of}
+use Rattle.words.proofs.RangeLaws.{curve-tells}
+use Rattle.stations.proofs.SoundLaws.{best-none, best-record, call-of}
 use Rattle.table.specs.Call.{Call, add, remove, contains, nearest, Answer}
 use Rattle.table.specs.Table.{Station, idle, unfinished, waiting, Table}
 use Rattle.table.proofs.Sound.{Sound, removals-changes, held-places}
@@ -31,7 +31,7 @@ use Rattle.trees.specs.Queue.{Free}
 use Rattle.trees.specs.Store.{Store}
 use Rattle.trees.specs.Search.{Found}
 use Rattle.trees.proofs.ChoiceOf.{choiceOf}
-use Rattle.steps.specs.Step.{recordsSound}
+use Rattle.calls.specs.Step.{recordsSound}
 use Rattle.history.specs.View.{Place, Seat, placeAt, seatAt, bestOf}
 use Rattle.history.specs.Related.{kindOf, curveOf, Quiet, Walks, Busy, Says, Related}
 use Rattle.history.proofs.RelatedLaws.{related-is-open, related-rows, related-busy, word-places, word-limit, word-changes, word-held, word-root, word-head, word-tail, word-removals}

@@ -8,9 +8,9 @@ use lib.Dec.{eqb, leb, ltb}
 use borrow.Author.Tests.{ltb-true, leb-true, le-leb, eq-eqb, ne-eqb}
 use Rattle.points.specs.declared.point.Point.{Point}
 use Rattle.points.specs.Point.{inRange}
-use Rattle.rows.specs.Range.{curveIn}
-use Rattle.rows.specs.Station.{isIdle as idleState, stateAt}
-use Rattle.rows.proofs.RangeLaws.{curve-in, curve-tells}
+use Rattle.words.specs.Range.{curveIn}
+use Rattle.stations.specs.Station.{isIdle as idleState, stateAt}
+use Rattle.words.proofs.RangeLaws.{curve-in, curve-tells}
 use Rattle.table.specs.Record.{curveInRange}
 use Rattle.table.specs.Call.{kindInRange}
 use Rattle.table.specs.Table.{Station, idle, unfinished, waiting, Table}
@@ -18,8 +18,8 @@ use Rattle.table.specs.Event.{Reply, ask, isIdle, curveFits, submit}
 use Rattle.table.proofs.Tests.{and-left, and-right}
 use Rattle.table.proofs.Sound.{Sound}
 use Rattle.table.proofs.Simulation.{Matches}
-use Rattle.moves.specs.Reply.{Reply as WordReply, ask as askWords}
-use Rattle.steps.specs.Submit.{kindIn, curveFits as curveFitsWords, submitOf}
+use Rattle.calls.specs.Reply.{Reply as WordReply, ask as askWords}
+use Rattle.calls.specs.Submit.{kindIn, curveFits as curveFitsWords, submitOf}
 use Rattle.history.specs.Index.{replyOf, wordIndex}
 use Rattle.history.specs.View.{seatAt}
 use Rattle.history.specs.Related.{Related}

@@ -7,17 +7,17 @@ use mathlib.Core.Option.{Option, some}
 use native.Mathlib.Omega.{arith}
 use lib.Dec.{ltb}
 use borrow.Author.Tests.{ltb-true, lt-ltb, eq-eqb, ne-eqb}
-use Rattle.rows.specs.declared.answer.Waiting.the-variants.{Nothing}
-use Rattle.rows.specs.Station.{taken, stateAt, putState}
-use Rattle.rows.specs.Answer.{answerAt, waitingAt}
-use Rattle.rows.proofs.WaitingLaws.{waiting-given, waiting-nothing}
+use Rattle.stations.specs.declared.answer.Waiting.the-variants.{Nothing}
+use Rattle.stations.specs.Station.{taken, stateAt, putState}
+use Rattle.stations.specs.Answer.{answerAt, waitingAt}
+use Rattle.stations.proofs.WaitingLaws.{waiting-given, waiting-nothing}
 use Rattle.table.specs.Call.{Answer}
 use Rattle.table.specs.Table.{Station, idle, unfinished, waiting, Table, put, withStations}
 use Rattle.table.specs.Event.{refuse, takeAt, take}
 use Rattle.table.proofs.Sound.{Sound}
 use Rattle.table.proofs.Simulation.{Matches}
-use Rattle.steps.specs.declared.take.Taking.the-variants.{Refused, Given as Taken}
-use Rattle.steps.specs.Take.{takeOf, takeWords}
+use Rattle.calls.specs.declared.take.Taking.the-variants.{Refused, Given as Taken}
+use Rattle.calls.specs.Take.{takeOf, takeWords}
 use Rattle.history.specs.Index.{wordIndex}
 use Rattle.history.specs.View.{Seat, countsAt, placeAt, seatAt, marksIn}
 use Rattle.history.specs.Related.{Waits, Related}

@@ -8,18 +8,18 @@ use native.Mathlib.Omega.{arith}
 use lib.Dec.{ltb}
 use borrow.Author.Tests.{eq-eqb, ne-eqb, lt-ltb, ltb-true}
 use Rattle.points.specs.Point.{inRange}
-use Rattle.rows.specs.Station.{stateAt}
-use Rattle.rows.specs.Call.{callAt}
-use Rattle.rows.specs.Answer.{answerSound}
-use Rattle.rows.proofs.SoundLaws.{answer-of}
-use Rattle.moves.specs.Reply.{done, refused}
+use Rattle.stations.specs.Station.{stateAt}
+use Rattle.stations.specs.Call.{callAt}
+use Rattle.stations.specs.Answer.{answerSound}
+use Rattle.stations.proofs.SoundLaws.{answer-of}
+use Rattle.calls.specs.Reply.{done, refused}
 use Rattle.table.specs.Call.{Call, pointOf, Answer, answer, withdrawnAnswer}
 use Rattle.table.specs.Table.{Station, idle, unfinished, waiting, Table, put, withStations}
 use Rattle.table.specs.Event.{refuse}
 use Rattle.table.proofs.Sound.{Sound}
 use Rattle.table.proofs.Retract.{retractAt, retract}
 use Rattle.table.proofs.Simulation.{Matches}
-use Rattle.steps.specs.Withdraw.{withdrawnAnswer as saidOf, withdrawnWords, withdrawOf}
+use Rattle.calls.specs.Withdraw.{withdrawnAnswer as saidOf, withdrawnWords, withdrawOf}
 use Rattle.history.specs.Index.{answerOf, wordIndex}
 use Rattle.history.specs.View.{seatAt}
 use Rattle.history.specs.Related.{Related}

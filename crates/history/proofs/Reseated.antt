@@ -10,19 +10,19 @@ use lib.Dec.{ltb}
 use borrow.Author.Tests.{ltb-true, eqb-true}
 use Rattle.points.specs.declared.point.Point.{Point}
 use Rattle.points.specs.Point.{inRange}
-use Rattle.rows.specs.declared.common.Opening.the-variants.{Opened}
-use Rattle.rows.specs.declared.answer.Answer.{Answer}
-use Rattle.rows.specs.declared.answer.Waiting.{Waiting}
-use Rattle.rows.specs.declared.answer.Waiting.the-variants.{Nothing, Given}
-use Rattle.rows.specs.Common.{openedIn}
-use Rattle.rows.specs.Station.{isIdle, isWaiting, stateAt}
-use Rattle.rows.specs.Answer.{waitingAt}
-use Rattle.rows.proofs.WaitingLaws.{waiting-tells}
-use Rattle.moves.specs.Reply.{Reply, ask, isOpened}
-use Rattle.steps.specs.declared.take.Taking.{Taking}
-use Rattle.steps.specs.declared.take.Taking.the-variants.{Refused as Refusal, Given as Taken}
-use Rattle.steps.specs.Submit.{kindIn, curveFits, submittedWords, submitOf}
-use Rattle.steps.specs.Take.{takingOf, takeOf, takenWords, takeWords}
+use Rattle.stations.specs.declared.common.Opening.the-variants.{Opened}
+use Rattle.stations.specs.declared.answer.Answer.{Answer}
+use Rattle.stations.specs.declared.answer.Waiting.{Waiting}
+use Rattle.stations.specs.declared.answer.Waiting.the-variants.{Nothing, Given}
+use Rattle.stations.specs.Common.{openedIn, isOpened}
+use Rattle.stations.specs.Station.{isIdle, isWaiting, stateAt}
+use Rattle.stations.specs.Answer.{waitingAt}
+use Rattle.stations.proofs.WaitingLaws.{waiting-tells}
+use Rattle.calls.specs.Reply.{Reply, ask}
+use Rattle.calls.specs.declared.take.Taking.{Taking}
+use Rattle.calls.specs.declared.take.Taking.the-variants.{Refused as Refusal, Given as Taken}
+use Rattle.calls.specs.Submit.{kindIn, curveFits, submittedWords, submitOf}
+use Rattle.calls.specs.Take.{takingOf, takeOf, takenWords, takeWords}
 use Rattle.history.specs.View.{countsAt, seatAt, SameRows}
 use Rattle.history.proofs.Effects.{submit-written, submit-rows, take-written, take-rows}
 use Rattle.history.proofs.SaysLaws.{seat-put-other}

@@ -6,16 +6,16 @@ use mathlib.Core.List.{List}
 use lib.Dec.{eqb}
 use borrow.Author.Tests.{eqb-true, eqb-false}
 use Rattle.points.specs.Word.{NONE}
-use Rattle.rows.specs.declared.common.Opening.the-variants.{Opened}
+use Rattle.stations.specs.declared.common.Opening.the-variants.{Opened}
 use Rattle.rows.specs.declared.row.Row.{Row as WordRow}
-use Rattle.rows.specs.Agree.{inCommon, inStation, inRow, OnlyIn}
-use Rattle.rows.specs.Row.{Room}
+use Rattle.words.specs.Agree.{inCommon, inStation, inRow, OnlyIn}
+use Rattle.words.specs.Layout.{Room}
 use Rattle.rows.specs.Row.{rowAt, putRow, isRow, inRows}
-use Rattle.rows.specs.Common.{openedIn}
-use Rattle.rows.proofs.AgreeLaws.{common-row, station-row, elsewhere}
+use Rattle.stations.specs.Common.{openedIn}
+use Rattle.words.proofs.AgreeLaws.{common-row, station-row, elsewhere}
 use Rattle.rows.proofs.RowLaws.{row-sound, putRow-none, putRow-only, rowAt-putRow-same, rowAt-putRow-other}
-use Rattle.rows.proofs.OpeningLaws.{opened-tells, opened-room}
-use Rattle.rows.proofs.UnseenLaws.{reads-unseen}
+use Rattle.stations.proofs.OpeningLaws.{opened-tells, opened-room}
+use Rattle.calls.proofs.UnseenLaws.{reads-unseen}
 use Rattle.trees.specs.Row.{Row, spareRow, removedRow, leafRow, cutRow, Heap}
 use Rattle.history.specs.View.{countsAt, seatAt, wordRow, Reads, heapPut, Written}
 use Rattle.history.proofs.Frame.{seat-same, counts-agree, place-agree}

@@ -8,7 +8,7 @@ use lib.Dec.{eqb}
 use Rattle.points.specs.Word.{NONE}
 use Rattle.trees.specs.Row.{Entry, Row, spareRow, removedRow, leafRow, cutRow, pickRow, nextOf, setParent, setNext, replaceChild}
 use Rattle.trees.specs.Queue.{Free, keptRow, freeRow}
-use Rattle.moves.specs.Link.{isCut, withParent, replaced}
+use Rattle.calls.specs.Link.{isCut, withParent, replaced}
 use Rattle.rows.specs.declared.row.Row.the-variants.{Cut}
 use Rattle.history.specs.View.{wordRow}
 

@@ -10,15 +10,15 @@ use Rattle.points.specs.declared.cut.Cut.{Cut as PointCut}
 use Rattle.points.specs.Point.{inRange}
 use Rattle.points.specs.Word.{NONE, cutInRange}
 use Rattle.points.proofs.Tests.{and-l, and-r, and-i}
-use Rattle.rows.specs.Range.{linkIn, curveIn}
+use Rattle.words.specs.Range.{linkIn, curveIn}
 use Rattle.rows.specs.Row.{inRows}
-use Rattle.rows.proofs.RangeLaws.{link-row}
+use Rattle.words.proofs.RangeLaws.{link-row}
 use Rattle.rows.proofs.RowLaws.{in-rows-spare, in-rows-removed, in-rows-leaf, in-rows-cut}
 use Rattle.trees.specs.Row.{Entry, Row, pickRow, removedRow, leafRow, cutRow, Heap, setParent, setNext, replaceChild}
 use Rattle.trees.specs.Tree.{Tree}
 use Rattle.trees.specs.Queue.{Free, keptRow, freeRow}
 use Rattle.trees.specs.Reads.{LeafAt, CutAt}
-use Rattle.moves.specs.Link.{withNext, withParent, replaced}
+use Rattle.calls.specs.Link.{withNext, withParent, replaced}
 use Rattle.history.specs.View.{wordRow}
 
 -- a free row with another next link

@@ -9,19 +9,19 @@ use borrow.Author.Tests.{eq-eqb, ne-eqb}
 use Rattle.points.specs.declared.point.Point.{Point}
 use Rattle.points.specs.declared.cut.Cut.{Cut as PointCut}
 use Rattle.points.specs.Word.{NONE}
-use Rattle.rows.specs.declared.common.Opening.the-variants.{Opened}
+use Rattle.stations.specs.declared.common.Opening.the-variants.{Opened}
 use Rattle.rows.specs.declared.row.Row.{Row as WordRow}
 use Rattle.rows.specs.declared.row.Row.the-variants.{Bad, Spare, Removed, Leaf, Cut}
-use Rattle.rows.specs.Agree.{inRow}
+use Rattle.words.specs.Agree.{inRow}
 use Rattle.rows.specs.Row.{rowAt, putRow, inRows}
 use Rattle.rows.specs.Grades.{slotOf, beginGrades}
-use Rattle.rows.proofs.AgreeLaws.{row-row}
+use Rattle.words.proofs.AgreeLaws.{row-row}
 use Rattle.rows.proofs.RowLaws.{putRow-only}
 use Rattle.rows.proofs.GradeLaws.{admits-putRow, begin-only, begin-rows}
-use Rattle.rows.proofs.UnseenLaws.{reads-unseen}
-use Rattle.rows.specs.Common.{openedIn}
+use Rattle.calls.proofs.UnseenLaws.{reads-unseen}
+use Rattle.stations.specs.Common.{openedIn}
 use Rattle.trees.specs.Row.{Row, Heap, Wrote}
-use Rattle.moves.specs.Link.{isCut}
+use Rattle.calls.specs.Link.{isCut}
 use Rattle.history.specs.View.{countsAt, seatAt, wordRow, Reads, heapPut, marksIn, Written}
 use Rattle.history.proofs.Frame.{slot-fits}
 use Rattle.history.proofs.Effects.{reads-put, put-none, region-written, row-written}

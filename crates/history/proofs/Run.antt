@@ -5,18 +5,18 @@ use mathlib.Core.Bool.{Bool, true, false}
 use mathlib.Core.List.{List}
 use native.Mathlib.Omega.{arith}
 use lib.Dec.{ltb}
-use Rattle.rows.specs.declared.answer.Waiting.{Waiting}
-use Rattle.rows.specs.declared.answer.Waiting.the-variants.{Nothing, Given}
-use Rattle.rows.specs.Common.{openedIn}
-use Rattle.rows.specs.Station.{isUnfinished, stateAt}
-use Rattle.rows.specs.Answer.{waitingAt}
+use Rattle.stations.specs.declared.answer.Waiting.{Waiting}
+use Rattle.stations.specs.declared.answer.Waiting.the-variants.{Nothing, Given}
+use Rattle.stations.specs.Common.{openedIn, isOpened}
+use Rattle.stations.specs.Station.{isUnfinished, stateAt}
+use Rattle.stations.specs.Answer.{waitingAt}
 use Rattle.table.specs.Table.{Table}
 use Rattle.table.specs.Event.{Event}
-use Rattle.moves.specs.Reply.{Reply, done, isOpened}
-use Rattle.steps.specs.Open.{openOf}
-use Rattle.steps.specs.Step.{stepOf}
-use Rattle.steps.specs.Take.{takeOf}
-use Rattle.steps.specs.Run.{isGiven, goesOn, runFor, mostSteps, runOf}
+use Rattle.calls.specs.Reply.{Reply, done}
+use Rattle.calls.specs.Open.{openOf}
+use Rattle.calls.specs.Step.{stepOf}
+use Rattle.calls.specs.Take.{takeOf}
+use Rattle.calls.specs.Run.{isGiven, goesOn, runFor, mostSteps, runOf}
 use Rattle.history.specs.Related.{Related}
 use Rattle.history.specs.After.{after, Answered}
 use Rattle.history.specs.Alone.{stepped, AnsweredAfter}

@@ -9,10 +9,10 @@ use mathlib.Core.Option.{Option}
 use native.Mathlib.Omega.{arith}
 use lib.Dec.{eqb}
 use borrow.Author.Tests.{eqb-true, eqb-false, eq-eqb, ne-eqb}
-use Rattle.rows.specs.Layout.{atRemovals, atSince}
-use Rattle.rows.specs.Words.{get}
-use Rattle.rows.specs.Common.{leastSince}
-use Rattle.rows.proofs.TakenLaws.{least-removals}
+use Rattle.words.specs.Layout.{atRemovals, atSince}
+use Rattle.words.specs.Words.{get}
+use Rattle.stations.specs.Common.{leastSince}
+use Rattle.stations.proofs.TakenLaws.{least-removals}
 use Rattle.table.specs.Call.{Call, add, remove, contains, nearest, Answer}
 use Rattle.table.specs.Table.{Station, idle, unfinished, waiting, Table, put}
 use Rattle.table.proofs.Stations.{put-cases}

@@ -8,13 +8,13 @@ use mathlib.Core.List.{List}
 use native.Mathlib.Omega.{arith}
 use lib.Dec.{eqb}
 use borrow.Author.Tests.{eqb-true, eqb-false}
-use Rattle.rows.specs.Layout.{atSince}
-use Rattle.rows.specs.Words.{get}
-use Rattle.rows.specs.Common.{leastSince}
+use Rattle.words.specs.Layout.{atSince}
+use Rattle.words.specs.Words.{get}
+use Rattle.stations.specs.Common.{leastSince}
 use Rattle.table.specs.Table.{Station, Table, withStations}
 use Rattle.history.specs.View.{Seat, countsAt, placeAt, seatAt, seatPut, marksIn, SameRows, Written}
 use Rattle.history.specs.Related.{Says, Marking, Related}
-use Rattle.rows.proofs.TakenLaws.{least-removals, least-since, least-greatest}
+use Rattle.stations.proofs.TakenLaws.{least-removals, least-since, least-greatest}
 use Rattle.history.proofs.SaysLaws.{says-kept, written-removals, related-written}
 
 -- the station that is put, and another

@@ -12,7 +12,7 @@ use borrow.Author.Tests.{eq-eqb, eqb-true}
 use Rattle.points.specs.Word.{NONE}
 use Rattle.points.proofs.ChoiceLaws.{grade-turn}
 use Rattle.points.proofs.Tests.{and-i, and-l}
-use Rattle.rows.specs.declared.call.Call.{Call}
+use Rattle.stations.specs.declared.call.Call.{Call}
 use Rattle.rows.specs.Grades.{slotOf, admits}
 use Rattle.rows.proofs.GradeLaws.{slot-grade}
 use Rattle.trees.specs.Row.{Entry, Heap}
@@ -28,8 +28,8 @@ use Rattle.trees.proofs.ChoiceOf.{choiceOf}
 use Rattle.trees.proofs.MarkLaws.{closed-covered}
 use Rattle.trees.proofs.MissingLaws.{missing-in}
 use Rattle.trees.proofs.SearchMoves.{search-look, search-tour}
-use Rattle.moves.specs.declared.search.Progress.{Progress as WordProgress}
-use Rattle.moves.specs.Search.{look as lookWord, tour as tourWord, toured as touredWord, toursOf, seek as seekWord, isFinished}
+use Rattle.calls.specs.declared.search.Progress.{Progress as WordProgress}
+use Rattle.calls.specs.Search.{look as lookWord, tour as tourWord, toured as touredWord, toursOf, seek as seekWord, isFinished}
 use Rattle.history.specs.View.{Reads, marksIn, opensIn}
 use Rattle.history.proofs.ProgressWords.{viewOf, Fit, Shows, Keeps}
 use Rattle.history.proofs.LookWords.{look-words}

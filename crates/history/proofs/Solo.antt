@@ -6,13 +6,13 @@ use mathlib.Core.Bool.{Bool, true, false, true≢false}
 use mathlib.Core.List.{List}
 use native.Mathlib.Omega.{arith}
 use native.Mathlib.Decide.{decLt}
-use Rattle.rows.specs.Station.{hasStation, isUnfinished, stateAt}
-use Rattle.rows.proofs.StationLaws.{there-tells}
-use Rattle.rows.proofs.AbsentLaws.{stateAt-absent}
+use Rattle.stations.specs.Station.{hasStation, isUnfinished, stateAt}
+use Rattle.stations.proofs.StationLaws.{there-tells}
+use Rattle.stations.proofs.AbsentLaws.{stateAt-absent}
 use Rattle.table.specs.Table.{Station, idle, unfinished, waiting, Table}
 use Rattle.table.specs.Event.{Event}
-use Rattle.steps.specs.Open.{openOf}
-use Rattle.steps.specs.Step.{stepOf}
+use Rattle.calls.specs.Open.{openOf}
+use Rattle.calls.specs.Step.{stepOf}
 use Rattle.history.specs.After.{after, AnsweredWithin}
 use Rattle.history.specs.Alone.{AnsweredAfter}
 use Rattle.history.proofs.StepOutcome.{most-left}

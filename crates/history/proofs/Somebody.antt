@@ -9,14 +9,14 @@ use mathlib.Core.List.{List, [], _∷_}
 use mathlib.Core.Option.{Option}
 use native.Mathlib.Omega.{arith}
 use native.Mathlib.Decide.{decLt}
-use Rattle.rows.specs.Station.{isUnfinished, stateAt}
+use Rattle.stations.specs.Station.{isUnfinished, stateAt}
 use Rattle.table.specs.Call.{Call, Answer}
 use Rattle.table.specs.Table.{Station, idle, unfinished, waiting, Table}
 use Rattle.table.specs.Event.{Event, submission, singleStep, taking, withdrawal}
 use Rattle.table.specs.History.{reply, answered}
 use Rattle.table.proofs.Eager.{Settled}
-use Rattle.steps.specs.Open.{openOf}
-use Rattle.steps.specs.Step.{stepOf}
+use Rattle.calls.specs.Open.{openOf}
+use Rattle.calls.specs.Step.{stepOf}
 use Rattle.history.specs.Index.{wordIndex}
 use Rattle.history.specs.View.{countsAt, seatAt, SameRows}
 use Rattle.history.specs.Related.{Related}

@@ -10,26 +10,26 @@ use lib.ListN.{length}
 use Rattle.points.specs.declared.point.Point.{Point}
 use Rattle.points.specs.Point.{inRange}
 use Rattle.points.specs.Word.{NONE}
-use Rattle.rows.specs.declared.common.Opening.the-variants.{Opened}
-use Rattle.rows.specs.declared.answer.Answer.{Answer}
-use Rattle.rows.specs.Layout.{atChanges, atRoot, atRemovals, atSince, atMissed}
-use Rattle.rows.specs.Words.{get}
-use Rattle.rows.specs.Agree.{inCommon, inStation, OnlyIn}
-use Rattle.rows.specs.Common.{openedIn}
-use Rattle.rows.specs.Station.{hasStation, submitted, answered, taken, stateAt, putState, putPlace}
-use Rattle.rows.specs.Target.{targetAt}
-use Rattle.rows.specs.Call.{putBest, putCall}
-use Rattle.rows.specs.Answer.{answerSound, putAnswer}
-use Rattle.rows.proofs.AgreeLaws.{only-trans, common-station, elsewhere}
-use Rattle.rows.proofs.OpeningLaws.{opened-tells, opened-room}
-use Rattle.rows.proofs.StationLaws.{there-room, there-length, putState-only, putBest-only, putCall-only, putAnswer-only, putPlace-only, putMissed-only}
-use Rattle.rows.proofs.RecordLaws.{callAt-putState, answerAt-putState, stateAt-putBest, answerAt-putBest, callAt-putAnswer, answerAt-putCall}
-use Rattle.rows.proofs.ReadBackLaws.{stateAt-putState-same, callAt-putBest, answerAt-putAnswer-same, callAt-putCall-same}
-use Rattle.rows.proofs.SoundLaws.{noBest-point, answer-tells}
-use Rattle.moves.specs.declared.search.Progress.{Progress}
-use Rattle.moves.specs.Answer.{letGo, answeredWords}
-use Rattle.steps.specs.Submit.{callFor, sinceFor, begunWords, submittedWords}
-use Rattle.moves.specs.Search.{keptWords}
+use Rattle.stations.specs.declared.common.Opening.the-variants.{Opened}
+use Rattle.stations.specs.declared.answer.Answer.{Answer}
+use Rattle.words.specs.Layout.{atChanges, atRoot, atRemovals, atSince, atMissed}
+use Rattle.words.specs.Words.{get}
+use Rattle.words.specs.Agree.{inCommon, inStation, OnlyIn}
+use Rattle.stations.specs.Common.{openedIn}
+use Rattle.stations.specs.Station.{hasStation, submitted, answered, taken, stateAt, putState, putPlace}
+use Rattle.stations.specs.Target.{targetAt}
+use Rattle.stations.specs.Call.{putBest, putCall}
+use Rattle.stations.specs.Answer.{answerSound, putAnswer}
+use Rattle.words.proofs.AgreeLaws.{only-trans, common-station, elsewhere}
+use Rattle.stations.proofs.OpeningLaws.{opened-tells, opened-room}
+use Rattle.stations.proofs.StationLaws.{there-room, there-length, putState-only, putBest-only, putCall-only, putAnswer-only, putPlace-only, putMissed-only}
+use Rattle.stations.proofs.RecordLaws.{callAt-putState, answerAt-putState, stateAt-putBest, answerAt-putBest, callAt-putAnswer, answerAt-putCall}
+use Rattle.stations.proofs.ReadBackLaws.{stateAt-putState-same, callAt-putBest, answerAt-putAnswer-same, callAt-putCall-same}
+use Rattle.stations.proofs.SoundLaws.{noBest-point, answer-tells}
+use Rattle.calls.specs.declared.search.Progress.{Progress}
+use Rattle.calls.specs.Answer.{letGo, answeredWords}
+use Rattle.calls.specs.Submit.{callFor, sinceFor, begunWords, submittedWords}
+use Rattle.calls.specs.Search.{keptWords}
 use Rattle.history.specs.View.{Place, countsAt, placeAt, seatAt, withPlace, seatPut, noPlace, SameRows, Written, answeredSeat}
 use Rattle.history.proofs.Frame.{seat-of, place-agree, common-stations}
 use Rattle.history.proofs.OwnEffects.{Own, own-trans, own-station, own-rows, own-written, own-aimed, own-place, own-missed, own-placed}

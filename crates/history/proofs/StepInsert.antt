@@ -11,13 +11,13 @@ use lib.ListN.{length}
 use borrow.Author.Tests.{ne-eqb}
 use Rattle.points.specs.declared.point.Point.{Point}
 use Rattle.points.specs.Word.{NONE}
-use Rattle.rows.specs.Layout.{atChanges, atHeld, atRoot, atTail, atRemovals}
-use Rattle.rows.specs.Words.{get}
-use Rattle.rows.specs.Common.{leastSince}
-use Rattle.rows.specs.Call.{callAt}
-use Rattle.rows.proofs.TakenLaws.{awaiting-is, taken-is}
-use Rattle.rows.proofs.RangeLaws.{curve-tells}
-use Rattle.rows.proofs.SoundLaws.{answer-of}
+use Rattle.words.specs.Layout.{atChanges, atHeld, atRoot, atTail, atRemovals}
+use Rattle.words.specs.Words.{get, more}
+use Rattle.stations.specs.Common.{leastSince}
+use Rattle.stations.specs.Call.{callAt}
+use Rattle.stations.proofs.TakenLaws.{awaiting-is, taken-is}
+use Rattle.words.proofs.RangeLaws.{curve-tells}
+use Rattle.stations.proofs.SoundLaws.{answer-of}
 use Rattle.table.specs.Record.{Record, Same, curveAt}
 use Rattle.table.specs.Call.{add, answer}
 use Rattle.table.specs.Table.{unfinished, waiting, Table, put, withStations, taken}
@@ -36,10 +36,9 @@ use Rattle.trees.proofs.ReadLaws.{cut-has, cut-reads}
 use Rattle.trees.proofs.ShapeLaws.{entries-held}
 use Rattle.trees.proofs.RouteLaws.{on-route-has}
 use Rattle.trees.proofs.Insert.{insert}
-use Rattle.moves.specs.declared.insert.Room.{Room}
-use Rattle.moves.specs.Reply.{more}
-use Rattle.moves.specs.Answer.{answer as given, answeredWords}
-use Rattle.moves.specs.Insert.{roomAt, roomSound, insertRoot as rootAfter, insertHead as headAfter, insertRows, insertCounts, cursorsMoved, insertWords, insertOf}
+use Rattle.calls.specs.declared.insert.Room.{Room}
+use Rattle.calls.specs.Answer.{answer as given, answeredWords}
+use Rattle.calls.specs.Insert.{roomAt, roomSound, insertRoot as rootAfter, insertHead as headAfter, insertRows, insertCounts, cursorsMoved, insertWords, insertOf}
 use Rattle.history.specs.View.{Counts, Seat, countsAt, seatAt, marksIn}
 use Rattle.history.specs.Related.{recordOf, Busy, Related}
 use Rattle.history.proofs.Readings.{added-change, addedTable, changed-add}

@@ -7,15 +7,15 @@ use mathlib.Core.Bool.{Bool, true, false}
 use mathlib.Core.List.{List}
 use native.Mathlib.Omega.{arith}
 use lib.Dec.{ltb}
-use Rattle.rows.specs.Station.{isUnfinished, stateAt}
+use Rattle.stations.specs.Station.{isUnfinished, stateAt}
 use Rattle.table.specs.Table.{Station, idle, unfinished, waiting, Table}
 use Rattle.table.specs.Event.{Event, singleStep}
 use Rattle.table.specs.History.{answered}
 use Rattle.table.proofs.Eager.{Settled}
 use Rattle.table.proofs.Reached.{ask-all}
 use Rattle.table.proofs.Simulation.{stillAt, still}
-use Rattle.steps.specs.Open.{openOf}
-use Rattle.steps.specs.Step.{stepOf}
+use Rattle.calls.specs.Open.{openOf}
+use Rattle.calls.specs.Step.{stepOf}
 use Rattle.history.specs.Index.{wordIndex}
 use Rattle.history.specs.After.{after}
 use Rattle.history.specs.Alone.{AnsweredAfter}

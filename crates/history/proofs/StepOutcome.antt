@@ -6,15 +6,15 @@ use mathlib.Core.List.{List}
 use mathlib.Core.Option.{Option, none, some}
 use native.Mathlib.Omega.{arith}
 use borrow.Author.Tests.{eq-eqb, ne-eqb}
-use Rattle.rows.specs.Call.{callAt}
+use Rattle.stations.specs.Call.{callAt}
 use Rattle.table.specs.Call.{Call, add, remove, contains, nearest, isSearch, Answer}
 use Rattle.table.specs.Table.{unfinished, Table}
 use Rattle.table.proofs.Sound.{Sound}
 use Rattle.table.proofs.Eager.{Settled, fresh}
 use Rattle.table.proofs.Taken.{search-room}
-use Rattle.steps.specs.Step.{workOf, stepOf}
-use Rattle.moves.specs.Walk.{walkOf}
-use Rattle.moves.specs.Search.{searchOf}
+use Rattle.calls.specs.Step.{workOf, stepOf}
+use Rattle.calls.specs.Walk.{walkOf}
+use Rattle.calls.specs.Search.{searchOf}
 use Rattle.history.specs.View.{seatAt}
 use Rattle.history.specs.Related.{Related, Busy}
 use Rattle.trees.specs.Route.{standsAt}

@@ -6,12 +6,12 @@ use mathlib.Core.List.{List}
 use mathlib.Core.Option.{Option}
 use lib.Dec.{eqb}
 use borrow.Author.Tests.{eq-eqb, lt-ltb}
-use Rattle.rows.specs.Station.{stateAt}
-use Rattle.rows.specs.Call.{callAt}
+use Rattle.stations.specs.Station.{stateAt}
+use Rattle.stations.specs.Call.{callAt}
 use Rattle.table.specs.Call.{Call, Answer}
 use Rattle.table.specs.Table.{unfinished, Table}
 use Rattle.table.proofs.Sound.{Sound}
-use Rattle.steps.specs.Step.{workOf, stepOf}
+use Rattle.calls.specs.Step.{workOf, stepOf}
 use Rattle.history.specs.View.{seatAt}
 use Rattle.history.specs.Related.{Related}
 use Rattle.history.proofs.RelatedLaws.{related-passes, related-rows, related-busy}

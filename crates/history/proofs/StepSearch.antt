@@ -10,14 +10,14 @@ use lib.ListN.{length}
 use Rattle.points.specs.declared.point.Point.{Point}
 use Rattle.points.specs.Point.{inRange}
 use Rattle.points.specs.Word.{NONE}
-use Rattle.rows.specs.declared.answer.Answer.{Answer as WordAnswer}
-use Rattle.rows.specs.Layout.{atSince}
-use Rattle.rows.specs.Words.{get}
-use Rattle.rows.specs.Common.{leastSince}
-use Rattle.rows.specs.Call.{callAt}
-use Rattle.rows.specs.Answer.{answerSound}
-use Rattle.rows.proofs.OpeningLaws.{opened-tells}
-use Rattle.rows.proofs.TakenLaws.{least-removals, least-since}
+use Rattle.stations.specs.declared.answer.Answer.{Answer as WordAnswer}
+use Rattle.words.specs.Layout.{atSince}
+use Rattle.words.specs.Words.{get}
+use Rattle.stations.specs.Common.{leastSince}
+use Rattle.stations.specs.Call.{callAt}
+use Rattle.stations.specs.Answer.{answerSound}
+use Rattle.stations.proofs.OpeningLaws.{opened-tells}
+use Rattle.stations.proofs.TakenLaws.{least-removals, least-since}
 use Rattle.table.specs.Record.{nearestOf}
 use Rattle.table.specs.Call.{nearest, Answer, nearestAnswer}
 use Rattle.table.specs.Table.{Station, unfinished, waiting, Table, put}
@@ -30,10 +30,10 @@ use Rattle.trees.specs.Search.{Search, Nearest}
 use Rattle.trees.specs.Measure.{searchLeft, stepMoves}
 use Rattle.trees.proofs.ChoiceOf.{choiceOf}
 use Rattle.trees.proofs.SearchLaws.{search-finish}
-use Rattle.moves.specs.declared.search.Progress.{Progress as WordProgress}
-use Rattle.moves.specs.Answer.{answeredWords}
-use Rattle.moves.specs.Reply.{done, ask}
-use Rattle.moves.specs.Search.{seek, progressAt, isFinished, foundAnswer, keptWords, pickWords, searchWords, searchTo, searchOf}
+use Rattle.calls.specs.declared.search.Progress.{Progress as WordProgress}
+use Rattle.calls.specs.Answer.{answeredWords}
+use Rattle.calls.specs.Reply.{done, ask}
+use Rattle.calls.specs.Search.{seek, progressAt, isFinished, foundAnswer, keptWords, pickWords, searchWords, searchTo, searchOf}
 use Rattle.history.specs.Index.{answerOf}
 use Rattle.history.specs.View.{Seat, countsAt, placeAt, seatAt, progressOf, answeredSeat}
 use Rattle.history.specs.Related.{recordOf, Busy, Searching, Waits, Says, Related}

@@ -16,19 +16,19 @@ use Rattle.points.specs.declared.point.Point.{Point}
 use Rattle.points.specs.Point.{inRange}
 use Rattle.points.specs.Word.{NONE}
 use Rattle.points.proofs.Tests.{and-r, and-i}
-use Rattle.rows.specs.declared.common.Opening.the-variants.{Opened}
-use Rattle.rows.specs.declared.answer.Answer.{Answer as Given}
-use Rattle.rows.specs.Layout.{atChanges, atHeld, atRoot, atHead, atRemovals, atSince}
-use Rattle.rows.specs.Words.{get}
-use Rattle.rows.specs.Range.{linkIn, curveIn}
-use Rattle.rows.specs.Common.{openedIn, leastSince}
-use Rattle.rows.specs.Call.{callAt}
-use Rattle.rows.specs.Answer.{answerSound}
-use Rattle.rows.proofs.RangeLaws.{curve-tells}
+use Rattle.stations.specs.declared.common.Opening.the-variants.{Opened}
+use Rattle.stations.specs.declared.answer.Answer.{Answer as Given}
+use Rattle.words.specs.Layout.{atChanges, atHeld, atRoot, atHead, atRemovals, atSince}
+use Rattle.words.specs.Words.{get, more}
+use Rattle.words.specs.Range.{linkIn, curveIn}
+use Rattle.stations.specs.Common.{openedIn, leastSince}
+use Rattle.stations.specs.Call.{callAt}
+use Rattle.stations.specs.Answer.{answerSound}
+use Rattle.words.proofs.RangeLaws.{curve-tells}
 use Rattle.rows.proofs.RowLaws.{in-rows-leaf}
-use Rattle.rows.proofs.OpeningLaws.{opened-tells}
-use Rattle.rows.proofs.TakenLaws.{least-removals, least-since, least-greatest}
-use Rattle.rows.proofs.SoundLaws.{answer-of}
+use Rattle.stations.proofs.OpeningLaws.{opened-tells}
+use Rattle.stations.proofs.TakenLaws.{least-removals, least-since, least-greatest}
+use Rattle.stations.proofs.SoundLaws.{answer-of}
 use Rattle.table.specs.Record.{Same, without}
 use Rattle.table.specs.Call.{remove, Answer, answer, nearest}
 use Rattle.table.specs.Table.{Station, unfinished, waiting, Table, put, withStations, answerOf}
@@ -50,10 +50,10 @@ use Rattle.trees.proofs.ReadLaws.{cut-has, cut-reads, unlink-reads}
 use Rattle.trees.proofs.Room.{store-release}
 use Rattle.trees.proofs.RouteLaws.{on-route-has}
 use Rattle.trees.proofs.Unlink.{unlink}
-use Rattle.moves.specs.declared.unlink.Around.{Around}
-use Rattle.moves.specs.Reply.{done, more}
-use Rattle.moves.specs.Answer.{answer as wordAnswer, answeredWords}
-use Rattle.moves.specs.Unlink.{aroundAt, aroundSound, unlinkTail, unlinkRoot, unlinkCounts, unlinkRows, stationsMoved, unlinkWords, unlinkOf}
+use Rattle.calls.specs.declared.unlink.Around.{Around}
+use Rattle.calls.specs.Reply.{done}
+use Rattle.calls.specs.Answer.{answer as wordAnswer, answeredWords}
+use Rattle.calls.specs.Unlink.{aroundAt, aroundSound, unlinkTail, unlinkRoot, unlinkCounts, unlinkRows, stationsMoved, unlinkWords, unlinkOf}
 use Rattle.history.specs.View.{Counts, Seat, countsAt, placeAt, seatAt, seatPut, marksIn, Written, answeredSeat}
 use Rattle.history.specs.Related.{recordOf, Busy, Says, Marking, Counted, Related}
 use Rattle.history.proofs.RelatedLaws.{more-is}

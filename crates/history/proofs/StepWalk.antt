@@ -15,12 +15,12 @@ use Rattle.points.specs.Word.{NONE}
 use Rattle.points.proofs.OrderLaws.{same-point-true, same-point-false}
 use Rattle.rows.specs.declared.row.Row.{Row as WordRow}
 use Rattle.rows.specs.declared.row.Row.the-variants.{Bad}
-use Rattle.rows.specs.declared.call.Call.{Call as WordCall}
+use Rattle.stations.specs.declared.call.Call.{Call as WordCall}
 use Rattle.rows.specs.Row.{rowAt}
 use Rattle.rows.specs.Grades.{slotOf}
-use Rattle.rows.specs.Station.{putPlace}
-use Rattle.rows.specs.Call.{callAt}
-use Rattle.rows.proofs.RangeLaws.{or-right}
+use Rattle.stations.specs.Station.{putPlace}
+use Rattle.stations.specs.Call.{callAt}
+use Rattle.words.proofs.RangeLaws.{or-right}
 use Rattle.rows.proofs.RowLaws.{rowAt-outside}
 use Rattle.table.specs.Call.{Call, add, remove, contains, nearest, isSearch, pointOf}
 use Rattle.table.specs.Table.{unfinished, Table}
@@ -36,9 +36,9 @@ use Rattle.trees.specs.Below.{Marks, Passed}
 use Rattle.trees.proofs.MarkLaws.{pass-stands}
 use Rattle.trees.proofs.RouteLaws.{on-route-has, walk-stands, walk-down}
 use Rattle.trees.proofs.ReadLaws.{read-row}
-use Rattle.moves.specs.declared.walk.Way.{Way}
-use Rattle.moves.specs.Reply.{done}
-use Rattle.moves.specs.Walk.{downFrom, down as downWords, wayOf, markedWay, passedWords, walkTo, conclude, standsAt as standsIn, walkFrom, walkOf}
+use Rattle.calls.specs.declared.walk.Way.{Way}
+use Rattle.calls.specs.Reply.{done}
+use Rattle.calls.specs.Walk.{downFrom, down as downWords, wayOf, markedWay, passedWords, walkTo, conclude, standsAt as standsIn, walkFrom, walkOf}
 use Rattle.history.specs.View.{Seat, countsAt, placeAt, seatAt, wordRow, marksIn}
 use Rattle.history.specs.Related.{Works, Busy, Marking, Related}
 use Rattle.history.proofs.RelatedLaws.{related-busy}

@@ -10,7 +10,7 @@ use Rattle.table.specs.Table.{unfinished, Table}
 use Rattle.table.proofs.Sound.{Sound}
 use Rattle.table.proofs.Eager.{Settled}
 use Rattle.table.proofs.Simulation.{finished}
-use Rattle.steps.specs.Step.{stepOf}
+use Rattle.calls.specs.Step.{stepOf}
 use Rattle.history.specs.Related.{Related}
 use Rattle.history.specs.After.{Answered}
 use Rattle.history.specs.Alone.{stepped, AnsweredAfter}

@@ -11,12 +11,12 @@ use borrow.Author.Tests.{leb-true}
 use Rattle.points.specs.declared.point.Point.{Point}
 use Rattle.points.specs.Point.{inRange}
 use Rattle.points.specs.Word.{NONE}
-use Rattle.rows.specs.Layout.{atChanges, atRoot, atRemovals}
-use Rattle.rows.specs.Words.{get}
-use Rattle.rows.specs.Common.{leastSince}
-use Rattle.rows.proofs.SoundLaws.{noBest-point}
-use Rattle.rows.proofs.TakenLaws.{least-removals, least-since, least-greatest}
-use Rattle.rows.specs.Target.{targetAt}
+use Rattle.words.specs.Layout.{atChanges, atRoot, atRemovals}
+use Rattle.words.specs.Words.{get}
+use Rattle.stations.specs.Common.{leastSince}
+use Rattle.stations.proofs.SoundLaws.{noBest-point}
+use Rattle.stations.proofs.TakenLaws.{least-removals, least-since, least-greatest}
+use Rattle.stations.specs.Target.{targetAt}
 use Rattle.table.specs.Call.{Call, add, remove, contains, nearest, callOf, kindInRange, pointOf}
 use Rattle.table.specs.Table.{unfinished, Table}
 use Rattle.table.specs.Event.{enter}
@@ -30,7 +30,7 @@ use Rattle.trees.proofs.MarkLaws.{pass-begin}
 use Rattle.trees.proofs.RouteLaws.{walk-begin}
 use Rattle.trees.proofs.SearchLaws.{search-begin}
 use Rattle.trees.proofs.ShapeLaws.{entries-held}
-use Rattle.steps.specs.Submit.{curveFits, callFor, sinceFor, submittedWords}
+use Rattle.calls.specs.Submit.{curveFits, callFor, sinceFor, submittedWords}
 use Rattle.history.specs.View.{Seat, countsAt, placeAt, seatAt, marksIn}
 use Rattle.history.specs.Related.{kindOf, curveOf, CurveFits, Walks, Searching, Works, Busy, Marking, Related}
 use Rattle.history.proofs.Effects.{submit-written, submit-rows}

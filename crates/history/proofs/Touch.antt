@@ -9,20 +9,20 @@ use borrow.Author.Tests.{ltb-true, leb-true}
 use lib.Dec.{eqb, leb, ltb}
 use lib.ListN.{length}
 use Rattle.points.specs.Word.{NONE}
-use Rattle.rows.specs.Layout.{atPlaces, atChanges}
-use Rattle.rows.specs.Words.{get}
+use Rattle.words.specs.Layout.{atPlaces, atChanges}
+use Rattle.words.specs.Words.{get}
 use Rattle.rows.specs.Row.{rowAt}
-use Rattle.rows.specs.Common.{openedIn, commonSound}
-use Rattle.rows.specs.Station.{isUnfinished, stateAt}
-use Rattle.rows.specs.Call.{callAt, callSound}
-use Rattle.rows.proofs.CommonLaws.{commonSound-agree}
-use Rattle.rows.proofs.RecordLaws.{stateAt-agree, callAt-agree}
-use Rattle.moves.specs.Reply.{Reply, isOpened, rowsIn}
-use Rattle.moves.specs.Link.{isCut}
-use Rattle.moves.specs.Search.{progressAt}
-use Rattle.moves.specs.Walk.{codeAt, standsAt}
-use Rattle.steps.specs.Step.{recordsSound, workOf, askUnfinished, stepOf}
-use Rattle.steps.specs.Withdraw.{withdrawnAnswer, withdrawOf}
+use Rattle.stations.specs.Common.{openedIn, commonSound, isOpened, rowsIn}
+use Rattle.stations.specs.Station.{isUnfinished, stateAt}
+use Rattle.stations.specs.Call.{callAt, callSound}
+use Rattle.stations.proofs.CommonLaws.{commonSound-agree}
+use Rattle.stations.proofs.RecordLaws.{stateAt-agree, callAt-agree}
+use Rattle.calls.specs.Reply.{Reply}
+use Rattle.calls.specs.Link.{isCut}
+use Rattle.calls.specs.Search.{progressAt}
+use Rattle.calls.specs.Walk.{codeAt, standsAt}
+use Rattle.calls.specs.Step.{recordsSound, workOf, askUnfinished, stepOf}
+use Rattle.calls.specs.Withdraw.{withdrawnAnswer, withdrawOf}
 use Rattle.history.specs.Touch.{AgreeOn, Leaves, pickRows, searchRows, walkRows, stepRows}
 use Rattle.history.proofs.TouchLaws.{get-same, opened-same, leaves-nothing}
 use Rattle.history.proofs.TouchRows.{below-there, below-few}

@@ -10,15 +10,14 @@ use Rattle.points.specs.declared.point.Point.{Point}
 use Rattle.points.specs.Word.{NONE}
 use Rattle.points.proofs.Tests.{and-l, and-r}
 use Rattle.rows.specs.declared.row.Row.the-variants.{Bad}
-use Rattle.rows.specs.declared.call.Call.{Call}
-use Rattle.rows.specs.Layout.{atChanges, atHeld, atRoot, atHead, atCursor}
-use Rattle.rows.specs.Words.{get}
+use Rattle.stations.specs.declared.call.Call.{Call}
+use Rattle.words.specs.Layout.{atChanges, atHeld, atRoot, atHead, atCursor}
+use Rattle.words.specs.Words.{get, more}
 use Rattle.rows.specs.Row.{rowAt}
 use Rattle.rows.proofs.RowLaws.{rowAt-outside}
-use Rattle.moves.specs.declared.insert.Room.{Room}
-use Rattle.moves.specs.Link.{nextOf, parentOf, linksTo, isLeaf, withParent, replaced, leafPoint}
-use Rattle.moves.specs.Reply.{more}
-use Rattle.moves.specs.Insert.{roomAt, roomSound, newSide, putCut, insertRows, insertRoot, insertCounts, cursorsMoved, insertWords, insertTo, insertOf}
+use Rattle.calls.specs.declared.insert.Room.{Room}
+use Rattle.calls.specs.Link.{nextOf, parentOf, linksTo, isLeaf, withParent, replaced, leafPoint}
+use Rattle.calls.specs.Insert.{roomAt, roomSound, newSide, putCut, insertRows, insertRoot, insertCounts, cursorsMoved, insertWords, insertTo, insertOf}
 use Rattle.history.specs.Touch.{AgreeOn, Leaves, roomRows, rowsBelow}
 use Rattle.history.proofs.TouchLaws.{get-same, leaves-nothing, leaves-put}
 use Rattle.history.proofs.TouchRows.{the-first, the-second, the-third, the-fourth, row-alike, leaves-below, leaves-begun, none-idle, bad-idle}

@@ -6,25 +6,25 @@ use mathlib.Core.List.{List, List·Memᴰ}
 use native.Mathlib.Omega.{arith}
 use Rattle.points.specs.declared.point.Point.{Point}
 use Rattle.rows.specs.declared.row.Row.{Row}
-use Rattle.rows.specs.declared.station.State.{State}
-use Rattle.rows.specs.declared.call.Best.{Best}
-use Rattle.rows.specs.declared.call.Call.{Call}
-use Rattle.rows.specs.declared.answer.Answer.{Answer}
-use Rattle.rows.specs.Words.{get, put}
-use Rattle.rows.specs.Agree.{Agree, Region, inCommon, inStation, inRow, OnlyIn}
+use Rattle.stations.specs.declared.station.State.{State}
+use Rattle.stations.specs.declared.call.Best.{Best}
+use Rattle.stations.specs.declared.call.Call.{Call}
+use Rattle.stations.specs.declared.answer.Answer.{Answer}
+use Rattle.words.specs.Words.{get, put}
+use Rattle.words.specs.Agree.{Agree, Region, inCommon, inStation, inRow, OnlyIn}
 use Rattle.rows.specs.Row.{rowAt, putRow}
 use Rattle.rows.specs.Grades.{admits, markToward, beginGrades}
-use Rattle.rows.specs.Common.{openedIn}
-use Rattle.rows.specs.Target.{putTarget}
-use Rattle.rows.specs.Station.{putState, putPlace, putSince, putMissed}
-use Rattle.rows.specs.Call.{putBest, putCall}
-use Rattle.rows.specs.Answer.{putAnswer}
-use Rattle.rows.proofs.AgreeLaws.{put-agree}
+use Rattle.stations.specs.Common.{openedIn}
+use Rattle.stations.specs.Target.{putTarget}
+use Rattle.stations.specs.Station.{putState, putPlace, putSince, putMissed}
+use Rattle.stations.specs.Call.{putBest, putCall}
+use Rattle.stations.specs.Answer.{putAnswer}
+use Rattle.words.proofs.AgreeLaws.{put-agree}
 use Rattle.rows.proofs.RowLaws.{putRow-only, putRow-agree, rowAt-agree}
 use Rattle.rows.proofs.GradeLaws.{admits-agree, toward-only, toward-agree, begin-only, begin-agree}
-use Rattle.rows.proofs.OpeningLaws.{openedIn-agree}
-use Rattle.rows.proofs.TargetLaws.{putTarget-only, putTarget-agree}
-use Rattle.rows.proofs.StationLaws.{putState-only, putState-agree, putBest-only, putBest-agree, putCall-only, putCall-agree, putAnswer-only, putAnswer-agree, putPlace-only, putPlace-agree, putSince-only, putSince-agree, putMissed-only, putMissed-agree, put-common}
+use Rattle.stations.proofs.OpeningLaws.{openedIn-agree}
+use Rattle.stations.proofs.TargetLaws.{putTarget-only, putTarget-agree}
+use Rattle.stations.proofs.StationLaws.{putState-only, putState-agree, putBest-only, putBest-agree, putCall-only, putCall-agree, putAnswer-only, putAnswer-agree, putPlace-only, putPlace-agree, putSince-only, putSince-agree, putMissed-only, putMissed-agree, put-common}
 use Rattle.history.specs.Touch.{AgreeOn, KeepsOthers, Leaves}
 
 -- ---- reads

@@ -3,9 +3,9 @@ use Prim.Native.Nat.{ℕ}
 use mathlib.Core.Path.{_≡_, refl}
 use mathlib.Core.Bool.{Bool, true, false}
 use mathlib.Core.List.{List}
-use Rattle.rows.specs.declared.answer.Answer.{Answer}
-use Rattle.moves.specs.Reply.{Reply, done, refused, pickReply, ask}
-use Rattle.moves.specs.Answer.{letGo, answeredWords}
+use Rattle.stations.specs.declared.answer.Answer.{Answer}
+use Rattle.calls.specs.Reply.{Reply, done, refused, pickReply, ask}
+use Rattle.calls.specs.Answer.{letGo, answeredWords}
 use Rattle.history.specs.Touch.{AgreeOn, Leaves, pickRows, rowsBelow}
 use Rattle.history.proofs.TouchLaws.{leaves-nothing, leaves-state, leaves-answer, leaves-place, leaves-since, leaves-missed}
 

@@ -13,17 +13,17 @@ use Rattle.points.specs.Choice.{excluded}
 use Rattle.points.specs.Word.{NONE}
 use Rattle.rows.specs.declared.row.Row.{Row}
 use Rattle.rows.specs.declared.row.Row.the-variants.{Bad, Spare, Removed, Leaf, Cut}
-use Rattle.rows.specs.declared.call.Best.{Best}
-use Rattle.rows.specs.declared.call.Call.{Call}
-use Rattle.rows.specs.Layout.{atCursor, atPhase, atMissed}
+use Rattle.stations.specs.declared.call.Best.{Best}
+use Rattle.stations.specs.declared.call.Call.{Call}
+use Rattle.words.specs.Layout.{atCursor, atPhase, atMissed}
 use Rattle.rows.specs.Row.{rowAt}
 use Rattle.rows.specs.Grades.{slotOf, admits}
 use Rattle.rows.proofs.RowLaws.{rowAt-outside}
-use Rattle.moves.specs.declared.search.Progress.{Progress}
-use Rattle.moves.specs.Link.{nextOf, parentOf, isTree}
-use Rattle.moves.specs.Search.{pickProgress, onward, unsound, lookAt, look, bestSquare, farShut, tourDown, fromNear, fromChild, tourAbove}
-use Rattle.moves.specs.Search.{tourUp, tour, toured, seek, progressAt, isFinished, foundAnswer, keptWords, pickWords, searchWords, searchTo, searchOf}
-use Rattle.moves.specs.Answer.{answeredWords}
+use Rattle.calls.specs.declared.search.Progress.{Progress}
+use Rattle.calls.specs.Link.{nextOf, parentOf, isTree}
+use Rattle.calls.specs.Search.{pickProgress, onward, unsound, lookAt, look, bestSquare, farShut, tourDown, fromNear, fromChild, tourAbove}
+use Rattle.calls.specs.Search.{tourUp, tour, toured, seek, progressAt, isFinished, foundAnswer, keptWords, pickWords, searchWords, searchTo, searchOf}
+use Rattle.calls.specs.Answer.{answeredWords}
 use Rattle.history.specs.Touch.{AgreeOn, Leaves, pickRows, lookRows, tourRows, newRow, searchRows, rowsBelow}
 use Rattle.history.proofs.Frame.{slot-fits}
 use Rattle.history.proofs.TouchLaws.{get-same, admits-same, leaves-nothing, leaves-best, leaves-place, leaves-missed}

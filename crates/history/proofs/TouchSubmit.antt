@@ -7,13 +7,12 @@ use native.Mathlib.Omega.{arith}
 use lib.Dec.{eqb, ltb}
 use Rattle.points.specs.declared.point.Point.{Point}
 use Rattle.points.specs.Point.{inRange}
-use Rattle.rows.specs.Layout.{atChanges, atRoot, atRemovals}
-use Rattle.rows.specs.Target.{putTarget}
-use Rattle.rows.specs.Common.{openedIn}
-use Rattle.rows.specs.Station.{isIdle, stateAt}
-use Rattle.rows.proofs.RecordLaws.{stateAt-agree}
-use Rattle.moves.specs.Reply.{isOpened}
-use Rattle.steps.specs.Submit.{kindIn, curveFits, callFor, sinceFor, begunWords, aimedWords, submittedWords, submitOf}
+use Rattle.words.specs.Layout.{atChanges, atRoot, atRemovals}
+use Rattle.stations.specs.Target.{putTarget}
+use Rattle.stations.specs.Common.{openedIn, isOpened}
+use Rattle.stations.specs.Station.{isIdle, stateAt}
+use Rattle.stations.proofs.RecordLaws.{stateAt-agree}
+use Rattle.calls.specs.Submit.{kindIn, curveFits, callFor, sinceFor, begunWords, aimedWords, submittedWords, submitOf}
 use Rattle.history.specs.Touch.{AgreeOn, Leaves}
 use Rattle.history.proofs.TouchLaws.{get-same, opened-same, leaves-nothing, leaves-state, leaves-call, leaves-place, leaves-since, leaves-missed, leaves-target}
 use Rattle.history.proofs.TouchReply.{Alike, alike-done, alike-ask}

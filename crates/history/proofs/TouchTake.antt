@@ -4,11 +4,11 @@ use mathlib.Core.Path.{_≡_, refl}
 use mathlib.Core.Bool.{cond}
 use mathlib.Core.List.{List, []}
 use lib.Dec.{ltb}
-use Rattle.rows.proofs.RecordLaws.{waitingAt-agree}
-use Rattle.steps.specs.declared.take.Taking.{Taking}
-use Rattle.steps.specs.declared.take.Taking.the-variants.{Refused as Refusal, Given as Taken}
-use Rattle.moves.specs.Reply.{isOpened}
-use Rattle.steps.specs.Take.{takingOf, takeOf, takenWords, takeWords}
+use Rattle.stations.proofs.RecordLaws.{waitingAt-agree}
+use Rattle.calls.specs.declared.take.Taking.{Taking}
+use Rattle.calls.specs.declared.take.Taking.the-variants.{Refused as Refusal, Given as Taken}
+use Rattle.stations.specs.Common.{isOpened}
+use Rattle.calls.specs.Take.{takingOf, takeOf, takenWords, takeWords}
 use Rattle.history.specs.Touch.{AgreeOn, Leaves}
 use Rattle.history.proofs.TouchLaws.{opened-same, leaves-nothing, leaves-state}
 

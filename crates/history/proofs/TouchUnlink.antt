@@ -9,16 +9,15 @@ use lib.Dec.{eqb, leb}
 use Rattle.points.specs.Word.{NONE}
 use Rattle.points.proofs.Tests.{and-l, and-r}
 use Rattle.rows.specs.declared.row.Row.the-variants.{Bad}
-use Rattle.rows.specs.declared.call.Call.{Call}
-use Rattle.rows.specs.Layout.{atChanges, atHeld, atRoot, atTail, atRemovals, atCursor, atPhase, atSince, atMissed}
-use Rattle.rows.specs.Words.{get}
+use Rattle.stations.specs.declared.call.Call.{Call}
+use Rattle.words.specs.Layout.{atChanges, atHeld, atRoot, atTail, atRemovals, atCursor, atPhase, atSince, atMissed}
+use Rattle.words.specs.Words.{get, more}
 use Rattle.rows.specs.Row.{rowAt}
-use Rattle.rows.proofs.TargetLaws.{targetAt-agree}
+use Rattle.stations.proofs.TargetLaws.{targetAt-agree}
 use Rattle.rows.proofs.RowLaws.{rowAt-outside}
-use Rattle.moves.specs.declared.unlink.Around.{Around}
-use Rattle.moves.specs.Link.{nextOf, parentOf, siblingOf, linksTo, isLeaf, isTree, isFree, withNext, withParent, removedAs, replaced}
-use Rattle.moves.specs.Reply.{more}
-use Rattle.moves.specs.Unlink.{aroundAt, aroundSound, unlinkRows, unlinkRoot, unlinkCounts, landing, cursorAfter, phaseAfter, missedAfter, stationMoved, stationsMoved, unlinkWords, unlinkTo, unlinkOf}
+use Rattle.calls.specs.declared.unlink.Around.{Around}
+use Rattle.calls.specs.Link.{nextOf, parentOf, siblingOf, linksTo, isLeaf, isTree, isFree, withNext, withParent, removedAs, replaced}
+use Rattle.calls.specs.Unlink.{aroundAt, aroundSound, unlinkRows, unlinkRoot, unlinkCounts, landing, cursorAfter, phaseAfter, missedAfter, stationMoved, stationsMoved, unlinkWords, unlinkTo, unlinkOf}
 use Rattle.history.specs.Touch.{AgreeOn, Leaves, aroundRows, rowsBelow}
 use Rattle.history.proofs.TouchLaws.{get-same, leaves-nothing, leaves-put}
 use Rattle.history.proofs.TouchRows.{the-first, the-second, the-third, the-fourth, the-fifth, row-alike, leaves-below, none-idle, bad-idle}

@@ -11,17 +11,17 @@ use lib.Dec.{eqb, leb}
 use Rattle.points.specs.declared.point.Point.{Point}
 use Rattle.points.specs.Word.{NONE}
 use Rattle.rows.specs.declared.row.Row.{Row}
-use Rattle.rows.specs.declared.call.Call.{Call}
-use Rattle.rows.specs.Layout.{atPlaces, atLimit, atChanges, atRoot, atCursor}
+use Rattle.stations.specs.declared.call.Call.{Call}
+use Rattle.words.specs.Layout.{atPlaces, atLimit, atChanges, atRoot, atCursor}
 use Rattle.rows.specs.Row.{rowAt}
 use Rattle.rows.specs.Grades.{slotOf}
 use Rattle.rows.proofs.RowLaws.{rowAt-outside}
-use Rattle.rows.proofs.TakenLaws.{takenIn-agree}
-use Rattle.moves.specs.declared.walk.Way.{Way}
-use Rattle.moves.specs.Link.{isLeaf, isCut, holdsPoint}
-use Rattle.moves.specs.Insert.{roomAt}
-use Rattle.moves.specs.Unlink.{aroundAt}
-use Rattle.moves.specs.Walk.{downFrom, down, wayOf, markedWay, passedWords, walkTo, codeOf, codeAt, conclude, standsAt, walkFrom, walkOf}
+use Rattle.stations.proofs.TakenLaws.{takenIn-agree}
+use Rattle.calls.specs.declared.walk.Way.{Way}
+use Rattle.calls.specs.Link.{isLeaf, isCut, holdsPoint}
+use Rattle.calls.specs.Insert.{roomAt}
+use Rattle.calls.specs.Unlink.{aroundAt}
+use Rattle.calls.specs.Walk.{downFrom, down, wayOf, markedWay, passedWords, walkTo, codeOf, codeAt, conclude, standsAt, walkFrom, walkOf}
 use Rattle.history.specs.Touch.{AgreeOn, Leaves, wayRows, pickRows, endRows, walkRows, rowsBelow}
 use Rattle.history.proofs.TouchLaws.{get-same, leaves-nothing, leaves-place}
 use Rattle.history.proofs.TouchRows.{the-first, the-second, the-third, the-fourth, the-fifth, the-sixth, in-pick, row-alike, leaves-marked}

@@ -12,22 +12,22 @@ use Rattle.points.specs.declared.cut.Cut.{Cut}
 use Rattle.points.specs.Cut.{goesLeft}
 use Rattle.points.specs.Word.{NONE, cutInRange}
 use Rattle.points.proofs.Tests.{and-l}
-use Rattle.rows.specs.declared.call.Best.{Best as WordBest}
-use Rattle.rows.specs.declared.call.Call.{Call}
-use Rattle.rows.specs.Range.{linkIn}
+use Rattle.stations.specs.declared.call.Best.{Best as WordBest}
+use Rattle.stations.specs.declared.call.Call.{Call}
+use Rattle.words.specs.Range.{linkIn}
 use Rattle.rows.specs.Row.{rowAt, inRows}
 use Rattle.rows.specs.Grades.{admits}
 use Rattle.trees.specs.Row.{Row, spareRow, removedRow, leafRow, cutRow, Heap}
 use Rattle.trees.specs.Tour.{considered, pickProgress, goTo, Opens, shut, tourDown, tourParent, tourAbove, tourUp, tourRow, tour}
 use Rattle.trees.specs.Stand.{Down, Up}
 use Rattle.trees.proofs.ChoiceOf.{choiceOf}
-use Rattle.moves.specs.declared.search.Progress.{Progress as WordProgress}
-use Rattle.moves.specs.Search.{considered as consideredWord, onward, unsound, pickProgress as pickWordProgress, farShut}
-use Rattle.moves.specs.Search.{fromNear, tourDown as tourWordDown, tourAbove as tourWordParent, tourUp as tourWordUp, tour as tourWord}
+use Rattle.calls.specs.declared.search.Progress.{Progress as WordProgress}
+use Rattle.calls.specs.Search.{considered as consideredWord, onward, unsound, pickProgress as pickWordProgress, farShut}
+use Rattle.calls.specs.Search.{fromNear, tourDown as tourWordDown, tourAbove as tourWordParent, tourUp as tourWordUp, tour as tourWord}
 use Rattle.history.specs.View.{wordRow, Reads, phaseOf, bestOf, opensIn}
 use Rattle.history.proofs.Effects.{reads-in}
 use Rattle.rows.proofs.RowLaws.{in-rows-cut}
-use Rattle.rows.proofs.RangeLaws.{link-tells}
+use Rattle.words.proofs.RangeLaws.{link-tells}
 use Rattle.history.proofs.ProgressWords.{viewOf, Fit, Keeps, keeps-some, keeps-none, keeps-pick, keeps-onward, square-words, considered-words, considered-ranged}
 use Rattle.history.proofs.LookWords.{leaf-in}
 

@@ -14,8 +14,8 @@ use Rattle.points.specs.Word.{NONE}
 use Rattle.points.proofs.Tests.{and-i}
 use Rattle.rows.specs.declared.row.Row.{Row as WordRow}
 use Rattle.rows.specs.declared.row.Row.the-variants.{Bad}
-use Rattle.rows.specs.Layout.{atTail}
-use Rattle.rows.specs.Words.{get}
+use Rattle.words.specs.Layout.{atTail}
+use Rattle.words.specs.Words.{get}
 use Rattle.rows.specs.Row.{rowAt}
 use Rattle.rows.proofs.RowLaws.{rowAt-outside}
 use Rattle.trees.specs.Row.{Entry, Row, spareRow, removedRow, leafRow, cutRow, Heap, parentOf, siblingOf, parentAt, siblingAt}
@@ -26,9 +26,9 @@ use Rattle.trees.specs.Reads.{LeafAt, CutAt, ParentCut, Above, TailRow, UnlinkR
 use Rattle.trees.specs.Reads.{Leaf}
 use Rattle.trees.specs.Unlink.{siblingRow, grandRow}
 use Rattle.trees.proofs.ReadLaws.{unlink-reads, link-tail}
-use Rattle.moves.specs.declared.unlink.Around.{Around}
-use Rattle.moves.specs.Link.{nextOf, parentOf as wordParent, siblingOf as wordSibling, linksTo, isTree, isFree}
-use Rattle.moves.specs.Unlink.{aroundAt, aroundSound}
+use Rattle.calls.specs.declared.unlink.Around.{Around}
+use Rattle.calls.specs.Link.{nextOf, parentOf as wordParent, siblingOf as wordSibling, linksTo, isTree, isFree}
+use Rattle.calls.specs.Unlink.{aroundAt, aroundSound}
 use Rattle.history.specs.View.{wordRow, Reads}
 
 -- ---- links of rows in the words

@@ -8,15 +8,14 @@ use native.Mathlib.Omega.{arith}
 use lib.Dec.{eqb}
 use lib.ListN.{length}
 use Rattle.points.specs.Word.{NONE}
-use Rattle.rows.specs.declared.common.Opening.the-variants.{Opened}
-use Rattle.rows.specs.Layout.{atChanges, atHeld, atRoot, atHead, atTail, atRemovals, atCursor, atPhase, atSince, atMissed}
-use Rattle.rows.specs.Words.{get}
-use Rattle.rows.specs.Target.{targetAt}
-use Rattle.rows.specs.Common.{openedIn}
-use Rattle.rows.proofs.OpeningLaws.{opened-tells}
-use Rattle.moves.specs.declared.unlink.Around.{Around}
-use Rattle.moves.specs.Reply.{more}
-use Rattle.moves.specs.Unlink.{unlinkTail, unlinkRoot, unlinkCounts, landing, cursorAfter, phaseAfter, missedAfter, stationMoved, stationsMoved}
+use Rattle.stations.specs.declared.common.Opening.the-variants.{Opened}
+use Rattle.words.specs.Layout.{atChanges, atHeld, atRoot, atHead, atTail, atRemovals, atCursor, atPhase, atSince, atMissed}
+use Rattle.words.specs.Words.{get, more}
+use Rattle.stations.specs.Target.{targetAt}
+use Rattle.stations.specs.Common.{openedIn}
+use Rattle.stations.proofs.OpeningLaws.{opened-tells}
+use Rattle.calls.specs.declared.unlink.Around.{Around}
+use Rattle.calls.specs.Unlink.{unlinkTail, unlinkRoot, unlinkCounts, landing, cursorAfter, phaseAfter, missedAfter, stationMoved, stationsMoved}
 use Rattle.history.specs.View.{Counts, Place, Seat, countsAt, placeAt, seatAt, withPlace, SameRows, Written}
 use Rattle.history.proofs.Frame.{place-of, place-same}
 use Rattle.history.proofs.CountEffects.{Counting, counting-none, counting-put}

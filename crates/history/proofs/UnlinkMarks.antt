@@ -11,8 +11,8 @@ use Rattle.trees.specs.Row.{Heap}
 use Rattle.trees.specs.Queue.{Free, freeRow}
 use Rattle.trees.specs.Reads.{Leaf}
 use Rattle.trees.specs.Unlink.{siblingRow, grandRow, UnlinkWrites}
-use Rattle.moves.specs.Link.{isCut, withParent, replaced}
-use Rattle.moves.specs.Unlink.{unlinkRows}
+use Rattle.calls.specs.Link.{isCut, withParent, replaced}
+use Rattle.calls.specs.Unlink.{unlinkRows}
 use Rattle.history.specs.View.{marksIn}
 use Rattle.history.proofs.RowKinds.{kindAt, kind-next, kind-parent, kind-child, kind-free, parent-cut, child-cut}
 use Rattle.history.proofs.RowWrites.{marks-kept}

@@ -9,11 +9,11 @@ use mathlib.Core.Option.{Option}
 use native.Mathlib.Omega.{arith}
 use native.Mathlib.Decide.{ℕ-discrete}
 use Rattle.points.specs.Word.{NONE}
-use Rattle.rows.specs.declared.common.Opening.the-variants.{Opened}
-use Rattle.rows.specs.Range.{linkIn}
+use Rattle.stations.specs.declared.common.Opening.the-variants.{Opened}
+use Rattle.words.specs.Range.{linkIn}
 use Rattle.rows.specs.Row.{putRow, inRows}
-use Rattle.rows.specs.Common.{openedIn}
-use Rattle.rows.proofs.RangeLaws.{link-none, link-row}
+use Rattle.stations.specs.Common.{openedIn}
+use Rattle.words.proofs.RangeLaws.{link-none, link-row}
 use Rattle.rows.proofs.RowLaws.{in-rows-spare}
 use Rattle.trees.specs.Row.{spareRow, removedRow, leafRow, Heap, setParent, setNext, replaceChild, WroteAt}
 use Rattle.trees.specs.Tree.{Tree, Has}
@@ -26,8 +26,8 @@ use Rattle.trees.proofs.ReadLaws.{unlink-reads, link-tail}
 use Rattle.trees.proofs.Room.{queue-not-empty}
 use Rattle.trees.proofs.Unlink.{tail-row-in}
 use Rattle.trees.proofs.WriteLaws.{unlink-apart, unlink-writes, unlink-write}
-use Rattle.moves.specs.Link.{withNext, withParent, removedAs, replaced}
-use Rattle.moves.specs.Unlink.{unlinkRows}
+use Rattle.calls.specs.Link.{withNext, withParent, removedAs, replaced}
+use Rattle.calls.specs.Unlink.{unlinkRows}
 use Rattle.history.specs.View.{countsAt, seatAt, wordRow, Reads, heapPut, Written}
 use Rattle.history.proofs.Effects.{reads-in}
 use Rattle.history.proofs.RowLinks.{next-words, next-in, freed-in, child-words, child-in, parent-words, parent-in}

@@ -35,7 +35,7 @@ use Rattle.trees.proofs.RouteLaws.{walk-unlink}
 use Rattle.trees.proofs.SearchLaws.{search-unlink}
 use Rattle.trees.specs.Measure.{stepMoves, progressLeft}
 use Rattle.trees.proofs.OthersLaws.{others-unlink}
-use Rattle.moves.specs.Unlink.{landing as landingWord}
+use Rattle.calls.specs.Unlink.{landing as landingWord}
 use Rattle.history.specs.View.{Seat, wordRow, phaseOf, progressOf}
 use Rattle.history.specs.Related.{Quiet, Searching, Walks, Works, Busy, Says, Marking}
 use Rattle.history.proofs.BusyLaws.{busy-on}

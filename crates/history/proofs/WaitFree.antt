@@ -18,10 +18,10 @@ use Rattle.table.proofs.Stations.{put-same}
 use Rattle.table.proofs.Taken.{since-enter}
 use Rattle.trees.specs.Measure.{stepMoves}
 use Rattle.trees.proofs.OthersLaws.{left-counted}
-use Rattle.steps.specs.Open.{openOf}
-use Rattle.steps.specs.Step.{stepOf}
-use Rattle.steps.specs.Submit.{submitOf}
-use Rattle.steps.specs.Withdraw.{withdrawOf}
+use Rattle.calls.specs.Open.{openOf}
+use Rattle.calls.specs.Step.{stepOf}
+use Rattle.calls.specs.Submit.{submitOf}
+use Rattle.calls.specs.Withdraw.{withdrawOf}
 use Rattle.history.specs.Index.{wordIndex}
 use Rattle.history.specs.After.{after}
 use Rattle.history.specs.WaitFree.{mostOwnMoves, ownSteps, OwnAnswered, KeepsCall}

@@ -12,9 +12,9 @@ use lib.Dec.{eqb}
 use lib.ListN.{length, length-map}
 use borrow.Author.Tests.{lt-ltb}
 use Rattle.points.specs.declared.point.Point.{Point}
-use Rattle.rows.specs.Station.{isUnfinished, stateAt}
-use Rattle.rows.specs.Call.{callAt}
-use Rattle.moves.specs.Reply.{Reply}
+use Rattle.stations.specs.Station.{isUnfinished, stateAt}
+use Rattle.stations.specs.Call.{callAt}
+use Rattle.calls.specs.Reply.{Reply}
 use Rattle.table.specs.Call.{Call, add, remove, contains, nearest, callOf, isSearch, pointOf, Answer, answer, isChange, withdrawnAnswer}
 use Rattle.table.specs.Table.{Station, idle, unfinished, waiting, Table, put, withStations, searching}
 use Rattle.table.specs.Event.{Event, submission, takeAt, take}
@@ -28,12 +28,12 @@ use Rattle.table.proofs.Searched.{Unanswered}
 use Rattle.table.proofs.Withdrawn.{TakenBack, withdrawn-waits}
 use Rattle.trees.specs.Tree.{entriesOf}
 use Rattle.trees.proofs.ShapeLaws.{entries-count}
-use Rattle.steps.specs.Open.{openOf}
-use Rattle.steps.specs.Submit.{submitOf}
-use Rattle.steps.specs.Take.{takeOf}
-use Rattle.steps.specs.Report.{reportOf}
-use Rattle.steps.specs.Held.{heldIn}
-use Rattle.steps.specs.Withdraw.{withdrawnWords, withdrawOf}
+use Rattle.calls.specs.Open.{openOf}
+use Rattle.calls.specs.Submit.{submitOf}
+use Rattle.calls.specs.Take.{takeOf}
+use Rattle.calls.specs.Report.{reportOf}
+use Rattle.calls.specs.Held.{heldIn}
+use Rattle.calls.specs.Withdraw.{withdrawnWords, withdrawOf}
 use Rattle.history.specs.Index.{recordOf as heldRecord, givenBy, wordIndex}
 use Rattle.history.specs.View.{placeAt, seatAt}
 use Rattle.history.specs.Related.{recordOf, Related}

@@ -5,8 +5,8 @@ use mathlib.Core.Path.{_≡_}
 use mathlib.Core.Logic.{_⊎_}
 use Rattle.table.specs.Event.{Event}
 use Rattle.table.specs.History.{after as afterEvents}
-use Rattle.steps.specs.Step.{stepOf}
-use Rattle.steps.specs.Take.{takeOf, numberOf}
+use Rattle.calls.specs.Step.{stepOf}
+use Rattle.calls.specs.Take.{takeOf, numberOf}
 use Rattle.history.specs.Index.{wordIndex}
 
 unfoldable pub after : List Event → List ℕ → List ℕ

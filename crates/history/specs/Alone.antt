@@ -8,9 +8,9 @@ use Rattle.table.specs.Call.{callOf, isChange}
 use Rattle.table.specs.Table.{Table, opened, answerOf, changedIf}
 use Rattle.table.specs.Event.{Event, submit}
 use Rattle.table.specs.History.{Agree, Follows, Ends}
-use Rattle.steps.specs.Submit.{submitOf}
-use Rattle.steps.specs.Step.{stepOf}
-use Rattle.steps.specs.Take.{takeOf, takeWords}
+use Rattle.calls.specs.Submit.{submitOf}
+use Rattle.calls.specs.Step.{stepOf}
+use Rattle.calls.specs.Take.{takeOf, takeWords}
 use Rattle.history.specs.Index.{givenBy, wordIndex}
 use Rattle.history.specs.After.{after, Answered}
 

@@ -8,10 +8,10 @@ use mathlib.Core.Logic.{_⊎_}
 use mathlib.Core.List.{List, _++_}
 use mathlib.Core.Option.{Option}
 use lib.ListN.{length}
-use Rattle.rows.specs.declared.common.Opening.the-variants.{Opened}
-use Rattle.rows.specs.Layout.{atRoot, atHead, atTail, atRemovals}
-use Rattle.rows.specs.Words.{get}
-use Rattle.rows.specs.Common.{openedIn, leastSince}
+use Rattle.stations.specs.declared.common.Opening.the-variants.{Opened}
+use Rattle.words.specs.Layout.{atRoot, atHead, atTail, atRemovals}
+use Rattle.words.specs.Words.{get}
+use Rattle.stations.specs.Common.{openedIn, leastSince}
 use Rattle.trees.specs.Row.{Heap}
 use Rattle.trees.specs.Tree.{Tree, topOf, Has, Shape, Routed, Distinct}
 use Rattle.trees.specs.Queue.{Free, headOf, tailOf, Linked, InQueue, Once, UpTo, Removal, freedAfter}

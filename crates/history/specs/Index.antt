@@ -3,20 +3,20 @@ use Prim.Native.Nat.{ℕ}
 use mathlib.Core.List.{List, map}
 use mathlib.Core.Option.{Option, none, some}
 use Rattle.points.specs.declared.point.Point.{Point}
-use Rattle.rows.specs.declared.answer.Answer.{Answer as Given}
+use Rattle.stations.specs.declared.answer.Answer.{Answer as Given}
 use Rattle.table.specs.Record.{Record}
 use Rattle.table.specs.Call.{Answer}
 use Rattle.table.specs.Event.{Reply}
 use Rattle.table.specs.History.{Index}
-use Rattle.moves.specs.Reply.{Reply as WordReply}
-use Rattle.steps.specs.declared.take.Taking.{Taking}
-use Rattle.steps.specs.declared.take.Taking.the-variants.{Refused, Given as Taken}
-use Rattle.steps.specs.Submit.{submitOf}
-use Rattle.steps.specs.Step.{stepOf}
-use Rattle.steps.specs.Take.{takeOf, takeWords, numberOf}
-use Rattle.steps.specs.Withdraw.{withdrawOf}
-use Rattle.steps.specs.Report.{reportOf}
-use Rattle.steps.specs.Held.{Held, heldIn}
+use Rattle.calls.specs.Reply.{Reply as WordReply}
+use Rattle.calls.specs.declared.take.Taking.{Taking}
+use Rattle.calls.specs.declared.take.Taking.the-variants.{Refused, Given as Taken}
+use Rattle.calls.specs.Submit.{submitOf}
+use Rattle.calls.specs.Step.{stepOf}
+use Rattle.calls.specs.Take.{takeOf, takeWords, numberOf}
+use Rattle.calls.specs.Withdraw.{withdrawOf}
+use Rattle.calls.specs.Report.{reportOf}
+use Rattle.calls.specs.Held.{Held, heldIn}
 
 -- an answer's code, point, curve and square
 abbrev pub answerOf : Given → Answer

@@ -6,15 +6,14 @@ use lib.Dec.{eqb, leb, ltb}
 use lib.ListN.{length}
 use Rattle.points.specs.declared.point.Point.{Point}
 use Rattle.points.specs.Point.{inRange}
-use Rattle.rows.specs.Layout.{wordsFor}
-use Rattle.rows.specs.Common.{placesIn, limitIn, openedIn}
-use Rattle.rows.specs.Station.{isIdle, isUnfinished, stateAt}
-use Rattle.rows.specs.Call.{callAt}
-use Rattle.rows.specs.Answer.{waitingAt}
-use Rattle.moves.specs.Reply.{isOpened, rowsIn}
-use Rattle.steps.specs.Submit.{kindIn, curveFits}
-use Rattle.steps.specs.Step.{recordsSound, workOf}
-use Rattle.steps.specs.Run.{isGiven}
+use Rattle.words.specs.Layout.{wordsFor}
+use Rattle.stations.specs.Common.{placesIn, limitIn, openedIn, isOpened, rowsIn}
+use Rattle.stations.specs.Station.{isIdle, isUnfinished, stateAt}
+use Rattle.stations.specs.Call.{callAt}
+use Rattle.stations.specs.Answer.{waitingAt}
+use Rattle.calls.specs.Submit.{kindIn, curveFits}
+use Rattle.calls.specs.Step.{recordsSound, workOf}
+use Rattle.calls.specs.Run.{isGiven}
 
 -- a question: whether it is answered yes, and its number
 pub record Question : Type 0 where

@@ -9,10 +9,10 @@ use lib.ListN.{length}
 use Rattle.points.specs.declared.point.Point.{Point}
 use Rattle.points.specs.Point.{inRange}
 use Rattle.points.specs.Word.{NONE}
-use Rattle.rows.specs.declared.common.Opening.the-variants.{Opened}
-use Rattle.rows.specs.Range.{curveIn}
-use Rattle.rows.specs.Common.{openedIn, leastSince}
-use Rattle.rows.specs.Answer.{answerSound}
+use Rattle.stations.specs.declared.common.Opening.the-variants.{Opened}
+use Rattle.words.specs.Range.{curveIn}
+use Rattle.stations.specs.Common.{openedIn, leastSince}
+use Rattle.stations.specs.Answer.{answerSound}
 use Rattle.table.specs.Record.{Record, Once, Same, nearestOf}
 use Rattle.table.specs.Call.{Call, add, remove, contains, nearest, pointOf, Answer, nearestAnswer}
 use Rattle.table.specs.Table.{Station, idle, unfinished, waiting, Table}

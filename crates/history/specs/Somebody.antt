@@ -5,9 +5,9 @@ use mathlib.Core.Path.{_≡_}
 use mathlib.Core.Logic.{_⊎_}
 use mathlib.Core.Bool.{true, cond}
 use mathlib.Core.List.{List, [], _∷_}
-use Rattle.steps.specs.Submit.{submitOf}
-use Rattle.steps.specs.Withdraw.{withdrawOf}
-use Rattle.rows.specs.Station.{isUnfinished, stateAt}
+use Rattle.calls.specs.Submit.{submitOf}
+use Rattle.calls.specs.Withdraw.{withdrawOf}
+use Rattle.stations.specs.Station.{isUnfinished, stateAt}
 use Rattle.table.specs.Event.{Event, submission, singleStep, taking, withdrawal}
 use Rattle.table.specs.History.{reply, answered}
 use Rattle.history.specs.Index.{wordIndex}

@@ -7,22 +7,22 @@ use lib.Dec.{eqb, ltb}
 use lib.ListN.{length}
 use Rattle.points.specs.Word.{NONE}
 use Rattle.rows.specs.declared.row.Row.{Row}
-use Rattle.rows.specs.declared.call.Call.{Call}
-use Rattle.rows.specs.Words.{get}
-use Rattle.rows.specs.Agree.{Off, inCommon, inStation, inRow, startOf, sizeOf, AgreeIn}
+use Rattle.stations.specs.declared.call.Call.{Call}
+use Rattle.words.specs.Words.{get}
+use Rattle.words.specs.Agree.{Off, inCommon, inStation, inRow, startOf, sizeOf, AgreeIn}
 use Rattle.rows.specs.Row.{rowAt}
 use Rattle.rows.specs.Grades.{slotOf}
-use Rattle.rows.specs.Call.{callAt}
-use Rattle.moves.specs.declared.insert.Room.{Room}
-use Rattle.moves.specs.declared.unlink.Around.{Around}
-use Rattle.moves.specs.declared.search.Progress.{Progress}
-use Rattle.moves.specs.declared.walk.Way.{Way}
-use Rattle.moves.specs.Reply.{rowsIn}
-use Rattle.moves.specs.Link.{nextOf, parentOf, isCut}
-use Rattle.moves.specs.Search.{look, toured, progressAt}
-use Rattle.moves.specs.Insert.{roomAt}
-use Rattle.moves.specs.Unlink.{aroundAt}
-use Rattle.moves.specs.Walk.{wayOf, codeAt, standsAt}
+use Rattle.stations.specs.Call.{callAt}
+use Rattle.calls.specs.declared.insert.Room.{Room}
+use Rattle.calls.specs.declared.unlink.Around.{Around}
+use Rattle.calls.specs.declared.search.Progress.{Progress}
+use Rattle.calls.specs.declared.walk.Way.{Way}
+use Rattle.stations.specs.Common.{rowsIn}
+use Rattle.calls.specs.Link.{nextOf, parentOf, isCut}
+use Rattle.calls.specs.Search.{look, toured, progressAt}
+use Rattle.calls.specs.Insert.{roomAt}
+use Rattle.calls.specs.Unlink.{aroundAt}
+use Rattle.calls.specs.Walk.{wayOf, codeAt, standsAt}
 
 -- "two slices of one length that agree in the common record and the station's, as far as they are there", and in some rows
 pub record AgreeOn (v w : List ℕ) (s : ℕ) (rows : List ℕ) : Type 0 where

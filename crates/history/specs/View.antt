@@ -9,18 +9,18 @@ use Rattle.points.specs.declared.point.Point.{Point}
 use Rattle.points.specs.Word.{NONE}
 use Rattle.rows.specs.declared.row.Row.{Row as WordRow}
 use Rattle.rows.specs.declared.row.Row.the-variants.{Spare, Removed, Leaf, Cut}
-use Rattle.rows.specs.declared.call.Best.{Best as WordBest}
-use Rattle.rows.specs.declared.call.Call.{Call}
-use Rattle.rows.specs.declared.answer.Answer.{Answer}
-use Rattle.rows.specs.Layout.{atChanges, atHeld, atRoot, atHead, atTail, atRemovals, atCursor, atPhase, atSince, atMissed}
-use Rattle.rows.specs.Words.{get}
+use Rattle.stations.specs.declared.call.Best.{Best as WordBest}
+use Rattle.stations.specs.declared.call.Call.{Call}
+use Rattle.stations.specs.declared.answer.Answer.{Answer}
+use Rattle.words.specs.Layout.{atChanges, atHeld, atRoot, atHead, atTail, atRemovals, atCursor, atPhase, atSince, atMissed}
+use Rattle.words.specs.Words.{get}
 use Rattle.rows.specs.Row.{rowAt}
 use Rattle.rows.specs.Grades.{slotOf, admits}
-use Rattle.rows.specs.Common.{openedIn}
-use Rattle.rows.specs.Station.{stateAt}
-use Rattle.rows.specs.Target.{targetAt}
-use Rattle.rows.specs.Call.{callAt}
-use Rattle.rows.specs.Answer.{answerAt}
+use Rattle.stations.specs.Common.{openedIn}
+use Rattle.stations.specs.Station.{stateAt}
+use Rattle.stations.specs.Target.{targetAt}
+use Rattle.stations.specs.Call.{callAt}
+use Rattle.stations.specs.Answer.{answerAt}
 use Rattle.trees.specs.Row.{Row, spareRow, removedRow, leafRow, cutRow, Heap}
 use Rattle.trees.specs.Stand.{Phase, Down, Up}
 use Rattle.trees.specs.Tour.{Best, Progress, Opens}

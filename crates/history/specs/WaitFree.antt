@@ -5,7 +5,7 @@ use mathlib.Core.Logic.{_⊎_}
 use mathlib.Core.Bool.{true, cond}
 use mathlib.Core.List.{List, [], _∷_}
 use lib.Dec.{eqb}
-use Rattle.steps.specs.Withdraw.{withdrawOf}
+use Rattle.calls.specs.Withdraw.{withdrawOf}
 use Rattle.table.specs.Event.{Event, submission, singleStep, taking, withdrawal}
 use Rattle.table.specs.History.{reply, answered}
 use Rattle.history.specs.Index.{wordIndex}

@@ -7,15 +7,15 @@ use mathlib.Core.Option.{some}
 use lib.Dec.{eqb}
 use lib.ListN.{length}
 use Rattle.points.specs.Word.{NONE}
-use Rattle.rows.specs.Layout.{atSince}
-use Rattle.rows.specs.Words.{get}
-use Rattle.rows.specs.Station.{isUnfinished, stateAt}
-use Rattle.rows.specs.Call.{callAt}
+use Rattle.words.specs.Layout.{atSince}
+use Rattle.words.specs.Words.{get}
+use Rattle.stations.specs.Station.{isUnfinished, stateAt}
+use Rattle.stations.specs.Call.{callAt}
 use Rattle.table.specs.Call.{answer}
-use Rattle.steps.specs.Take.{takeOf}
-use Rattle.steps.specs.Report.{reportOf}
-use Rattle.steps.specs.Held.{heldIn}
-use Rattle.steps.specs.Withdraw.{withdrawOf}
+use Rattle.calls.specs.Take.{takeOf}
+use Rattle.calls.specs.Report.{reportOf}
+use Rattle.calls.specs.Held.{heldIn}
+use Rattle.calls.specs.Withdraw.{withdrawOf}
 use Rattle.history.specs.Index.{givenBy}
 
 -- the station has an unfinished nearest

@@ -1,21 +1,21 @@
 // Calls on the index alone, from the rows of a text: each gives the number that its row says, and a refused one leaves every word. A row has
 // a capital letter for the call, how many words it is lent, four arguments and the number.
 use crate::framed::framed;
+use audits::audit::audit;
+use audits::report::read_report;
+use calls::take::Taking;
+use openings::open::open;
 use plain_list::book::point_of;
 use plain_list::book::sheet;
 use plain_list::text::Row;
 use plain_list::verdict::judge;
 use plain_list::verdict::tried;
 use points::point::Point;
-use steps::audit::audit;
-use steps::open::open;
-use steps::report::read_report;
 use steps::run::run;
 use steps::step::step;
-use steps::submit::submit;
-use steps::take::Taking;
-use steps::take::take;
 use steps::withdraw::withdraw;
+use submissions::submit::submit;
+use submissions::take::take;
 use trial::cells::copy;
 use trial::cells::put_word;
 use trial::cells::same_from;

@@ -1,48 +1,37 @@
 // A record is inserted where the walk of its point ended, at row `at`: beside the leaf there, or alone where `at` is none.
-use crate::answer::write_answered;
-use crate::link::is_leaf;
-use crate::link::leaf_point;
-use crate::link::links_to;
-use crate::link::next_of;
-use crate::link::parent_of;
-use crate::relink::replaced;
-use crate::relink::with_parent;
-use crate::reply::more;
-use crate::reply::pick;
+use calls::insert::Room;
+use links::answer::write_answered;
+use links::link::is_leaf;
+use links::link::leaf_point;
+use links::link::links_to;
+use links::link::next_of;
+use links::link::parent_of;
+use links::relink::replaced;
+use links::relink::with_parent;
 use points::cut::Cut;
 use points::cut::cut_between;
 use points::cut::goes_left;
 use points::point::Point;
-use rows::answer::Answer;
-use rows::call::Call;
 use rows::grades::begin_grades;
 use rows::grades::slot_of;
-use rows::layout::AT_CHANGES;
-use rows::layout::AT_HEAD;
-use rows::layout::AT_HELD;
-use rows::layout::AT_ROOT;
-use rows::layout::NONE;
-use rows::layout::at_cursor;
 use rows::row::Row;
 use rows::row::read_row;
 use rows::row::write_row;
-use rows::word::get;
-use rows::word::put;
+use stations::answer::Answer;
+use stations::call::Call;
+use words::layout::AT_CHANGES;
+use words::layout::AT_HEAD;
+use words::layout::AT_HELD;
+use words::layout::AT_ROOT;
+use words::layout::NONE;
+use words::layout::at_cursor;
+use words::word::get;
+use words::word::more;
+use words::word::pick;
+use words::word::put;
 ghost use mathlib.Core.Path.{_≡_};
-ghost use Rattle.moves.specs.Reply.{replied};
-ghost use Rattle.moves.specs.Insert.{roomAt, roomSound, newLeaf, cutWith, putCut, insertRows, insertHead, insertRoot, insertCounts, cursorMoved, cursorsMoved, insertWords, insertOf};
-
-// The first two free rows, the leaf where the walk ended, and the row above it, each with its number.
-pub struct Room {
-    pub first: u32,
-    pub fresh: Row,
-    pub second: u32,
-    pub spare: Row,
-    pub at: u32,
-    pub leaf: Row,
-    pub over: u32,
-    pub above: Row,
-}
+ghost use Rattle.calls.specs.Reply.{replied};
+ghost use Rattle.calls.specs.Insert.{roomAt, roomSound, newLeaf, cutWith, putCut, insertRows, insertHead, insertRoot, insertCounts, cursorMoved, cursorsMoved, insertWords, insertOf};
 
 // Reads the rows. Where there is no leaf no second free row is needed, and reading at `NONE` gives a bad row.
 fn gather(words: &[u32], rows: u32, at: u32) -> Room

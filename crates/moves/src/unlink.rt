@@ -1,65 +1,52 @@
 // A leaf is taken from the tree: the rows that this reads, the test that they are sound, and what is written.
-use crate::answer::write_answered;
-use crate::link::is_free;
-use crate::link::is_leaf;
-use crate::link::is_tree;
-use crate::link::leaf_curve;
-use crate::link::links_to;
-use crate::link::next_of;
-use crate::link::parent_of;
-use crate::link::sibling_of;
-use crate::relink::removed_as;
-use crate::relink::replaced;
-use crate::relink::with_next;
-use crate::relink::with_parent;
-use crate::reply::more;
-use crate::reply::pick;
+use calls::unlink::Around;
+use links::answer::write_answered;
+use links::link::is_free;
+use links::link::is_leaf;
+use links::link::is_tree;
+use links::link::leaf_curve;
+use links::link::links_to;
+use links::link::next_of;
+use links::link::parent_of;
+use links::link::sibling_of;
+use links::relink::removed_as;
+use links::relink::replaced;
+use links::relink::with_next;
+use links::relink::with_parent;
 use points::cut::Cut;
 use points::cut::goes_left;
 use points::point::Point;
-use rows::answer::Answer;
-use rows::call::Call;
-use rows::layout::AT_CHANGES;
-use rows::layout::AT_HELD;
-use rows::layout::AT_REMOVALS;
-use rows::layout::AT_ROOT;
-use rows::layout::AT_TAIL;
-use rows::layout::NONE;
-use rows::layout::at_cursor;
-use rows::layout::at_missed;
-use rows::layout::at_phase;
-use rows::layout::at_since;
 use rows::row::Row;
 use rows::row::read_row;
 use rows::row::write_row;
-use rows::target::read_target;
-use rows::word::get;
-use rows::word::put;
+use stations::answer::Answer;
+use stations::call::Call;
+use stations::target::read_target;
+use words::layout::AT_CHANGES;
+use words::layout::AT_HELD;
+use words::layout::AT_REMOVALS;
+use words::layout::AT_ROOT;
+use words::layout::AT_TAIL;
+use words::layout::NONE;
+use words::layout::at_cursor;
+use words::layout::at_missed;
+use words::layout::at_phase;
+use words::layout::at_since;
+use words::word::get;
+use words::word::more;
+use words::word::pick;
+use words::word::put;
 ghost use mathlib.Core.Path.{_≡_};
 ghost use Prim.Native.Nat.{_-_};
 ghost use mathlib.Core.Bool.{cond};
 ghost use lib.Dec.{eqb};
 ghost use Rattle.points.specs.Cut.{goesLeft};
-ghost use Rattle.moves.specs.Reply.{replied};
-ghost use Rattle.moves.specs.Unlink.{aroundAt, aroundSound, unlinkRows, unlinkTail, unlinkRoot, unlinkCounts, unlinkWords, unlinkOf};
-ghost use Rattle.moves.specs.Unlink.{landing, cursorAfter, phaseAfter, missedAfter, stationMoved, stays, stationsMoved};
+ghost use Rattle.calls.specs.Reply.{replied};
+ghost use Rattle.calls.specs.Unlink.{aroundAt, aroundSound, unlinkRows, unlinkTail, unlinkRoot, unlinkCounts, unlinkWords, unlinkOf};
+ghost use Rattle.calls.specs.Unlink.{landing, cursorAfter, phaseAfter, missedAfter, stationMoved, stays, stationsMoved};
 
 // The number of a refusal: the rows around the leaf, or the count of records, are not sound.
 const UNSOUND: u32 = 11;
-
-// The last row of the queue, the leaf, the cut over it, the cut's other child, and the row above that cut, each with its number.
-pub struct Around {
-    pub tail: u32,
-    pub last: Row,
-    pub at: u32,
-    pub leaf: Row,
-    pub over: u32,
-    pub cut: Row,
-    pub side: u32,
-    pub other: Row,
-    pub above: u32,
-    pub grand: Row,
-}
 
 // Reads the rows around the leaf at a row. A leaf that is the root has no cut over it, and a cut that is the root no row above it: their
 // numbers are `NONE`, and no row is read there.

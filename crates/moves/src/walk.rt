@@ -1,33 +1,34 @@
 // The work of one step of an add, a remove or a contains: six rows down, or the decision at the leaf or in the empty tree.
-use crate::answer::write_answered;
 use crate::insert::insert;
-use crate::link::holds_point;
-use crate::link::is_cut;
-use crate::link::is_leaf;
-use crate::link::leaf_curve;
-use crate::reply::pick;
 use crate::unlink::unlink;
+use calls::walk::Way;
+use links::answer::write_answered;
+use links::link::holds_point;
+use links::link::is_cut;
+use links::link::is_leaf;
+use links::link::leaf_curve;
 use points::cut::goes_left;
 use points::point::Point;
-use rows::answer::Answer;
-use rows::call::Call;
-use rows::common::taken;
 use rows::grades::mark_toward;
 use rows::grades::slot_of;
-use rows::layout::AT_CHANGES;
-use rows::layout::AT_LIMIT;
-use rows::layout::AT_PLACES;
-use rows::layout::AT_ROOT;
-use rows::layout::NONE;
-use rows::layout::at_cursor;
 use rows::row::Row;
 use rows::row::read_row;
-use rows::station::write_place;
-use rows::word::get;
+use stations::answer::Answer;
+use stations::call::Call;
+use stations::common::taken;
+use stations::station::write_place;
+use words::layout::AT_CHANGES;
+use words::layout::AT_LIMIT;
+use words::layout::AT_PLACES;
+use words::layout::AT_ROOT;
+use words::layout::NONE;
+use words::layout::at_cursor;
+use words::word::get;
+use words::word::pick;
 ghost use mathlib.Core.Path.{_≡_};
-ghost use Rattle.moves.specs.Reply.{replied};
+ghost use Rattle.calls.specs.Reply.{replied};
 ghost use Rattle.rows.specs.Row.{rowAt};
-ghost use Rattle.moves.specs.Walk.{downFrom, down, wayOf, markedWay, passedWords, walkTo, codeOf, codeAt, plainAnswer, conclude, standsAt, walkOf};
+ghost use Rattle.calls.specs.Walk.{downFrom, down, wayOf, markedWay, passedWords, walkTo, codeOf, codeAt, plainAnswer, conclude, standsAt, walkOf};
 
 // From a cut to the child on the point's side; a leaf stays; from any other row nowhere.
 fn down_from(point: Point, at: u32, row: Row) -> u32
@@ -64,17 +65,6 @@ fn further(words: &[u32], rows: u32, point: Point, from: u32, at: u32) -> u32
     } else {
         down(words, rows, point, at)
     }
-}
-
-// Six rows on the way down, and the row after them.
-pub struct Way {
-    pub at: u32,
-    pub one: u32,
-    pub two: u32,
-    pub three: u32,
-    pub four: u32,
-    pub five: u32,
-    pub to: u32,
 }
 
 // Six rows down; the first of them is read already.

@@ -1,4 +1,7 @@
 // One event at a time, on the index and on the plain table, with what each gives compared.
+use audits::audit::audit;
+use audits::report::read_report;
+use calls::take::Taking;
 use plain_list::book::AT_PLACES;
 use plain_list::book::Spot;
 use plain_list::book::as_due;
@@ -8,11 +11,8 @@ use plain_list::own;
 use plain_list::reference;
 use plain_list::stretch;
 use plain_list::verdict::judge;
-use rows::answer::Waiting;
-use rows::answer::read_waiting;
-use steps::audit::audit;
-use steps::report::read_report;
-use steps::take::Taking;
+use stations::answer::Waiting;
+use stations::answer::read_waiting;
 use trial::cells::copy;
 use trial::cells::count;
 use trial::cells::get;
@@ -25,7 +25,7 @@ pub fn most_steps(book: &[u64]) -> u64 {
 
 // A new history of the index and of the table.
 pub fn open(words: &mut [u32], book: &mut [u64], places: u32, limit: u32) {
-    let number = steps::open::open(words, places, limit);
+    let number = openings::open::open(words, places, limit);
     reference::begin(book, places, limit);
     stretch::begin(book);
     judge(book, number == 0);
@@ -33,7 +33,7 @@ pub fn open(words: &mut [u32], book: &mut [u64], places: u32, limit: u32) {
 
 // A submission.
 pub fn submit(words: &mut [u32], book: &mut [u64], s: u32, kind: u32, p: Spot, curve: u32) -> u32 {
-    let number = steps::submit::submit(words, s, kind, point_of(p), curve);
+    let number = submissions::submit::submit(words, s, kind, point_of(p), curve);
     let due = reference::submit(book, s, kind, p, curve);
     judge(book, number == due);
     own::begin(book, s, number == 0);
@@ -89,7 +89,7 @@ fn judge_taking(book: &mut [u64], s: u32, taking: Taking) -> u32 {
 
 // A taking.
 pub fn take(words: &mut [u32], book: &mut [u64], s: u32) -> u32 {
-    let number = judge_taking(book, s, steps::take::take(words, s));
+    let number = judge_taking(book, s, submissions::take::take(words, s));
     let due = reference::take(book, s);
     judge(book, number == due);
     number

@@ -1,13 +1,13 @@
 // Events on the index and on the plain table, from the rows of a text. A row has a letter for the event, station, kind, grade, weight, curve,
 // and the one curve that the answer may have, 0 where it may be any.
 use crate::drive;
+use audits::report::read_report;
 use plain_list::book::sheet;
 use plain_list::reference;
 use plain_list::text::Row;
 use plain_list::verdict::judge;
-use rows::answer::Waiting;
-use rows::answer::read_waiting;
-use steps::report::read_report;
+use stations::answer::Waiting;
+use stations::answer::read_waiting;
 
 // The submission of a row.
 pub fn submit(words: &mut [u32], book: &mut [u64], n: [u32; 9]) {

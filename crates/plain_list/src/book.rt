@@ -3,7 +3,7 @@
 use points::point::Point;
 use points::word::point_at;
 use points::word::word;
-use rows::answer::Answer;
+use stations::answer::Answer;
 use trial::cells::get;
 use trial::cells::less;
 use trial::cells::low;

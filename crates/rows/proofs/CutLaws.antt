@@ -14,9 +14,9 @@ use Rattle.points.specs.declared.cut.Cut.{Cut as PointCut}
 use Rattle.points.proofs.Tests.{and-r}
 use Rattle.rows.specs.declared.row.Row.{Row}
 use Rattle.rows.specs.declared.row.Row.the-variants.{Bad, Spare, Removed, Leaf, Cut}
-use Rattle.rows.specs.Layout.{atRow}
-use Rattle.rows.specs.Words.{get, part}
-use Rattle.rows.specs.Agree.{Agree}
+use Rattle.words.specs.Layout.{atRow}
+use Rattle.words.specs.Words.{get, part}
+use Rattle.words.specs.Agree.{Agree}
 use Rattle.rows.specs.Row.{inRows, checkedRow, asSpare, asRemoved, asLeaf, asCut, rowOf, rowAt}
 use Rattle.rows.specs.Tree.{childAt}
 

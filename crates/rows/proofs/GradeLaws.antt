@@ -19,15 +19,15 @@ use Rattle.points.specs.Choice.{sameGrade}
 use Rattle.points.proofs.Tests.{and-r}
 use Rattle.points.proofs.ChoiceLaws.{grade-word}
 use Rattle.rows.specs.declared.row.Row.the-variants.{Cut}
-use Rattle.rows.specs.Layout.{atRow, mostRows}
-use Rattle.rows.specs.Words.{get, put, splice}
-use Rattle.rows.specs.Agree.{Agree, Only, inRow, AgreeIn, OnlyIn}
+use Rattle.words.specs.Layout.{atRow, mostRows}
+use Rattle.words.specs.Words.{get, put, splice}
+use Rattle.words.specs.Agree.{Agree, Only, inRow, AgreeIn, OnlyIn}
 use Rattle.rows.specs.Row.{rowAt, putRow}
 use Rattle.rows.specs.Tree.{childAt}
 use Rattle.rows.specs.Grades.{slotOf, atSlot, hasBit, withBit, admits, markSide, markToward, noGrades, beginGrades}
-use Rattle.rows.proofs.Splice.{length-splice}
-use Rattle.rows.proofs.WordLaws.{put-outside, get-put-same, get-put-other}
-use Rattle.rows.proofs.AgreeLaws.{only-refl, only-trans, only-within, only-apart, put-only, put-agree, splice-only, splice-agree, cond-only, cond-agree, row-row, elsewhere}
+use Rattle.words.proofs.Splice.{length-splice}
+use Rattle.words.proofs.WordLaws.{put-outside, get-put-same, get-put-other}
+use Rattle.words.proofs.AgreeLaws.{only-refl, only-trans, only-within, only-apart, put-only, put-agree, splice-only, splice-agree, cond-only, cond-agree, row-row, elsewhere}
 use Rattle.rows.proofs.RowLaws.{rowAt-agree, putRow-cut-only}
 use Rattle.rows.proofs.CutLaws.{cut-fits, cut-child, cut-first}
 

@@ -2,11 +2,11 @@
 -- harmless; slices that agree on the words of a row have the same row there.
 -- Assumes nothing.
 use mathlib.Core.Path.{_≡_, refl, ap, _∙_}
-use mathlib.Core.Bool.{Bool, true, false, cond, _&&_, false≢true}
+use mathlib.Core.Bool.{Bool, true, false, cond, _&&_, false≢true, and-false}
 use mathlib.Core.List.{List}
 use Prim.Native.Nat.{ℕ, _+_, _≤_, _<_}
 use native.Mathlib.Omega.{arith}
-use borrow.Author.Tests.{leb-true, le-leb, lt-ltb, le-ltb}
+use borrow.Author.Tests.{leb-true, le-leb, lt-leb, lt-ltb, le-ltb}
 use lib.Dec.{leb, ltb, lit<}
 use lib.ListN.{length, getD, drop}
 use Rattle.points.specs.Point.{inRange}
@@ -17,14 +17,15 @@ use Rattle.points.specs.declared.cut.Cut.{Cut as PointCut}
 use Rattle.points.specs.declared.point.Point.{Point}
 use Rattle.rows.specs.declared.row.Row.{Row}
 use Rattle.rows.specs.declared.row.Row.the-variants.{Bad, Spare, Removed, Leaf, Cut}
-use Rattle.rows.specs.Layout.{atRow, mostRows, records}
-use Rattle.rows.specs.Words.{get, put, part, splice}
-use Rattle.rows.specs.Agree.{Off, Agree, Only, inRow, AgreeIn, OnlyIn}
-use Rattle.rows.specs.Range.{linkIn, curveIn}
-use Rattle.rows.specs.Row.{pointFrom, isRow, inRows, checkedRow, rowOf, rowAt, encodeRow, filledRow, putRow, Room}
+use Rattle.words.specs.Layout.{atRow, mostRows, records, Room}
+use Rattle.words.specs.Words.{get, put, part, splice}
+use Rattle.words.specs.Agree.{Off, Agree, Only, inRow, AgreeIn, OnlyIn}
+use Rattle.words.specs.Range.{linkIn, curveIn}
+use Rattle.rows.specs.Row.{isRow, inRows, checkedRow, rowOf, rowAt, encodeRow, filledRow, putRow}
+use Rattle.words.specs.Part.{pointFrom}
 use lib.Seq.{getD-take, getD-drop}
-use Rattle.rows.proofs.Splice.{length-splice, splice-inside}
-use Rattle.rows.proofs.AgreeLaws.{part-agree, only-within, only-apart, put-only, splice-only, splice-agree, cond-only, cond-agree, row-row, elsewhere}
+use Rattle.words.proofs.Splice.{length-splice, splice-inside}
+use Rattle.words.proofs.AgreeLaws.{part-agree, only-within, only-apart, put-only, splice-only, splice-agree, cond-only, cond-agree, row-row, elsewhere}
 
 -- what it means that a row is in range, by kind
 pub in-rows-bad : (rows : ℕ) → inRows rows Bad ≡ false
@@ -197,3 +198,12 @@ unfolding putRow encodeRow
 putRow-cut-only w r parent cut left right =
     cond-only ((true && ltb r mostRows) && leb (atRow r + 16) (length w))
     (λ e. splice-only w (encodeRow (Cut parent cut left right)) (atRow r) 8 (omega (arith, leb-true (atRow r + 16) (length w) (and-r (true && ltb r mostRows) _ e))) refl)
+
+-- ---- a slice that is too short
+pub rowAt-short : (w : List ℕ) (rows r : ℕ) → length w < atRow r + 16 → rowAt w rows r ≡ Bad
+unfolding rowAt
+rowAt-short w rows r h = rw (lt-leb (atRow r + 16) (length w) h, and-false (ltb r rows))
+
+pub putRow-short : (w : List ℕ) (r : ℕ) (row : Row) → length w < atRow r + 16 → putRow w r row ≡ w
+unfolding putRow
+putRow-short w r row h = rw (lt-leb (atRow r + 16) (length w) h, and-false (isRow row && ltb r mostRows))

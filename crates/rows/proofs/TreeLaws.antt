@@ -13,7 +13,7 @@ use Rattle.points.specs.Word.{cutInRange}
 use Rattle.points.proofs.Tests.{and-l, and-r}
 use Rattle.rows.specs.declared.row.Row.{Row}
 use Rattle.rows.specs.declared.row.Row.the-variants.{Bad, Leaf, Cut}
-use Rattle.rows.specs.Range.{linkIn}
+use Rattle.words.specs.Range.{linkIn}
 use Rattle.rows.specs.Row.{inRows, checkedRow, asSpare, asRemoved, asLeaf, asCut, rowOf}
 use Rattle.rows.specs.Tree.{treeRow}
 

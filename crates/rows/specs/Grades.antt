@@ -8,8 +8,8 @@ use lib.Dec.{eqb, leb, ltb}
 use lib.ListN.{length}
 use Rattle.points.specs.declared.point.Point.{Point}
 use Rattle.points.specs.Word.{wordOf}
-use Rattle.rows.specs.Layout.{atRow, mostRows}
-use Rattle.rows.specs.Words.{get, put, splice}
+use Rattle.words.specs.Layout.{atRow, mostRows}
+use Rattle.words.specs.Words.{get, put, splice}
 use Rattle.rows.specs.Tree.{childAt}
 
 -- the slot of a point: its grade less one, modulo 127

@@ -10,17 +10,10 @@ use Rattle.points.specs.Point.{inRange}
 use Rattle.points.specs.Word.{pointAt, wordOf, cutAt, cutInRange, axisWordOf, sumWordOf}
 use Rattle.rows.specs.declared.row.Row.{Row}
 use Rattle.rows.specs.declared.row.Row.the-variants.{Bad, Spare, Removed, Leaf, Cut}
-use Rattle.rows.specs.Layout.{atRow, mostRows}
-use Rattle.rows.specs.Words.{part, splice}
-use Rattle.rows.specs.Range.{linkIn, curveIn}
-
--- the point of five words from word k on
-unfoldable pub pointFrom : List ℕ → ℕ → Point
-pointFrom w k = pointAt (getD w k 0) (getD w (k + 1) 0) (getD w (k + 2) 0) (getD w (k + 3) 0) (getD w (k + 4) 0)
-
--- the five words of a point, and what follows them
-abbrev pub pointWords : Point → List ℕ → List ℕ
-pointWords p rest = wordOf p 1 ∷ wordOf p 2 ∷ wordOf p 3 ∷ wordOf p 4 ∷ wordOf p 5 ∷ rest
+use Rattle.words.specs.Layout.{atRow, mostRows}
+use Rattle.words.specs.Words.{part, splice}
+use Rattle.words.specs.Part.{pointFrom, pointWords}
+use Rattle.words.specs.Range.{linkIn, curveIn}
 
 -- a row that is one
 abbrev pub isRow : Row → Bool
@@ -100,8 +93,3 @@ filledRow words at row = splice words (encodeRow row) at (length (encodeRow row)
 -- the words with the row r written; as they were where there is no such row, where the slice is too short, and for Bad
 unfoldable pub putRow : List ℕ → ℕ → Row → List ℕ
 putRow words r row = cond ((isRow row && ltb r mostRows) && leb (atRow r + 16) (length words)) (filledRow words (atRow r) row) words
-
--- the slice holds the two records and so many rows, as an opened one does
-pub record Room (words : List ℕ) (rows : ℕ) : Type 0 where
-  pub most : rows ≤ mostRows
-  pub fits : atRow rows ≤ length words

@@ -4,8 +4,8 @@ use mathlib.Core.Bool.{Bool, cond}
 use mathlib.Core.List.{List}
 use Rattle.rows.specs.declared.row.Row.{Row}
 use Rattle.rows.specs.declared.row.Row.the-variants.{Bad, Spare, Removed, Leaf, Cut}
-use Rattle.rows.specs.Layout.{atRow}
-use Rattle.rows.specs.Words.{get}
+use Rattle.words.specs.Layout.{atRow}
+use Rattle.words.specs.Words.{get}
 
 -- a leaf or a cut as it is, and Bad for any other row
 abbrev pub treeRow : Row → Row

@@ -1,13 +1,13 @@
 // The grades that may lie on each side of a cut: 127 slots a side, the bits of four words.
-use crate::part::write_part;
 use crate::row::FIRST_ROW;
 use crate::row::MOST_ROWS;
 use crate::row::ROW;
 use crate::tree::child_at;
-use crate::word::get;
-use crate::word::put;
 use points::point::Point;
 use points::word::word;
+use words::part::write_part;
+use words::word::get;
+use words::word::put;
 ghost use mathlib.Core.Path.{_≡_};
 ghost use Rattle.rows.specs.Grades.{slotOf, atSlot, hasBit, withBit, admits, markSide, markToward, beginGrades};
 

@@ -1,8 +1,4 @@
 // Rows: sixteen words each, read and written as values.
-use crate::part::point_from;
-use crate::part::write_part;
-use crate::word::curve_in;
-use crate::word::link_in;
 use points::cut::Cut;
 use points::point::Point;
 use points::point::in_range;
@@ -11,6 +7,10 @@ use points::word::cut_at;
 use points::word::cut_in_range;
 use points::word::sum_word;
 use points::word::word;
+use words::part::point_from;
+use words::part::write_part;
+use words::word::curve_in;
+use words::word::link_in;
 ghost use mathlib.Core.Path.{_≡_};
 ghost use Prim.Native.Nat.{_+_, _≤_};
 ghost use lib.ListN.{length};

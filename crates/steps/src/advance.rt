@@ -3,12 +3,12 @@
 use crate::step::first_failed;
 use crate::step::work;
 use crate::withdraw::take_back;
-use moves::reply::rows_in;
-use rows::call::Call;
-use rows::call::read_call;
+use stations::call::Call;
+use stations::call::read_call;
+use stations::common::rows_in;
 ghost use mathlib.Core.Path.{_≡_};
-ghost use Rattle.moves.specs.Reply.{replied};
-ghost use Rattle.steps.specs.Advance.{proceedOf, advanceOf};
+ghost use Rattle.calls.specs.Reply.{replied};
+ghost use Rattle.calls.specs.Advance.{proceedOf, advanceOf};
 
 // The call is taken back, or works.
 fn proceed(words: &mut [u32], rows: u32, s: u32, call: Call, back: bool) -> u32

@@ -1,14 +1,14 @@
 // A run: steps of one station, until it is answered.
 use crate::step::step;
-use moves::reply::is_opened;
-use rows::answer::Waiting;
-use rows::answer::read_waiting;
-use rows::common::opened;
-use rows::layout::AT_PLACES;
-use rows::word::get;
+use stations::answer::Waiting;
+use stations::answer::read_waiting;
+use stations::common::is_opened;
+use stations::common::opened;
+use words::layout::AT_PLACES;
+use words::word::get;
 ghost use mathlib.Core.Path.{_≡_};
-ghost use Rattle.moves.specs.Reply.{replied};
-ghost use Rattle.steps.specs.Run.{isGiven, goesOn, mostSteps, runOf};
+ghost use Rattle.calls.specs.Reply.{replied};
+ghost use Rattle.calls.specs.Run.{isGiven, goesOn, mostSteps, runOf};
 
 // Whether an answer waits.
 fn is_given(waiting: Waiting) -> bool

@@ -1,19 +1,19 @@
 // A step: its questions, and the work of its call.
 use crate::advance::advance;
-use moves::reply::is_opened;
-use moves::reply::pick;
-use moves::search::search;
 use moves::walk::walk;
-use rows::call::Call;
-use rows::call::call_sound;
-use rows::common::common_sound;
-use rows::common::opened;
-use rows::layout::AT_CHANGES;
-use rows::station::read_state;
-use rows::word::get;
+use searches::search::search;
+use stations::call::Call;
+use stations::call::call_sound;
+use stations::common::common_sound;
+use stations::common::is_opened;
+use stations::common::opened;
+use stations::station::read_state;
+use words::layout::AT_CHANGES;
+use words::word::get;
+use words::word::pick;
 ghost use mathlib.Core.Path.{_≡_};
-ghost use Rattle.moves.specs.Reply.{replied};
-ghost use Rattle.steps.specs.Step.{fieldsSound, firstFailed, workOf, stepOf};
+ghost use Rattle.calls.specs.Reply.{replied};
+ghost use Rattle.calls.specs.Step.{fieldsSound, firstFailed, workOf, stepOf};
 
 // Whether the fields of the common record and of the call are in range.
 fn records_sound(words: &[u32], rows: u32, call: Call) -> bool

@@ -1,11 +1,11 @@
 // A withdrawal: the questions of a step, and the call is answered 11. It reads no row.
 use crate::advance::advance;
-use moves::answer::write_answered;
-use rows::answer::Answer;
-use rows::call::Call;
+use links::answer::write_answered;
+use stations::answer::Answer;
+use stations::call::Call;
 ghost use mathlib.Core.Path.{_≡_};
-ghost use Rattle.moves.specs.Reply.{replied};
-ghost use Rattle.steps.specs.Withdraw.{withdrawnAnswer, withdrawnReply, withdrawOf};
+ghost use Rattle.calls.specs.Reply.{replied};
+ghost use Rattle.calls.specs.Withdraw.{withdrawnAnswer, withdrawnReply, withdrawOf};
 
 // The answer of a withdrawn call.
 fn withdrawn_answer(call: Call) -> Answer

@@ -3,7 +3,7 @@ use borrow.Author.Needs.{needs}
 use Rattle.c_calls.proofs.index_audit_number.Statement.{statement}
 use Rattle.c_calls.proofs.index_audit_number.Tie as tie
 use mathlib.Core.Path.{ap}
-use Rattle.steps.specs.declared.audit.Verdict.{Verdict}
+use Rattle.calls.specs.declared.audit.Verdict.{Verdict}
 
 audit-requires : tie.Need-audit-requires
 audit-requires c κs = search needs

@@ -3,7 +3,7 @@ use borrow.Author.Needs.{needs}
 use Rattle.c_calls.proofs.index_report.Statement.{statement}
 use Rattle.c_calls.proofs.index_report.Tie as tie
 use mathlib.Core.Path.{ap}
-use Rattle.steps.specs.declared.report.Report.{Report}
+use Rattle.calls.specs.declared.report.Report.{Report}
 
 read-report-requires : tie.Need-read-report-requires
 read-report-requires c κs = search needs

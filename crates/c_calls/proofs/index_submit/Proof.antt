@@ -6,7 +6,7 @@ use mathlib.Core.Path.{ap, _∙_}
 use denote.Ref.{now}
 use Rattle.points.specs.declared.point.Point.{Point}
 use Rattle.points.proofs.MachineLaws.{of-fits, back32}
-use Rattle.steps.specs.Submit.{submitOf}
+use Rattle.calls.specs.Submit.{submitOf}
 
 submit-requires : tie.Need-submit-requires
 submit-requires c κs = search needs

@@ -6,9 +6,9 @@ use mathlib.Core.Path.{_≡_, refl, sym, _∙_}
 use mathlib.Core.Bool.{_&&_}
 use denote.Ref.{now}
 use native.Mathlib.Omega.{arith}
-use Rattle.audits.specs.Climb.{climb}
-use Rattle.audits.proofs.Going.{going}
-use Rattle.audits.proofs.ClimbLaws.{climb-on, climb-end}
+use Rattle.calls.specs.Climb.{climb}
+use Rattle.calls.proofs.Going.{going}
+use Rattle.calls.proofs.ClimbLaws.{climb-on, climb-end}
 
 abbrev Inv-loop : tie.InvT-loop
 Inv-loop words rows root point r parent c₀ left₀ c left =

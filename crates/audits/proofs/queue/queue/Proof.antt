@@ -4,7 +4,7 @@ use Rattle.audits.proofs.queue.queue.Statement.{statement}
 use Rattle.audits.proofs.queue.queue.Tie as tie
 use mathlib.Core.Path.{_∙_}
 use denote.Ref.{now}
-use Rattle.audits.specs.Queue.{walkQueue, queueIn}
+use Rattle.calls.specs.Queue.{walkQueue, queueIn}
 
 rows-in-requires : tie.Need-rows-in-requires
 rows-in-requires c κs = search needs

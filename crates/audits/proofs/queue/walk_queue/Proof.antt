@@ -5,9 +5,9 @@ use borrow.Author.Needs.{needs}
 use mathlib.Core.Path.{_≡_, refl, sym, _∙_}
 use denote.Ref.{now}
 use native.Mathlib.Omega.{arith}
-use Rattle.audits.specs.Queue.{walkQueue}
-use Rattle.audits.proofs.Going.{going, ended}
-use Rattle.audits.proofs.QueueLaws.{walk-end, walk-on}
+use Rattle.calls.specs.Queue.{walkQueue}
+use Rattle.calls.proofs.Going.{going, ended}
+use Rattle.calls.proofs.QueueLaws.{walk-end, walk-on}
 
 abbrev Inv-loop : tie.InvT-loop
 Inv-loop words rows released n line₀ left₀ line left = walkQueue words rows released left₀ line₀ ≡ walkQueue words rows released left line

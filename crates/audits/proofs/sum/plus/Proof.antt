@@ -2,7 +2,7 @@
 use borrow.Author.Needs.{needs}
 use Rattle.audits.proofs.sum.plus.Statement.{statement}
 use Rattle.audits.proofs.sum.plus.Tie as tie
-use Rattle.audits.specs.Sum.{plus}
+use Rattle.calls.specs.Sum.{plus}
 use native.Mathlib.Omega.{arith}
 use borrow.Author.Tests.{le-leb, lt-leb}
 use Prim.Native.Nat.{_+_, _≤_, _<_}

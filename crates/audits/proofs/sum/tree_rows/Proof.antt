@@ -3,7 +3,7 @@ use borrow.Author.Needs.{needs}
 use Rattle.audits.proofs.sum.tree_rows.Statement.{statement}
 use Rattle.audits.proofs.sum.tree_rows.Tie as tie
 use mathlib.Core.Path.{refl}
-use Rattle.audits.specs.Sum.{plus}
+use Rattle.calls.specs.Sum.{plus}
 
 sub-plus : tie.Need-sub-plus
 sub-plus c = search needs

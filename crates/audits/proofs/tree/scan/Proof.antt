@@ -6,8 +6,8 @@ use Prim.Native.Nat.{ℕ, _-_, _≤_}
 use mathlib.Core.Path.{_≡_, ap, _∙_}
 use denote.Ref.{now}
 use native.Mathlib.Omega.{arith}
-use Rattle.audits.specs.Tree.{scan}
-use Rattle.audits.proofs.TreeLaws.{scan-first, scan-on}
+use Rattle.calls.specs.Tree.{scan}
+use Rattle.calls.proofs.TreeLaws.{scan-first, scan-on}
 
 abbrev Inv-loop : tie.InvT-loop
 Inv-loop words rows root c₀ r₀ c r = (c ≡ scan words rows root r) × (r ≤ rows)

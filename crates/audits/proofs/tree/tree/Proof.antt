@@ -2,7 +2,7 @@
 use borrow.Author.Needs.{needs}
 use Rattle.audits.proofs.tree.tree.Statement.{statement}
 use Rattle.audits.proofs.tree.tree.Tie as tie
-use Rattle.audits.specs.Tree.{treeIn}
+use Rattle.calls.specs.Tree.{treeIn}
 
 get-requires : tie.Need-get-requires
 get-requires c κs = search needs

@@ -3,16 +3,16 @@ use borrow.Author.Needs.{needs}
 use Rattle.frames.proofs.apply.apply_frame.Statement.{statement}
 use Rattle.frames.proofs.apply.apply_frame.Tie as tie
 use mathlib.Core.Path.{_≡_, ap}
-use Rattle.moves.specs.Reply.{Reply}
-use Rattle.steps.specs.Open.{openOf}
+use Rattle.calls.specs.Reply.{Reply}
+use Rattle.calls.specs.Open.{openOf}
 use Rattle.frames.specs.declared.apply.Applied.the-variants.{Number}
 use Rattle.frames.specs.Apply.{applyOf, applyWords}
 use mathlib.Core.Path.{_∙_}
 use Prim.Native.Nat.{ℕ}
 use denote.Ref.{now}
-use Rattle.steps.specs.Step.{stepOf}
-use Rattle.steps.specs.Run.{runOf}
-use Rattle.steps.specs.Withdraw.{withdrawOf}
+use Rattle.calls.specs.Step.{stepOf}
+use Rattle.calls.specs.Run.{runOf}
+use Rattle.calls.specs.Withdraw.{withdrawOf}
 
 enum-known-frame : tie.Need-enum-known-frame
 enum-known-frame c = search needs

@@ -2,7 +2,7 @@
 use borrow.Author.Needs.{needs}
 use Rattle.moves.proofs.insert.change.Statement.{statement}
 use Rattle.moves.proofs.insert.change.Tie as tie
-use Rattle.moves.specs.Insert.{insertWords}
+use Rattle.calls.specs.Insert.{insertWords}
 
 get-requires : tie.Need-get-requires
 get-requires c κs = search needs

@@ -2,7 +2,7 @@
 use borrow.Author.Needs.{needs}
 use Rattle.moves.proofs.insert.count.Statement.{statement}
 use Rattle.moves.proofs.insert.count.Tie as tie
-use Rattle.moves.specs.Insert.{insertCounts}
+use Rattle.calls.specs.Insert.{insertCounts}
 
 get-requires : tie.Need-get-requires
 get-requires c κs = search needs

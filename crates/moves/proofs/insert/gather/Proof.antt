@@ -2,7 +2,7 @@
 use borrow.Author.Needs.{needs}
 use Rattle.moves.proofs.insert.gather.Statement.{statement}
 use Rattle.moves.proofs.insert.gather.Tie as tie
-use Rattle.moves.specs.Insert.{roomAt}
+use Rattle.calls.specs.Insert.{roomAt}
 
 get-requires : tie.Need-get-requires
 get-requires c κs = search needs

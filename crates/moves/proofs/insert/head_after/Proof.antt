@@ -2,7 +2,7 @@
 use borrow.Author.Needs.{needs}
 use Rattle.moves.proofs.insert.head_after.Statement.{statement}
 use Rattle.moves.proofs.insert.head_after.Tie as tie
-use Rattle.moves.specs.Insert.{insertHead}
+use Rattle.calls.specs.Insert.{insertHead}
 
 next-of-requires : tie.Need-next-of-requires
 next-of-requires c κs = search needs

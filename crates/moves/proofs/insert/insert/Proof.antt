@@ -6,8 +6,8 @@ use mathlib.Core.Path.{_≡_, ap, _∙_}
 use mathlib.Core.List.{List}
 use Prim.Native.Nat.{ℕ}
 use denote.Ref.{now}
-use Rattle.moves.specs.Reply.{replied}
-use Rattle.moves.specs.Insert.{roomAt, roomSound, insertOf}
+use Rattle.calls.specs.Reply.{replied}
+use Rattle.calls.specs.Insert.{roomAt, roomSound, insertOf}
 
 abbrev start : tie.After-sound → tie.Start
 start c = c .before .before .before .before .before

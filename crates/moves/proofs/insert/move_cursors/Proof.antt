@@ -8,7 +8,7 @@ use Prim.Native.Nat.{ℕ, _≤_, _-_}
 use native.Mathlib.Omega.{arith}
 use native.Mathlib.Numerals.{add-one}
 use lib.ListN.{length}
-use Rattle.moves.specs.Insert.{cursorsMoved}
+use Rattle.calls.specs.Insert.{cursorsMoved}
 
 abbrev Inv-loop : tie.InvT-loop
 Inv-loop words₀ gone to s₀ words s = (s ≤ 8) × (length words ≡ length words₀) × (words ≡ cursorsMoved gone to s words₀)

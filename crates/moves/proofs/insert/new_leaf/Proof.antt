@@ -1,7 +1,7 @@
 -- `moves::insert::new_leaf` meets its contract. Assumes nothing.
 use Rattle.moves.proofs.insert.new_leaf.Statement.{statement}
 use Rattle.moves.proofs.insert.new_leaf.Tie as tie
-use Rattle.moves.specs.Insert.{newLeaf}
+use Rattle.calls.specs.Insert.{newLeaf}
 
 returns : tie.Need-returns
 unfolding newLeaf

@@ -2,7 +2,7 @@
 use borrow.Author.Needs.{needs}
 use Rattle.moves.proofs.insert.root_after.Statement.{statement}
 use Rattle.moves.proofs.insert.root_after.Tie as tie
-use Rattle.moves.specs.Insert.{insertRoot}
+use Rattle.calls.specs.Insert.{insertRoot}
 
 pick-requires : tie.Need-pick-requires
 pick-requires c κs = search needs

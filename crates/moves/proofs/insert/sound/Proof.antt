@@ -2,7 +2,7 @@
 use borrow.Author.Needs.{needs}
 use Rattle.moves.proofs.insert.sound.Statement.{statement}
 use Rattle.moves.proofs.insert.sound.Tie as tie
-use Rattle.moves.specs.Insert.{roomSound}
+use Rattle.calls.specs.Insert.{roomSound}
 
 next-of-requires : tie.Need-next-of-requires
 next-of-requires c κs = search needs

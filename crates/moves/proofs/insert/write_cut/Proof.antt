@@ -2,7 +2,7 @@
 use borrow.Author.Needs.{needs}
 use Rattle.moves.proofs.insert.write_cut.Statement.{statement}
 use Rattle.moves.proofs.insert.write_cut.Tie as tie
-use Rattle.moves.specs.Insert.{newSide, newCut, putCut}
+use Rattle.calls.specs.Insert.{newSide, newCut, putCut}
 
 leaf-point-requires : tie.Need-leaf-point-requires
 leaf-point-requires c κs = search needs

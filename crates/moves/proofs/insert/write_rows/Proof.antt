@@ -2,7 +2,7 @@
 use borrow.Author.Needs.{needs}
 use Rattle.moves.proofs.insert.write_rows.Statement.{statement}
 use Rattle.moves.proofs.insert.write_rows.Tie as tie
-use Rattle.moves.specs.Insert.{insertRows}
+use Rattle.calls.specs.Insert.{insertRows}
 
 new-leaf-requires : tie.Need-new-leaf-requires
 new-leaf-requires c κs = search needs

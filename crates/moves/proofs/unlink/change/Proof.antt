@@ -2,7 +2,7 @@
 use borrow.Author.Needs.{needs}
 use Rattle.moves.proofs.unlink.change.Statement.{statement}
 use Rattle.moves.proofs.unlink.change.Tie as tie
-use Rattle.moves.specs.Unlink.{unlinkWords}
+use Rattle.calls.specs.Unlink.{unlinkWords}
 
 get-requires : tie.Need-get-requires
 get-requires c κs = search needs

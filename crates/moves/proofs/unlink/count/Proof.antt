@@ -2,7 +2,7 @@
 use borrow.Author.Needs.{needs}
 use Rattle.moves.proofs.unlink.count.Statement.{statement}
 use Rattle.moves.proofs.unlink.count.Tie as tie
-use Rattle.moves.specs.Unlink.{unlinkCounts}
+use Rattle.calls.specs.Unlink.{unlinkCounts}
 
 get-requires : tie.Need-get-requires
 get-requires c κs = search needs

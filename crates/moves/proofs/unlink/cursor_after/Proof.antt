@@ -2,7 +2,7 @@
 use borrow.Author.Needs.{needs}
 use Rattle.moves.proofs.unlink.cursor_after.Statement.{statement}
 use Rattle.moves.proofs.unlink.cursor_after.Tie as tie
-use Rattle.moves.specs.Unlink.{cursorAfter}
+use Rattle.calls.specs.Unlink.{cursorAfter}
 
 at-cursor-requires : tie.Need-at-cursor-requires
 at-cursor-requires c κs = search needs

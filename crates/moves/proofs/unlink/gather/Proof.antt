@@ -2,7 +2,7 @@
 use borrow.Author.Needs.{needs}
 use Rattle.moves.proofs.unlink.gather.Statement.{statement}
 use Rattle.moves.proofs.unlink.gather.Tie as tie
-use Rattle.moves.specs.Unlink.{aroundAt}
+use Rattle.calls.specs.Unlink.{aroundAt}
 
 get-requires : tie.Need-get-requires
 get-requires c κs = search needs

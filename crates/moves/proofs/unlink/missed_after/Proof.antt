@@ -2,7 +2,7 @@
 use borrow.Author.Needs.{needs}
 use Rattle.moves.proofs.unlink.missed_after.Statement.{statement}
 use Rattle.moves.proofs.unlink.missed_after.Tie as tie
-use Rattle.moves.specs.Unlink.{missedAfter}
+use Rattle.calls.specs.Unlink.{missedAfter}
 
 at-since-requires : tie.Need-at-since-requires
 at-since-requires c κs = search needs

@@ -4,7 +4,7 @@ use Rattle.moves.proofs.unlink.move_station.Statement.{statement}
 use Rattle.moves.proofs.unlink.move_station.Tie as tie
 use mathlib.Core.Path.{sym, _∙_}
 use borrow.Author.Tests.{not-false}
-use Rattle.moves.proofs.UnlinkLaws.{station-stays}
+use Rattle.calls.proofs.UnlinkLaws.{station-stays}
 
 stays-requires : tie.Need-stays-requires
 stays-requires c κs = search needs

@@ -7,7 +7,7 @@ use Prim.Native.Nat.{_≤_, _-_}
 use native.Mathlib.Omega.{arith}
 use native.Mathlib.Numerals.{add-one}
 use lib.ListN.{length}
-use Rattle.moves.specs.Unlink.{stationsMoved}
+use Rattle.calls.specs.Unlink.{stationsMoved}
 
 -- the stations below s have moved
 abbrev Inv-loop : tie.InvT-loop

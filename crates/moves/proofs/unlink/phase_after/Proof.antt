@@ -5,9 +5,9 @@ use Rattle.moves.proofs.unlink.phase_after.Tie as tie
 use mathlib.Core.Path.{_≡_, sym, _∙_}
 use borrow.Author.Tests.{eq-eqb, ne-eqb}
 use denote.Ref.{now}
-use Rattle.rows.specs.Layout.{atCursor}
-use Rattle.rows.specs.Words.{get}
-use Rattle.moves.specs.Unlink.{phaseAfter}
+use Rattle.words.specs.Layout.{atCursor}
+use Rattle.words.specs.Words.{get}
+use Rattle.calls.specs.Unlink.{phaseAfter}
 
 abbrev start : tie.After-get → tie.Start
 start c = c .before .before .before

@@ -2,7 +2,7 @@
 use borrow.Author.Needs.{needs}
 use Rattle.moves.proofs.unlink.root_after.Statement.{statement}
 use Rattle.moves.proofs.unlink.root_after.Tie as tie
-use Rattle.moves.specs.Unlink.{unlinkRoot}
+use Rattle.calls.specs.Unlink.{unlinkRoot}
 
 pick-requires : tie.Need-pick-requires
 pick-requires c κs = search needs

@@ -2,7 +2,7 @@
 use borrow.Author.Needs.{needs}
 use Rattle.moves.proofs.unlink.sound.Statement.{statement}
 use Rattle.moves.proofs.unlink.sound.Tie as tie
-use Rattle.moves.specs.Unlink.{aroundSound}
+use Rattle.calls.specs.Unlink.{aroundSound}
 
 is-free-requires : tie.Need-is-free-requires
 is-free-requires c κs = search needs

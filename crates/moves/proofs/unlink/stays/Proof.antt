@@ -2,7 +2,7 @@
 use borrow.Author.Needs.{needs}
 use Rattle.moves.proofs.unlink.stays.Statement.{statement}
 use Rattle.moves.proofs.unlink.stays.Tie as tie
-use Rattle.moves.specs.Unlink.{stays}
+use Rattle.calls.specs.Unlink.{stays}
 
 at-cursor-requires : tie.Need-at-cursor-requires
 at-cursor-requires c κs = search needs

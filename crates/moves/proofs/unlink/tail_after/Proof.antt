@@ -2,7 +2,7 @@
 use borrow.Author.Needs.{needs}
 use Rattle.moves.proofs.unlink.tail_after.Statement.{statement}
 use Rattle.moves.proofs.unlink.tail_after.Tie as tie
-use Rattle.moves.specs.Unlink.{unlinkTail}
+use Rattle.calls.specs.Unlink.{unlinkTail}
 
 pick-requires : tie.Need-pick-requires
 pick-requires c κs = search needs

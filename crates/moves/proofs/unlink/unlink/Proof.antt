@@ -8,10 +8,10 @@ use mathlib.Core.List.{List}
 use Prim.Native.Nat.{ℕ}
 use lib.Dec.{leb}
 use denote.Ref.{now}
-use Rattle.rows.specs.Layout.{atHeld}
-use Rattle.rows.specs.Words.{get}
-use Rattle.moves.specs.Reply.{done}
-use Rattle.moves.specs.Unlink.{aroundAt, aroundSound, unlinkOf}
+use Rattle.words.specs.Layout.{atHeld}
+use Rattle.words.specs.Words.{get}
+use Rattle.calls.specs.Reply.{done}
+use Rattle.calls.specs.Unlink.{aroundAt, aroundSound, unlinkOf}
 
 abbrev start : tie.After-get → tie.Start
 start c = c .before .before .before .before .before .before

@@ -2,7 +2,7 @@
 use borrow.Author.Needs.{needs}
 use Rattle.moves.proofs.unlink.write_rows.Statement.{statement}
 use Rattle.moves.proofs.unlink.write_rows.Tie as tie
-use Rattle.moves.specs.Unlink.{unlinkRows}
+use Rattle.calls.specs.Unlink.{unlinkRows}
 
 with-next-requires : tie.Need-with-next-requires
 with-next-requires c κs = search needs

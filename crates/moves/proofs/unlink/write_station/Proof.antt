@@ -2,7 +2,7 @@
 use borrow.Author.Needs.{needs}
 use Rattle.moves.proofs.unlink.write_station.Statement.{statement}
 use Rattle.moves.proofs.unlink.write_station.Tie as tie
-use Rattle.moves.specs.Unlink.{stationMoved}
+use Rattle.calls.specs.Unlink.{stationMoved}
 
 cursor-after-requires : tie.Need-cursor-after-requires
 cursor-after-requires c κs = search needs

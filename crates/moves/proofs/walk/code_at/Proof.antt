@@ -2,7 +2,7 @@
 use borrow.Author.Needs.{needs}
 use Rattle.moves.proofs.walk.code_at.Statement.{statement}
 use Rattle.moves.proofs.walk.code_at.Tie as tie
-use Rattle.moves.specs.Walk.{codeAt}
+use Rattle.calls.specs.Walk.{codeAt}
 
 holds-point-requires : tie.Need-holds-point-requires
 holds-point-requires c κs = search needs

@@ -2,7 +2,7 @@
 use borrow.Author.Needs.{needs}
 use Rattle.moves.proofs.walk.code_of.Statement.{statement}
 use Rattle.moves.proofs.walk.code_of.Tie as tie
-use Rattle.moves.specs.Walk.{codeOf}
+use Rattle.calls.specs.Walk.{codeOf}
 
 pick-requires : tie.Need-pick-requires
 pick-requires c κs = search needs

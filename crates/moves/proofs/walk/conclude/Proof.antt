@@ -4,9 +4,9 @@ use Rattle.moves.proofs.walk.conclude.Statement.{statement}
 use Rattle.moves.proofs.walk.conclude.Tie as tie
 use mathlib.Core.Path.{sym, ap, _∙_}
 use borrow.Author.Tests.{eq-eqb, ne-eqb}
-use Rattle.moves.specs.Answer.{answeredWords}
-use Rattle.moves.specs.Reply.{done}
-use Rattle.moves.specs.Walk.{conclude}
+use Rattle.calls.specs.Answer.{answeredWords}
+use Rattle.calls.specs.Reply.{done}
+use Rattle.calls.specs.Walk.{conclude}
 
 code-at-requires : tie.Need-code-at-requires
 code-at-requires c κs = search needs

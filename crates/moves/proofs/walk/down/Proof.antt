@@ -2,7 +2,7 @@
 use borrow.Author.Needs.{needs}
 use Rattle.moves.proofs.walk.down.Statement.{statement}
 use Rattle.moves.proofs.walk.down.Tie as tie
-use Rattle.moves.specs.Walk.{down}
+use Rattle.calls.specs.Walk.{down}
 
 read-row-requires : tie.Need-read-row-requires
 read-row-requires c κs = search needs

@@ -4,7 +4,7 @@ use Rattle.moves.proofs.walk.mark_way.Statement.{statement}
 use Rattle.moves.proofs.walk.mark_way.Tie as tie
 use mathlib.Core.Path.{ap, _∙_}
 use Rattle.rows.specs.Grades.{markToward}
-use Rattle.moves.specs.Walk.{markedWay}
+use Rattle.calls.specs.Walk.{markedWay}
 
 mark-toward-requires : tie.Need-mark-toward-requires
 mark-toward-requires c κs = search needs

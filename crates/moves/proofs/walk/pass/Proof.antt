@@ -3,7 +3,7 @@ use borrow.Author.Needs.{needs}
 use Rattle.moves.proofs.walk.pass.Statement.{statement}
 use Rattle.moves.proofs.walk.pass.Tie as tie
 use borrow.Author.Tests.{eq-eqb, ne-eqb}
-use Rattle.moves.specs.Walk.{passedWords}
+use Rattle.calls.specs.Walk.{passedWords}
 
 slot-of-requires : tie.Need-slot-of-requires
 slot-of-requires c κs = search needs

@@ -2,7 +2,7 @@
 use borrow.Author.Needs.{needs}
 use Rattle.moves.proofs.walk.plain_answer.Statement.{statement}
 use Rattle.moves.proofs.walk.plain_answer.Tie as tie
-use Rattle.moves.specs.Walk.{plainAnswer}
+use Rattle.calls.specs.Walk.{plainAnswer}
 
 leaf-curve-requires : tie.Need-leaf-curve-requires
 leaf-curve-requires c κs = search needs

@@ -8,8 +8,8 @@ use Prim.Native.Nat.{ℕ}
 use Rattle.points.specs.declared.point.Point.{Point}
 use Rattle.rows.specs.declared.row.Row.{Row}
 use Rattle.rows.specs.Row.{rowAt}
-use Rattle.moves.specs.declared.walk.Way.{Way}
-use Rattle.moves.specs.Walk.{downFrom, down, wayOf}
+use Rattle.calls.specs.declared.walk.Way.{Way}
+use Rattle.calls.specs.Walk.{downFrom, down, wayOf}
 
 -- the way of rows that each lead to the next
 way-is : (words : List ℕ) (rows : ℕ) (point : Point) (at one two three four five to : ℕ)

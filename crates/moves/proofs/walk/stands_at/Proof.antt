@@ -2,7 +2,7 @@
 use borrow.Author.Needs.{needs}
 use Rattle.moves.proofs.walk.stands_at.Statement.{statement}
 use Rattle.moves.proofs.walk.stands_at.Tie as tie
-use Rattle.moves.specs.Walk.{standsAt}
+use Rattle.calls.specs.Walk.{standsAt}
 
 at-cursor-requires : tie.Need-at-cursor-requires
 at-cursor-requires c κs = search needs

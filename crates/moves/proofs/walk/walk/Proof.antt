@@ -9,12 +9,12 @@ use Prim.Native.Nat.{ℕ}
 use lib.Dec.{eqb}
 use Rattle.points.specs.Word.{NONE}
 use Rattle.rows.specs.Row.{rowAt}
-use Rattle.rows.specs.declared.call.Call.{Call}
+use Rattle.stations.specs.declared.call.Call.{Call}
 use Rattle.rows.specs.declared.row.Row.{Row}
-use Rattle.moves.specs.declared.walk.Way.{Way}
-use Rattle.moves.specs.Walk.{wayOf, walkTo, conclude, standsAt, walkFrom, walkOf}
-use Rattle.moves.specs.Reply.{Reply, refused}
-use Rattle.moves.specs.Link.{isCut, isLeaf}
+use Rattle.calls.specs.declared.walk.Way.{Way}
+use Rattle.calls.specs.Walk.{wayOf, walkTo, conclude, standsAt, walkFrom, walkOf}
+use Rattle.calls.specs.Reply.{Reply, refused}
+use Rattle.calls.specs.Link.{isCut, isLeaf}
 
 -- the row where the call stands is read once
 from-is : (words : List ℕ) (rows s : ℕ) (call : Call) (at : ℕ) (row : Row) → at ≡ standsAt words s → row ≡ rowAt words rows at → walkFrom words rows s call at row ≡ walkOf words rows s call

@@ -4,7 +4,7 @@ use Rattle.moves.proofs.walk.walk_to.Statement.{statement}
 use Rattle.moves.proofs.walk.walk_to.Tie as tie
 use mathlib.Core.Path.{ap}
 use borrow.Author.Tests.{eq-eqb, ne-eqb}
-use Rattle.moves.specs.Reply.{done}
+use Rattle.calls.specs.Reply.{done}
 
 pass-requires : tie.Need-pass-requires
 pass-requires c κs = search needs

@@ -2,7 +2,8 @@
 use borrow.Author.Needs.{needs}
 use Rattle.rows.proofs.tree.leaf_sound.Statement.{statement}
 use Rattle.rows.proofs.tree.leaf_sound.Tie as tie
-use Rattle.rows.specs.Row.{pointFrom, inRows}
+use Rattle.rows.specs.Row.{inRows}
+use Rattle.words.specs.Part.{pointFrom}
 
 shared-slice-read-link-in : tie.Need-shared-slice-read-link-in
 shared-slice-read-link-in c = search needs

@@ -5,8 +5,8 @@ use Rattle.rows.proofs.tree.read_tree.Tie as tie
 use mathlib.Core.Path.{refl, ap, _∙_}
 use borrow.Author.Tests.{lt-ltb, le-ltb, le-leb, lt-leb}
 use denote.Ref.{now}
-use Rattle.rows.proofs.Lent.{part-lent}
-use Rattle.rows.specs.Layout.{atRow}
+use Rattle.words.proofs.Lent.{part-lent}
+use Rattle.words.specs.Layout.{atRow}
 use Rattle.rows.specs.Row.{checkedRow, rowOf, rowAt}
 use Rattle.rows.specs.Tree.{treeRow}
 

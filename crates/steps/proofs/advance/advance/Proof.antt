@@ -7,8 +7,8 @@ use mathlib.Core.Path.{_≡_, ap₂, _∙_}
 use Prim.Native.Nat.{ℕ}
 use borrow.Author.Tests.{ne-eqb}
 use denote.Ref.{now}
-use Rattle.steps.specs.Advance.{proceedOf, advanceOf}
-use Rattle.steps.proofs.Questions.{failedIn, passes, refuses}
+use Rattle.calls.specs.Advance.{proceedOf, advanceOf}
+use Rattle.calls.proofs.Questions.{failedIn, passes, refuses}
 
 abbrev start : tie.After-first-failed → tie.Start
 start c = c .before .before .before .before .before .before .before

@@ -4,9 +4,8 @@ use Rattle.steps.proofs.run.most_steps.Statement.{statement}
 use Rattle.steps.proofs.run.most_steps.Tie as tie
 use mathlib.Core.Path.{_≡_, _∙_}
 use denote.Ref.{now}
-use Rattle.rows.specs.Common.{openedIn}
-use Rattle.moves.specs.Reply.{isOpened}
-use Rattle.steps.specs.Run.{mostSteps}
+use Rattle.stations.specs.Common.{openedIn, isOpened}
+use Rattle.calls.specs.Run.{mostSteps}
 
 -- the test is question 4
 test-is : (c : tie.After-is-opened) → isOpened (openedIn (now (c .before .before .before .before .args .words))) ≡ c .is-opened .result

@@ -10,9 +10,9 @@ use Prim.Native.Nat.{ℕ, zero, suc, _-_, _≤_, _<_}
 use native.Mathlib.Omega.{arith}
 use borrow.Author.Tests.{not-true, not-false}
 use lib.ListN.{length}
-use Rattle.moves.specs.Reply.{Reply, done}
-use Rattle.steps.specs.Step.{stepOf}
-use Rattle.steps.specs.Run.{goesOn, runFor, runOf}
+use Rattle.calls.specs.Reply.{Reply, done}
+use Rattle.calls.specs.Step.{stepOf}
+use Rattle.calls.specs.Run.{goesOn, runFor, runOf}
 
 -- a step after which the run goes on
 turn : (n : ℕ) (words : List ℕ) (s : ℕ) → 0 < n → goesOn s (stepOf words s) ≡ true → runFor n words s ≡ runFor (n - 1) (stepOf words s .words) s

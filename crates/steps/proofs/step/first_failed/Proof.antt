@@ -2,7 +2,7 @@
 use borrow.Author.Needs.{needs}
 use Rattle.steps.proofs.step.first_failed.Statement.{statement}
 use Rattle.steps.proofs.step.first_failed.Tie as tie
-use Rattle.steps.specs.Step.{firstFailed}
+use Rattle.calls.specs.Step.{firstFailed}
 
 records-sound-requires : tie.Need-records-sound-requires
 records-sound-requires c κs = search needs

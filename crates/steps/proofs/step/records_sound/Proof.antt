@@ -2,7 +2,7 @@
 use borrow.Author.Needs.{needs}
 use Rattle.steps.proofs.step.records_sound.Statement.{statement}
 use Rattle.steps.proofs.step.records_sound.Tie as tie
-use Rattle.steps.specs.Step.{fieldsSound}
+use Rattle.calls.specs.Step.{fieldsSound}
 
 common-sound-requires : tie.Need-common-sound-requires
 common-sound-requires c κs = search needs

@@ -2,8 +2,8 @@
 use borrow.Author.Needs.{needs}
 use Rattle.steps.proofs.step.step.Statement.{statement}
 use Rattle.steps.proofs.step.step.Tie as tie
-use Rattle.steps.specs.Step.{stepOf}
-use Rattle.steps.specs.Advance.{advanceOf}
+use Rattle.calls.specs.Step.{stepOf}
+use Rattle.calls.specs.Advance.{advanceOf}
 
 advance-requires : tie.Need-advance-requires
 advance-requires c κs = search needs

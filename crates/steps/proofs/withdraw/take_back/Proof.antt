@@ -3,8 +3,8 @@ use borrow.Author.Needs.{needs}
 use Rattle.steps.proofs.withdraw.take_back.Statement.{statement}
 use Rattle.steps.proofs.withdraw.take_back.Tie as tie
 use mathlib.Core.Path.{_∙_, ap}
-use Rattle.moves.specs.Reply.{done}
-use Rattle.moves.specs.Answer.{answeredWords}
+use Rattle.calls.specs.Reply.{done}
+use Rattle.calls.specs.Answer.{answeredWords}
 
 withdrawn-answer-requires : tie.Need-withdrawn-answer-requires
 withdrawn-answer-requires c κs = search needs

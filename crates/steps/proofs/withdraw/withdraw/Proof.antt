@@ -2,8 +2,8 @@
 use borrow.Author.Needs.{needs}
 use Rattle.steps.proofs.withdraw.withdraw.Statement.{statement}
 use Rattle.steps.proofs.withdraw.withdraw.Tie as tie
-use Rattle.steps.specs.Withdraw.{withdrawOf}
-use Rattle.steps.specs.Advance.{advanceOf}
+use Rattle.calls.specs.Withdraw.{withdrawOf}
+use Rattle.calls.specs.Advance.{advanceOf}
 
 advance-requires : tie.Need-advance-requires
 advance-requires c κs = search needs

@@ -1,4 +1,0 @@
-pub mod Going
-pub mod ClimbLaws
-pub mod TreeLaws
-pub mod QueueLaws

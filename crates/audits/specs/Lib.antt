@@ -1,5 +1,0 @@
-pub mod Sum
-pub mod Climb
-pub mod Tree
-pub mod Queue
-pub mod Whole

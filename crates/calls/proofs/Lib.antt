@@ -1,0 +1,10 @@
+pub mod UnseenLaws
+pub mod SearchLaws
+pub mod TourLaws
+pub mod UnlinkLaws
+pub mod Going
+pub mod ClimbLaws
+pub mod TreeLaws
+pub mod QueueLaws
+pub mod Questions
+pub mod SubmitLaws

@@ -1,0 +1,20 @@
+-- The audit: "An audit says yes exactly if the rows linked from the root, if any, have fields in range as for question 11 and form a tree in
+-- which each leaf's point is on the side that every cut above it sends it, parent links agree, and every row lies in the tree, among the spare
+-- rows, or in the records awaiting release, once and in order of removal."
+-- `treeIn` counts the leaves of the tree, `queueIn` walks the free rows; together they must be all the rows.
+use Prim.Native.Nat.{ℕ}
+use mathlib.Core.Bool.{Bool, false, cond}
+use mathlib.Core.List.{List}
+use Rattle.stations.specs.Common.{openedIn, isOpened}
+use Rattle.calls.specs.Tree.{treeIn}
+use Rattle.calls.specs.Queue.{queueIn}
+use Rattle.calls.specs.Whole.{allRows}
+use Rattle.calls.specs.declared.audit.Verdict.{Verdict}
+
+-- whether the audit says yes; not to a slice that is not opened
+unfoldable pub auditOf : List ℕ → Bool
+auditOf words = cond (isOpened (openedIn words)) (allRows words (treeIn words) (queueIn words)) false
+
+-- question 4, with its number or 0, and whether the audit says yes
+unfoldable pub verdictOf : List ℕ → Verdict
+verdictOf words = record { number = cond (isOpened (openedIn words)) 0 4; sound = auditOf words }

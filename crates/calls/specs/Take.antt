@@ -1,0 +1,39 @@
+-- A taking (document 01, "Questions": 4, 5, 12). It writes one word.
+use Prim.Native.Nat.{ℕ}
+use mathlib.Core.Bool.{Bool, true, false, cond}
+use mathlib.Core.List.{List}
+use lib.Dec.{ltb}
+use Rattle.stations.specs.declared.answer.Answer.{Answer}
+use Rattle.stations.specs.declared.answer.Waiting.{Waiting}
+use Rattle.stations.specs.declared.answer.Waiting.the-variants.{Nothing, Given}
+use Rattle.stations.specs.Common.{openedIn, isOpened}
+use Rattle.stations.specs.Station.{taken, stateAt, putState}
+use Rattle.stations.specs.Answer.{waitingAt}
+use Rattle.calls.specs.declared.take.Taking.{Taking}
+use Rattle.calls.specs.declared.take.Taking.the-variants.{Refused as Refusal, Given as Taken}
+
+-- what a taking by a station with this waiting gives
+abbrev pub takingOf : Waiting → Taking
+takingOf Nothing = Refusal 12
+takingOf (Given a) = Taken a
+
+-- question 5, then 12
+abbrev pub stationTaking : List ℕ → ℕ → Taking
+stationTaking words s = cond (ltb s 8) (takingOf (waitingAt words s)) (Refusal 5)
+
+-- the first question that fails, or the answer
+unfoldable pub takeOf : List ℕ → ℕ → Taking
+takeOf words s = cond (isOpened (openedIn words)) (stationTaking words s) (Refusal 4)
+
+-- document 01's number of a taking
+abbrev pub numberOf : Taking → ℕ
+numberOf (Refusal number) = number
+numberOf (Taken a) = 0
+
+-- "Taking leaves the station idle"; a refusal leaves every word
+abbrev pub takenWords : List ℕ → ℕ → Taking → List ℕ
+takenWords words s (Refusal number) = words
+takenWords words s (Taken a) = putState words s (taken (stateAt words s))
+
+unfoldable pub takeWords : List ℕ → ℕ → List ℕ
+takeWords words s = takenWords words s (takeOf words s)

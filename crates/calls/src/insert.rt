@@ -1,0 +1,14 @@
+// What an insert reads before it writes.
+use rows::row::Row;
+
+// The first two free rows, the leaf where the walk ended, and the row above it, each with its number.
+pub struct Room {
+    pub first: u32,
+    pub fresh: Row,
+    pub second: u32,
+    pub spare: Row,
+    pub at: u32,
+    pub leaf: Row,
+    pub over: u32,
+    pub above: Row,
+}

@@ -1,0 +1,12 @@
+// What each call does to the words: definitions alone, in `specs/`, with the structs and enums that they speak of. There is no function here; the crates above have the code.
+pub mod audit;
+pub mod climb;
+pub mod insert;
+pub mod queue;
+pub mod report;
+pub mod search;
+pub mod take;
+pub mod tour;
+pub mod tree;
+pub mod unlink;
+pub mod walk;

@@ -1,0 +1,124 @@
+// Every call on an index, with random arguments. Each gives its number: 0, or that of the question that failed.
+use calls::take::Taking;
+use points::point::Point;
+use points::word::point_at;
+use stations::answer::answer_sound;
+use trial::cells::low;
+use trial::random::below;
+use trial::random::next;
+
+// The kinds of calls.
+pub const SUBMIT: u64 = 0;
+
+pub const STEP: u64 = 1;
+
+pub const RUN: u64 = 2;
+
+pub const TAKE: u64 = 3;
+
+pub const WITHDRAW: u64 = 4;
+
+pub const REPORT: u64 = 5;
+
+pub const AUDIT: u64 = 6;
+
+pub const OPEN: u64 = 7;
+
+// What stands for an audit that says no; it is the number of no question here.
+pub const NO: u32 = 13;
+
+// A number that no call gives.
+const NEVER: u32 = 99;
+
+// A station; now and then one that there is not.
+fn some_station(book: &mut [u64]) -> u32 {
+    match below(book, 32) {
+        0 => 8,
+        1 => next(book),
+        k => low(k % 8),
+    }
+}
+
+// A point of few, in range or not.
+fn some_point(book: &mut [u64]) -> Point {
+    let grade = low(below(book, 2));
+    let weight = low(below(book, 9));
+    let speed = low(below(book, 2));
+    let past = below(book, 32) == 0;
+    point_at(grade, weight, 0, speed, if past { 4001 } else { 2000 })
+}
+
+// A submission.
+fn submit(words: &mut [u32], book: &mut [u64]) -> u32 {
+    let s = some_station(book);
+    let kind = low(below(book, 6));
+    let point = some_point(book);
+    let curve = low(below(book, 30));
+    submissions::submit::submit(words, s, kind, point, curve)
+}
+
+// The number of a taking; one whose answer is out of range has a number that no call gives.
+fn number_of(taking: Taking) -> u32 {
+    match taking {
+        Taking::Refused(number) => number,
+        Taking::Given(answer) => { if answer_sound(answer) { 0 } else { NEVER } }
+    }
+}
+
+// A report.
+fn report(words: &[u32]) -> u32 {
+    let read = audits::report::read_report(words);
+    read.number
+}
+
+// An audit. One that is refused does not say yes.
+pub fn audit(words: &[u32]) -> u32 {
+    let verdict = audits::audit::audit(words);
+    if verdict.sound {
+        return if verdict.number == 0 { 0 } else { NEVER };
+    }
+    if verdict.number == 0 {
+        NO
+    } else {
+        verdict.number
+    }
+}
+
+// An opening that is refused.
+fn open(words: &mut [u32], book: &mut [u64]) -> u32 {
+    match below(book, 4) {
+        0 => openings::open::open(words, 0, 10),
+        1 => openings::open::open(words, 4097, 10),
+        2 => openings::open::open(words, 1, 0),
+        _ => openings::open::open(words, 4096, 10),
+    }
+}
+
+// A call of a kind.
+pub fn call(words: &mut [u32], book: &mut [u64], kind: u64) -> u32 {
+    let s = some_station(book);
+    match kind {
+        0 => submit(words, book),
+        1 => steps::step::step(words, s),
+        2 => steps::run::run(words, s),
+        3 => number_of(submissions::take::take(words, s)),
+        4 => steps::withdraw::withdraw(words, s),
+        5 => report(words),
+        6 => audit(words),
+        _ => open(words, book),
+    }
+}
+
+// Whether document 01 lets a call of a kind give this number.
+pub fn is_allowed(kind: u64, number: u32) -> bool {
+    match kind {
+        0 => (number == 0) | ((4 <= number) & (number <= 9)),
+        1 | 2 | 4 => {
+            (number == 0) | (number == 4) | (number == 5) | (number == 10) | (number == 11)
+        }
+        3 => (number == 0) | (number == 4) | (number == 5) | (number == 12),
+        5 => (number == 0) | (number == 4),
+        6 => (number == 0) | (number == 4) | (number == NO),
+        _ => (1 <= number) & (number <= 3),
+    }
+}

@@ -1,3 +1,0 @@
-pub mod SearchLaws
-pub mod TourLaws
-pub mod UnlinkLaws

@@ -1,0 +1,2 @@
+// Opening a slice.
+pub mod open;

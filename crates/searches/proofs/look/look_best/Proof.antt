@@ -1,0 +1,53 @@
+-- `searches::look::look_best` meets its contract. Assumes nothing.
+use borrow.Author.Needs.{needs}
+use Rattle.searches.proofs.look.look_best.Statement.{statement}
+use Rattle.searches.proofs.look.look_best.Tie as tie
+
+enum-told : tie.Need-enum-told
+enum-told c = search needs
+
+enum-told-2 : tie.Need-enum-told-2
+enum-told-2 c = search needs
+
+enum-known-row : tie.Need-enum-known-row
+enum-known-row c = search needs
+
+consider-requires : tie.Need-consider-requires
+consider-requires c κs = search needs
+
+enum-told-3 : tie.Need-enum-told-3
+enum-told-3 c = search needs
+
+enum-told-4 : tie.Need-enum-told-4
+enum-told-4 c = search needs
+
+returns : tie.Need-returns
+returns c = rw (c .enum-told .given .1)
+
+returns-2 : tie.Need-returns-2
+returns-2 c = rw (c .enum-told2 .given .1)
+
+returns-3 : tie.Need-returns-3
+returns-3 c = rw (c .before .before .row .given .1) (c .consider .ensures)
+
+returns-4 : tie.Need-returns-4
+returns-4 c = rw (c .enum-told3 .given .1)
+
+returns-5 : tie.Need-returns-5
+returns-5 c = rw (c .enum-told4 .given .1)
+
+pub look-best-spec : {M : Type 1} → statement M
+look-best-spec =
+    tie.close
+    (tie.spec
+    enum-told
+    enum-told-2
+    enum-known-row
+    consider-requires
+    enum-told-3
+    enum-told-4
+    returns
+    returns-2
+    returns-3
+    returns-4
+    returns-5)

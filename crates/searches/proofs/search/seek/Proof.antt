@@ -1,0 +1,88 @@
+-- `searches::search::seek` meets its contract. Assumes nothing.
+use Rattle.searches.proofs.search.seek.Statement.{statement}
+use Rattle.searches.proofs.search.seek.Tie as tie
+use borrow.Author.Needs.{needs}
+use mathlib.Core.Path.{_≡_, sym, ap, _∙_}
+use mathlib.Core.List.{List}
+use Prim.Native.Nat.{ℕ, _≤_, _-_}
+use native.Mathlib.Omega.{arith}
+use Rattle.stations.specs.declared.call.Call.{Call}
+use Rattle.rows.specs.Grades.{slotOf}
+use Rattle.calls.specs.declared.search.Progress.{Progress}
+use Rattle.calls.specs.declared.tour.Reached.{Reached}
+use Rattle.calls.specs.Search.{look, toured, toursOf, seek}
+use Rattle.calls.specs.Tour.{reachedAt}
+use Rattle.calls.proofs.TourLaws.{moved-more}
+
+-- all the tours of a step
+seek-is : (words : List ℕ) (rows : ℕ) (call : Call) (p looked : Progress) (slot most tours : ℕ)
+    → slot ≡ slotOf (call .point) → most ≡ toursOf (p .missed) → looked ≡ look words rows call p → tours ≡ most
+    → toured words rows slot call tours looked ≡ seek words rows call p
+unfolding seek
+seek-is words rows call p looked slot most tours a b d e = rw (e, b, a, d)
+
+-- the moves begin at what the look left
+begun : (words : List ℕ) (rows : ℕ) (p : Progress) (reached : Reached) → reached ≡ reachedAt words rows p → reached ≡ reachedAt words rows (reached .progress)
+begun words rows p reached e = e ∙ ap (λ (q : Progress). reachedAt words rows q) (sym (ap (λ (r : Reached). r .progress) e))
+
+abbrev Inv-loop : tie.InvT-loop
+Inv-loop words rows call slot most reached₀ tours₀ reached tours =
+    (tours ≤ most) × (reached ≡ reachedAt words rows (toured words rows slot call tours (reached₀ .progress)))
+
+abbrev μ-loop : tie.MeasureT-loop
+μ-loop words rows call slot most reached₀ tours₀ reached tours = most - tours
+
+slot-of-requires : tie.Need-slot-of-requires Inv-loop μ-loop
+slot-of-requires c κs = search needs
+
+pick-requires : tie.Need-pick-requires Inv-loop μ-loop
+pick-requires c κs = search needs
+
+look-requires : tie.Need-look-requires Inv-loop μ-loop
+look-requires c κs = search needs
+
+reached-at-requires : tie.Need-reached-at-requires Inv-loop μ-loop
+reached-at-requires c κs = search needs
+
+loop-holds : tie.Need-loop-holds Inv-loop μ-loop
+unfolding toured
+loop-holds c = (omega arith, begun _ _ _ _ (c .reached-at .ensures))
+
+tour-requires : tie.Need-tour-requires Inv-loop μ-loop
+tour-requires c κs = search needs
+
+add-tours : tie.Need-add-tours Inv-loop μ-loop
+add-tours c = search needs
+
+loop-less : tie.Need-loop-less Inv-loop μ-loop
+loop-less c = omega arith
+
+loop-again : tie.Need-loop-again Inv-loop μ-loop
+loop-again c =
+    let l = c .before .before in
+    let s = l .before .before .before .before .before .before .before in
+    (omega arith, moved-more _ _ _ _ _ _ _ _ (omega (arith, s .fits .rows .fits)) (l .loop .inv .1) (c .tour .ensures))
+
+returns : tie.Need-returns Inv-loop μ-loop
+returns c =
+    let r = c .before .before .before in
+    let l = r .before in
+    ap (λ (x : Reached). x .progress) (c .before .before .loop .inv .1)
+    ∙ seek-is _ _ _ _ _ _ _ _ (l .before .before .before .slot-of .ensures) (l .before .pick .ensures) (ap (λ (x : Reached). x .progress) (r .reached-at .ensures) ∙ l .look .ensures) (omega arith)
+
+pub seek-spec : {M : Type 1} → statement M
+seek-spec =
+    tie.close
+    (tie.spec
+    Inv-loop
+    μ-loop
+    slot-of-requires
+    pick-requires
+    look-requires
+    reached-at-requires
+    loop-holds
+    tour-requires
+    add-tours
+    loop-less
+    loop-again
+    returns)

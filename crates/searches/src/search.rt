@@ -1,0 +1,116 @@
+// One step of a nearest call: the tour goes on by five rows, or a missed record is looked at and the tour goes on by three, and the call is answered where nothing
+// is left.
+use crate::look::look;
+use crate::tour::reached_at;
+use crate::tour::tour;
+use calls::search::Progress;
+use links::answer::write_answered;
+use points::square::square;
+use rows::grades::slot_of;
+use stations::answer::Answer;
+use stations::call::Best;
+use stations::call::Call;
+use stations::call::write_best;
+use stations::station::write_missed;
+use stations::station::write_place;
+use words::layout::NONE;
+use words::layout::at_cursor;
+use words::layout::at_missed;
+use words::layout::at_phase;
+use words::word::get;
+use words::word::pick;
+ghost use mathlib.Core.Path.{_≡_};
+ghost use Rattle.calls.specs.Reply.{replied};
+ghost use Rattle.calls.specs.Search.{seek, progressAt, isFinished, foundAnswer, keptWords, searchWords, searchOf};
+
+// Five tours, or a look and three where a row was missed.
+fn seek(words: &[u32], rows: u32, call: Call, p: Progress) -> Progress
+    ensures { λ r. ⌜ r ≡ seek (now (words .entry)) rows call p ⌝ }
+{
+    let slot = slot_of(call.point);
+    let most = pick(p.missed == NONE, 5, 3);
+    let mut reached = reached_at(words, rows, look(words, rows, call, p));
+    let mut tours: u32 = 0;
+    while tours < most {
+        reached = tour(words, rows, slot, call, reached);
+        tours += 1;
+    }
+    reached.progress
+}
+
+// Where the search of station s stands.
+fn progress_at(words: &[u32], s: u32, call: Call) -> Progress
+    ensures { λ r. ⌜ r ≡ progressAt (now (words .entry)) s call ⌝ }
+{
+    let best = call.best;
+    Progress {
+        cursor: get(words, at_cursor(s)),
+        phase: get(words, at_phase(s)),
+        missed: get(words, at_missed(s)),
+        best: best,
+        sound: true,
+    }
+}
+
+// Whether nothing is left to look at.
+fn is_finished(p: Progress) -> bool
+    ensures { λ r. ⌜ r ≡ isFinished p ⌝ }
+{
+    (p.cursor == NONE) & (p.missed == NONE)
+}
+
+// The answer of a finished search: 8 with the best and its square, or 9.
+fn found_answer(call: Call, best: Best) -> Answer
+    ensures { λ r. ⌜ r ≡ foundAnswer call best ⌝ }
+{
+    if best.curve == 0 {
+        let target = call.point;
+        Answer {
+            code: 9,
+            point: target,
+            curve: 0,
+            square: 0,
+        }
+    } else {
+        let point = best.point;
+        Answer {
+            code: 8,
+            point: point,
+            curve: best.curve,
+            square: square(call.point, best.point),
+        }
+    }
+}
+
+// The search is kept for its next step.
+fn keep(words: &mut [u32], s: u32, p: Progress)
+    ensures { λ _. ⌜ now (words .exit) ≡ keptWords (now (words .entry)) s p ⌝ }
+{
+    write_best(words, s, p.best);
+    write_place(words, s, p.cursor, p.phase);
+    write_missed(words, s, p.missed);
+}
+
+// A finished search is answered, any other kept.
+fn write_search(words: &mut [u32], s: u32, call: Call, p: Progress)
+    ensures { λ _. ⌜ now (words .exit) ≡ searchWords (now (words .entry)) s call p ⌝ }
+{
+    if is_finished(p) {
+        write_answered(words, s, found_answer(call, p.best));
+    } else {
+        keep(words, s, p);
+    }
+}
+
+// One step of the nearest call of station s: 0, or 11 where a row was not what it must be, and then nothing is written.
+pub fn search(words: &mut [u32], rows: u32, s: u32, call: Call) -> u32
+    ensures { λ r. ⌜ replied r (now (words .exit)) ≡ searchOf (now (words .entry)) rows s call ⌝ }
+{
+    let p = seek(words, rows, call, progress_at(words, s, call));
+    if p.sound {
+        write_search(words, s, call, p);
+        0
+    } else {
+        11
+    }
+}

@@ -1,0 +1,13 @@
+pub mod Branches
+pub mod Eight
+pub mod OpeningLaws
+pub mod CommonLaws
+pub mod TakenLaws
+pub mod StationLaws
+pub mod PlaceLaws
+pub mod TargetLaws
+pub mod RecordLaws
+pub mod ReadBackLaws
+pub mod WaitingLaws
+pub mod AbsentLaws
+pub mod SoundLaws

@@ -1,0 +1,58 @@
+-- `stations::answer::write_answer` meets its contract. Assumes nothing.
+use borrow.Author.Needs.{needs}
+use Rattle.stations.proofs.answer.write_answer.Statement.{statement}
+use Rattle.stations.proofs.answer.write_answer.Tie as tie
+use mathlib.Core.Path.{refl, _∙_}
+use borrow.Author.Tests.{lt-ltb, le-ltb, le-leb, lt-leb}
+use denote.Ref.{now}
+use Rattle.words.proofs.Lent.{splice-same}
+use Rattle.words.specs.Layout.{atAnswer}
+use Rattle.stations.specs.Station.{hasStation}
+use Rattle.stations.specs.Answer.{answerWords, putAnswer}
+
+answer-words-requires : tie.Need-answer-words-requires
+answer-words-requires c κs = search needs
+
+at-answer-requires : tie.Need-at-answer-requires
+at-answer-requires c κs = search needs
+
+slice-aggregate-write-part : tie.Need-slice-aggregate-write-part
+slice-aggregate-write-part c = search needs
+
+write-part-requires : tie.Need-write-part-requires
+write-part-requires c κs = search needs
+
+same-length : tie.Need-same-length
+same-length c = search needs
+
+returns : tie.Need-returns
+unfolding putAnswer hasStation
+returns c =
+    let p = c .before .before in
+    let a = p .before .before in
+    let b = a .before .before in
+    let t = b .before in
+    let s = t .before .before .before .args in
+    simp (lt-ltb _ _ (t .before .if1 .taken), le-leb _ _ (t .if2 .taken))
+    (p .write-part .ensures ∙ splice-same (now (s .words)) _ (answerWords (s .answer)) (atAnswer (s .s)) _ 9 (b .answer-words .ensures) (a .at-answer .ensures) refl)
+
+returns-2 : tie.Need-returns-2
+unfolding putAnswer hasStation
+returns-2 c = simp (lt-ltb _ _ (c .before .if1 .taken), lt-leb _ _ (c .if2 .left))
+
+returns-3 : tie.Need-returns-3
+unfolding putAnswer hasStation
+returns-3 c = simp (le-ltb _ _ (c .if1 .left))
+
+pub write-answer-spec : {M : Type 1} → statement M
+write-answer-spec =
+    tie.close
+    (tie.spec
+    answer-words-requires
+    at-answer-requires
+    slice-aggregate-write-part
+    write-part-requires
+    same-length
+    returns
+    returns-2
+    returns-3)

@@ -1,0 +1,49 @@
+-- The answer of a station, and the answer that waits there.
+use Prim.Native.Nat.{ℕ, _+_, _*_, _/_, _%_}
+use mathlib.Core.List.{List, [], _∷_}
+use mathlib.Core.Bool.{Bool, cond, _&&_, _||_}
+use lib.ListN.{getD}
+use lib.Dec.{eqb, leb}
+use Rattle.points.specs.Point.{inRange}
+use Rattle.points.specs.Word.{pointAt}
+use Rattle.stations.specs.declared.answer.Answer.{Answer}
+use Rattle.stations.specs.declared.answer.Waiting.{Waiting}
+use Rattle.stations.specs.declared.answer.Waiting.the-variants.{Nothing, Given}
+use Rattle.words.specs.Layout.{atAnswer}
+use Rattle.words.specs.Words.{part, splice}
+use Rattle.words.specs.Part.{pointFrom, pointWords}
+use Rattle.stations.specs.Station.{hasStation, isWaiting, stateAt}
+
+-- the answer of nine words: code, point, curve, low and high word of the square
+abbrev pub answerOf : List ℕ → Answer
+answerOf w = record { code = getD w 0 0; point = pointFrom w 1; curve = getD w 6 0; square = getD w 7 0 + 4294967296 * getD w 8 0 }
+
+-- its nine words
+abbrev pub answerWords : Answer → List ℕ
+answerWords answer =
+    answer .code ∷ pointWords (answer .point) (answer .curve ∷ answer .square % 4294967296 ∷ answer .square / 4294967296 ∷ [])
+
+-- an answer of no code
+abbrev pub noAnswer : Answer
+noAnswer = record { code = 0; point = pointAt 0 0 0 0 0; curve = 0; square = 0 }
+
+-- there is such a code: 1 to 9, and 11 for a call that was withdrawn
+abbrev pub codeIn : ℕ → Bool
+codeIn code = leb 1 code && (leb code 9 || eqb code 11)
+
+-- every field of an answer is in range
+unfoldable pub answerSound : Answer → Bool
+answerSound answer =
+    ((codeIn (answer .code) && inRange (answer .point)) && leb (answer .curve) 999999) && leb (answer .square) 11015800001
+
+-- the answer of station s; of no code where there is no such station
+unfoldable pub answerAt : List ℕ → ℕ → Answer
+answerAt words s = cond (hasStation words s) (answerOf (part words (atAnswer s) 9)) noAnswer
+
+-- the words with the answer of station s written
+unfoldable pub putAnswer : List ℕ → ℕ → Answer → List ℕ
+putAnswer words s answer = cond (hasStation words s) (splice words (answerWords answer) (atAnswer s) 9) words
+
+-- the answer that waits in station s: there is one if the state says so and every field is in range
+unfoldable pub waitingAt : List ℕ → ℕ → Waiting
+waitingAt words s = cond (isWaiting (stateAt words s) && answerSound (answerAt words s)) (Given (answerAt words s)) Nothing

@@ -1,0 +1,188 @@
+// The call of a station, with the best record of its search so far.
+use points::point::Point;
+use points::point::in_range;
+use points::word::point_at;
+use points::word::word;
+use words::layout::at_best;
+use words::layout::at_call;
+use words::part::point_from;
+use words::part::write_part;
+use words::word::curve_in;
+ghost use mathlib.Core.Path.{_≡_};
+ghost use lib.ListN.{length};
+ghost use Rattle.stations.specs.Call.{bestOf, bestWords, noBest, bestSound, callOf, callWords, noCall, callAt, curveFor, callSound, putBest, putAsked, putCall};
+
+// The best record of a search so far; its curve is 0 where there is none.
+pub struct Best {
+    pub curve: u32,
+    pub point: Point,
+}
+
+// A call; `asof` is the number of changes at its submission.
+pub struct Call {
+    pub kind: u32,
+    pub point: Point,
+    pub curve: u32,
+    pub asof: u32,
+    pub best: Best,
+}
+
+// The best record of six words.
+fn best_of(part: &[u32]) -> Best
+    requires { ⌜ length (now part) ≡ 6 ⌝ }
+    ensures { λ r. ⌜ r ≡ bestOf (now (part .entry)) ⌝ }
+{
+    Best {
+        curve: part[0],
+        point: point_from(part, 1),
+    }
+}
+
+// The six words of a best record.
+fn best_words(best: Best) -> [u32; 6]
+    ensures { λ r. ⌜ r ≡ bestWords best ⌝ }
+{
+    let point = best.point;
+    [
+        best.curve,
+        word(point, 1),
+        word(point, 2),
+        word(point, 3),
+        word(point, 4),
+        word(point, 5),
+    ]
+}
+
+// No best record.
+pub fn no_best() -> Best
+    ensures { λ r. ⌜ r ≡ noBest ⌝ }
+{
+    Best {
+        curve: 0,
+        point: point_at(0, 0, 0, 0, 0),
+    }
+}
+
+// Whether there is no best, or one in range.
+pub fn best_sound(best: Best) -> bool
+    ensures { λ r. ⌜ r ≡ bestSound best ⌝ }
+{
+    (best.curve == 0) | ((best.curve <= 999999) & in_range(best.point))
+}
+
+// The call of eight words, with its best.
+fn call_of(part: &[u32], best: Best) -> Call
+    requires { ⌜ length (now part) ≡ 8 ⌝ }
+    ensures { λ r. ⌜ r ≡ callOf (now (part .entry)) best ⌝ }
+{
+    Call {
+        kind: part[0],
+        point: point_from(part, 1),
+        curve: part[6],
+        asof: part[7],
+        best: best,
+    }
+}
+
+// The eight words of a call, but for its best.
+fn call_words(call: Call) -> [u32; 8]
+    ensures { λ r. ⌜ r ≡ callWords call ⌝ }
+{
+    let point = call.point;
+    [
+        call.kind,
+        word(point, 1),
+        word(point, 2),
+        word(point, 3),
+        word(point, 4),
+        word(point, 5),
+        call.curve,
+        call.asof,
+    ]
+}
+
+// A call of no kind.
+fn no_call() -> Call
+    ensures { λ r. ⌜ r ≡ noCall ⌝ }
+{
+    Call {
+        kind: 0,
+        point: point_at(0, 0, 0, 0, 0),
+        curve: 0,
+        asof: 0,
+        best: no_best(),
+    }
+}
+
+// The call of a station; of no kind where there is no such station.
+pub fn read_call(words: &[u32], s: u32) -> Call
+    ensures { λ r. ⌜ r ≡ callAt (now (words .entry)) s ⌝ }
+{
+    if 8 <= s {
+        return no_call();
+    }
+    if words.len() < 608 {
+        return no_call();
+    }
+    let start = at_call(s);
+    let end = start + 8;
+    let first = at_best(s);
+    let last = first + 6;
+    let best = best_of(&words[first..last]);
+    call_of(&words[start..end], best)
+}
+
+// An add has a curve in range, any other kind none.
+fn curve_for(kind: u32, curve: u32) -> bool
+    ensures { λ r. ⌜ r ≡ curveFor kind curve ⌝ }
+{
+    if kind == 1 {
+        curve_in(curve)
+    } else {
+        curve == 0
+    }
+}
+
+// Whether every field of a call is in range, where so many changes were made.
+pub fn call_sound(call: Call, changes: u32) -> bool
+    ensures { λ r. ⌜ r ≡ callSound call changes ⌝ }
+{
+    (1 <= call.kind)
+        & (call.kind <= 4)
+        & in_range(call.point)
+        & curve_for(call.kind, call.curve)
+        & (call.asof <= changes)
+        & best_sound(call.best)
+}
+
+// Writes the best record of a station.
+pub fn write_best(words: &mut [u32], s: u32, best: Best)
+    ensures { λ _. ⌜ now (words .exit) ≡ putBest (now (words .entry)) s best ⌝ }
+{
+    if s < 8 {
+        if 608 <= words.len() {
+            let from = best_words(best);
+            write_part(words, at_best(s), &from[..]);
+        }
+    }
+}
+
+// Writes a call but for its best.
+fn write_asked(words: &mut [u32], s: u32, call: Call)
+    ensures { λ _. ⌜ now (words .exit) ≡ putAsked (now (words .entry)) s call ⌝ }
+{
+    if s < 8 {
+        if 608 <= words.len() {
+            let from = call_words(call);
+            write_part(words, at_call(s), &from[..]);
+        }
+    }
+}
+
+// Writes the call of a station.
+pub fn write_call(words: &mut [u32], s: u32, call: Call)
+    ensures { λ _. ⌜ now (words .exit) ≡ putCall (now (words .entry)) s call ⌝ }
+{
+    write_asked(words, s, call);
+    write_best(words, s, call.best);
+}

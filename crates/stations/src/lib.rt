@@ -1,0 +1,6 @@
+// The common record and the stations' records, read, checked and written.
+pub mod answer;
+pub mod call;
+pub mod common;
+pub mod station;
+pub mod target;

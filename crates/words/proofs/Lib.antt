@@ -1,0 +1,6 @@
+pub mod Lists
+pub mod Lent
+pub mod Splice
+pub mod WordLaws
+pub mod AgreeLaws
+pub mod RangeLaws

@@ -1,0 +1,46 @@
+-- `words::part::write_part` meets its contract. Assumes nothing.
+use borrow.Author.Needs.{needs}
+use Rattle.words.proofs.part.write_part.Statement.{statement}
+use Rattle.words.proofs.part.write_part.Tie as tie
+use lib.ListN.{length}
+use denote.Ref.{now}
+use Rattle.words.proofs.Lent.{splice-lent}
+
+add-end : tie.Need-add-end
+add-end c = search needs
+
+mul-copy : tie.Need-mul-copy
+mul-copy c = search needs
+
+sub-copy : tie.Need-sub-copy
+sub-copy c = search needs
+
+part-copy-start : tie.Need-part-copy-start
+part-copy-start c = search needs
+
+part-copy-end : tie.Need-part-copy-end
+part-copy-end c = search needs
+
+copy-requires : tie.Need-copy-requires
+copy-requires c κs = search needs
+
+same-length : tie.Need-same-length
+same-length c = search needs
+
+returns : tie.Need-returns
+returns c =
+    let s = c .before .before .before .before .before .before .args in
+    splice-lent (now (s .words)) _ (now (s .from)) (s .at) (length (now (s .from))) (c .before .before .copy .ensures)
+
+pub write-part-spec : {M : Type 1} → statement M
+write-part-spec =
+    tie.close
+    (tie.spec
+    add-end
+    mul-copy
+    sub-copy
+    part-copy-start
+    part-copy-end
+    copy-requires
+    same-length
+    returns)

@@ -1,0 +1,5 @@
+pub mod Layout
+pub mod Words
+pub mod Agree
+pub mod Range
+pub mod Part
