@@ -6,9 +6,9 @@ use crate::stand;
 use crate::stand::Found;
 use paired::drive;
 use paired::history::some_curve;
-use plain_list::book::Spot;
+use plain_list::book::PlainPoint;
 use plain_list::book::at_station;
-use plain_list::book::read_spot;
+use plain_list::book::read_point;
 use plain_list::reference;
 use trial::random::below;
 
@@ -55,16 +55,16 @@ fn some_victim(words: &[u32], book: &mut [u64], s: u32) -> Found {
 }
 
 // The target of a station's search.
-fn target_of(book: &[u64], s: u32) -> Spot {
-    read_spot(book, at_station(s, 2))
+fn target_of(book: &[u64], s: u32) -> PlainPoint {
+    read_point(book, at_station(s, 2))
 }
 
 // A point right beside another: its weight differs by three at most.
-fn beside(book: &mut [u64], p: Spot) -> Spot {
+fn near_to(book: &mut [u64], p: PlainPoint) -> PlainPoint {
     let by = below(book, 7);
     let speed = below(book, 9);
     let weight = std::num::wrapping_add_u64(p.weight, 99997);
-    Spot {
+    PlainPoint {
         grade: p.grade,
         weight: std::num::wrapping_add_u64(weight, by) % 100000,
         moisture: p.moisture,
@@ -74,11 +74,11 @@ fn beside(book: &mut [u64], p: Spot) -> Spot {
 }
 
 // The point of a record beside a victim, beside the target, or of the contest's own.
-fn some_new(book: &mut [u64], contest: Contest, s: u32, victim: Spot) -> Spot {
+fn some_new(book: &mut [u64], contest: Contest, s: u32, victim: PlainPoint) -> PlainPoint {
     match below(book, 4) {
         0 => some_record(book, contest),
-        1 => beside(book, target_of(book, s)),
-        _ => beside(book, victim),
+        1 => near_to(book, target_of(book, s)),
+        _ => near_to(book, victim),
     }
 }
 
@@ -89,7 +89,7 @@ fn submit_around(
     contest: Contest,
     s: u32,
     t: u32,
-    victim: Spot,
+    victim: PlainPoint,
 ) {
     let removes = below(book, 8) < contest.removals;
     let p = some_new(book, contest, s, victim);

@@ -9,7 +9,7 @@ use paired::history::some_grade;
 use paired::script::turn;
 use paired::stairs::weight_at;
 use plain_list::book::AT_PLACES;
-use plain_list::book::Spot;
+use plain_list::book::PlainPoint;
 use plain_list::reference;
 use plain_list::verdict::judge;
 use plain_list::verdict::met;
@@ -75,12 +75,12 @@ fn some_weight(book: &mut [u64], contest: Contest) -> u64 {
 }
 
 // A record of a contest.
-pub fn some_record(book: &mut [u64], contest: Contest) -> Spot {
+pub fn some_record(book: &mut [u64], contest: Contest) -> PlainPoint {
     let grade = some_grade(book);
     let weight = some_weight(book, contest);
     let moisture = below(book, 3);
     let speed = below(book, 3);
-    Spot {
+    PlainPoint {
         grade: if contest.graded { grade } else { 0 },
         weight: weight,
         moisture: moisture,
@@ -99,10 +99,10 @@ fn target_weight(book: &mut [u64], contest: Contest) -> u64 {
 }
 
 // A target. Where the records have one grade it is of another that shares their slot, so that no side of a cut is excluded.
-fn some_target(book: &mut [u64], contest: Contest) -> Spot {
+fn some_target(book: &mut [u64], contest: Contest) -> PlainPoint {
     let grade = some_grade(book);
     let weight = target_weight(book, contest);
-    Spot {
+    PlainPoint {
         grade: if contest.graded { grade } else { 127 },
         weight: weight,
         moisture: 1,
@@ -112,24 +112,24 @@ fn some_target(book: &mut [u64], contest: Contest) -> Spot {
 }
 
 // A whole call.
-fn call(words: &mut [u32], book: &mut [u64], s: u32, kind: u32, p: Spot) {
+fn call(words: &mut [u32], book: &mut [u64], s: u32, kind: u32, p: PlainPoint) {
     let curve = some_curve(book);
     drive::submit(words, book, s, kind, p, curve);
     drive::run(words, book, s);
     drive::take(words, book, s);
 }
 
-// The record of a stair's place is added, or any other.
+// The n-th record of a stair is added, or any other.
 fn add_at(words: &mut [u32], book: &mut [u64], contest: Contest, n: u32) {
     let p = some_record(book, contest);
-    let placed = Spot {
+    let on_stair = PlainPoint {
         grade: p.grade,
         weight: weight_at(n, contest.falling) as u64,
         moisture: p.moisture,
         speed: p.speed,
         draw: p.draw,
     };
-    call(words, book, 7, 1, if contest.stair { placed } else { p });
+    call(words, book, 7, 1, if contest.stair { on_stair } else { p });
 }
 
 // As many adds as there are places.

@@ -4,24 +4,24 @@ use crate::stand::high_leaf;
 use crate::stand::rows_of;
 use paired::drive;
 use plain_list::book::AT_HELD;
-use plain_list::book::Spot;
-use plain_list::list::spot_at;
+use plain_list::book::PlainPoint;
+use plain_list::list::record_point;
 use plain_list::reference;
 use plain_list::verdict::judge;
 use trial::cells::get;
 use trial::cells::less;
 
 // A station removes a record by a whole call.
-fn remove(words: &mut [u32], book: &mut [u64], s: u32, p: Spot) {
+fn remove(words: &mut [u32], book: &mut [u64], s: u32, p: PlainPoint) {
     drive::submit(words, book, s, 2, p, 0);
     drive::run(words, book, s);
     drive::take(words, book, s);
 }
 
-// A station removes the record that was added last of those held, or that has taken its place.
+// A station removes the record that was added last of those held, or that was moved there.
 fn remove_last(words: &mut [u32], book: &mut [u64], s: u32) {
     let last = less(get(book, AT_HELD));
-    let p = spot_at(book, last);
+    let p = record_point(book, last);
     remove(words, book, s, p);
 }
 

@@ -1,20 +1,18 @@
 // Where a search stands in the tree, read from the words of the index: a station that would hold it up looks there first.
 use plain_list::book::AT_PLACES;
-use plain_list::book::Spot;
-use plain_list::book::spot_of;
+use plain_list::book::PlainPoint;
+use plain_list::book::plain_of;
 use rows::row::Row;
 use rows::row::read_row;
+use stations::counts::read_counts;
+use stations::track::read_track;
 use trial::cells::low;
-use words::layout::AT_ROOT;
 use words::layout::NONE;
-use words::layout::at_cursor;
-use words::layout::at_phase;
-use words::word::get;
 
 // The record of a leaf, where there is one.
 pub enum Found {
     Nothing,
-    At(Spot),
+    At(PlainPoint),
 }
 
 // The rows of the index under way: two for each place.
@@ -25,25 +23,20 @@ pub fn rows_of(book: &[u64]) -> u32 {
 
 // The root.
 pub fn root(words: &[u32]) -> u32 {
-    get(words, AT_ROOT)
+    let counts = read_counts(words);
+    counts.root
 }
 
-// The cursor of a station.
+// The cursor of a station; none where there is no such station.
 pub fn cursor_of(words: &[u32], s: u32) -> u32 {
-    if s < 8 {
-        get(words, at_cursor(s))
-    } else {
-        NONE
-    }
+    let track = read_track(words, s);
+    track.cursor
 }
 
 // Whether the search of a station is on its way up.
 fn goes_up(words: &[u32], s: u32) -> bool {
-    if s < 8 {
-        get(words, at_phase(s)) == 1
-    } else {
-        false
-    }
+    let track = read_track(words, s);
+    track.phase == 1
 }
 
 // The parent of a row of the tree, none for any other row.
@@ -87,7 +80,7 @@ pub fn record_at(words: &[u32], rows: u32, r: u32) -> Found {
         Row::Bad => Found::Nothing,
         Row::Spare { .. } => Found::Nothing,
         Row::Removed { .. } => Found::Nothing,
-        Row::Leaf { point, .. } => Found::At(spot_of(point)),
+        Row::Leaf { point, .. } => Found::At(plain_of(point)),
         Row::Cut { .. } => Found::Nothing,
     }
 }

@@ -5,8 +5,8 @@ use trial::cells::word;
 use trial::random::below;
 use trial::random::next;
 
-// The place of a word: the common record, a station's record, or a row.
-fn some_place(book: &mut [u64]) -> usize {
+// The offset of a word: the common record, a station's record, or a row.
+fn some_offset(book: &mut [u64]) -> usize {
     match below(book, 4) {
         0 => below(book, 96) as usize,
         1 => below(book, 608) as usize,
@@ -14,7 +14,7 @@ fn some_place(book: &mut [u64]) -> usize {
     }
 }
 
-// What takes the place of a word: the word with one bit flipped, 0, all bits, a small number, or any number.
+// What is put where a word was: the word with one bit flipped, 0, all bits, a small number, or any number.
 fn harmed(book: &mut [u64], old: u32) -> u32 {
     let k = low(below(book, 32));
     match below(book, 6) {
@@ -33,7 +33,7 @@ fn flip(k: u32) -> u32 {
 
 // One word of the index is replaced.
 pub fn harm(words: &mut [u32], book: &mut [u64]) {
-    let at = some_place(book);
+    let at = some_offset(book);
     let new = harmed(book, word(words, at));
     put_word(words, at, new);
 }

@@ -56,7 +56,7 @@ fn judge(book: &mut [u64], right: bool) {
     }
 }
 
-// A place in the book, from a start.
+// An offset in the book, from a start.
 fn at(start: usize, n: u64) -> usize {
     if n < 16 {
         if start < CELLS {
@@ -76,20 +76,22 @@ fn call_within(whole: &mut [u32], book: &mut [u64], kind: u64) -> u32 {
 
 // Whether the call can have changed nothing: it was refused, and was no run; or it was a report or an audit.
 fn changes_nothing(kind: u64, number: u32) -> bool {
-    ((number != 0) & (kind != attempts::RUN)) | (kind == attempts::REPORT) | (kind == attempts::AUDIT)
+    ((number != 0) & (kind != attempts::RUN))
+        | (kind == attempts::REPORT)
+        | (kind == attempts::AUDIT)
 }
 
 // Whether the words around the middle part are as they were.
-fn outside_kept(whole: &[u32], spare: &[u32]) -> bool {
-    same(whole, spare, 0, START) & same(whole, spare, END, WHOLE)
+fn outside_kept(whole: &[u32], copied: &[u32]) -> bool {
+    same(whole, copied, 0, START) & same(whole, copied, END, WHOLE)
 }
 
 // What is asked after a call: its number, the words around the slice, every word where it changes nothing, and the rows where it is a withdrawal.
-fn judge_call(whole: &[u32], spare: &[u32], book: &mut [u64], kind: u64, number: u32) {
-    let kept = !changes_nothing(kind, number) | same(whole, spare, START, END);
-    let rows_kept = (kind != attempts::WITHDRAW) | same(whole, spare, ROWS, END);
+fn judge_call(whole: &[u32], copied: &[u32], book: &mut [u64], kind: u64, number: u32) {
+    let kept = !changes_nothing(kind, number) | same(whole, copied, START, END);
+    let rows_kept = (kind != attempts::WITHDRAW) | same(whole, copied, ROWS, END);
     judge(book, is_allowed(kind, number));
-    judge(book, outside_kept(whole, spare));
+    judge(book, outside_kept(whole, copied));
     judge(book, kept & rows_kept);
 }
 
@@ -114,11 +116,11 @@ fn some_kind(book: &mut [u64]) -> u64 {
 }
 
 // A random call with what is asked after it.
-fn judged_call(whole: &mut [u32], spare: &mut [u32], book: &mut [u64]) {
+fn judged_call(whole: &mut [u32], copied: &mut [u32], book: &mut [u64]) {
     let kind = some_kind(book);
-    copy(whole, spare);
+    copy(whole, copied);
     let number = call_within(whole, book, kind);
-    judge_call(whole, spare, book, kind, number);
+    judge_call(whole, copied, book, kind, number);
     count_call(book, kind, number);
 }
 
@@ -150,35 +152,35 @@ fn open_within(whole: &mut [u32]) -> u32 {
 }
 
 // An opening is accepted, and leaves the words around the middle part.
-fn judged_opening(whole: &mut [u32], spare: &mut [u32], book: &mut [u64]) {
-    copy(whole, spare);
+fn judged_opening(whole: &mut [u32], copied: &mut [u32], book: &mut [u64]) {
+    copy(whole, copied);
     let number = open_within(whole);
     judge(book, number == 0);
-    judge(book, outside_kept(whole, spare));
+    judge(book, outside_kept(whole, copied));
 }
 
 // Calls on an undamaged index.
-fn live(whole: &mut [u32], spare: &mut [u32], book: &mut [u64]) {
+fn live(whole: &mut [u32], copied: &mut [u32], book: &mut [u64]) {
     for n in 0..BEFORE {
-        judged_call(whole, spare, book);
+        judged_call(whole, copied, book);
     }
 }
 
 // Calls on a damaged one, with more damage between them.
-fn damaged(whole: &mut [u32], spare: &mut [u32], book: &mut [u64]) {
+fn damaged(whole: &mut [u32], copied: &mut [u32], book: &mut [u64]) {
     some_damage(whole, book, 8);
     for n in 0..AFTER {
         some_damage(whole, book, 1);
-        judged_call(whole, spare, book);
+        judged_call(whole, copied, book);
     }
 }
 
 // Each round opens the slice that the round before damaged.
-fn rounds(whole: &mut [u32], spare: &mut [u32], book: &mut [u64]) {
+fn rounds(whole: &mut [u32], copied: &mut [u32], book: &mut [u64]) {
     for n in 0..ROUNDS {
-        judged_opening(whole, spare, book);
-        live(whole, spare, book);
-        damaged(whole, spare, book);
+        judged_opening(whole, copied, book);
+        live(whole, copied, book);
+        damaged(whole, copied, book);
     }
 }
 
@@ -209,7 +211,10 @@ fn say_calls(book: &[u64]) {
 // The rest of them.
 fn say_more_calls(book: &[u64]) {
     say(b"takings: ", get(book, at(AT_CALLS, attempts::TAKE)));
-    say(b"withdrawals: ", get(book, at(AT_CALLS, attempts::WITHDRAW)));
+    say(
+        b"withdrawals: ",
+        get(book, at(AT_CALLS, attempts::WITHDRAW)),
+    );
     say(b"reports: ", get(book, at(AT_CALLS, attempts::REPORT)));
     say(b"audits: ", get(book, at(AT_CALLS, attempts::AUDIT)));
     say(
@@ -233,11 +238,11 @@ fn say_checks(book: &[u64]) {
 
 fn main() {
     let mut whole = [0u32; 1000];
-    let mut spare = [0u32; 1000];
+    let mut copied = [0u32; 1000];
     let mut book = [0u64; 128];
     fill(&mut whole, 1515870810);
     seed(&mut book, 2026);
-    rounds(&mut whole, &mut spare, &mut book);
+    rounds(&mut whole, &mut copied, &mut book);
     say_calls(&book);
     say_more_calls(&book);
     say_numbers(&book);

@@ -3,10 +3,9 @@
 use crate::framed::framed;
 use audits::audit::audit;
 use audits::report::read_report;
-use calls::take::Taking;
 use openings::open::open;
+use plain_list::book::at_weight;
 use plain_list::book::point_of;
-use plain_list::book::sheet;
 use plain_list::text::Row;
 use plain_list::verdict::judge;
 use plain_list::verdict::tried;
@@ -15,6 +14,7 @@ use steps::run::run;
 use steps::step::step;
 use steps::withdraw::withdraw;
 use submissions::submit::submit;
+use submissions::take::number_of;
 use submissions::take::take;
 use trial::cells::copy;
 use trial::cells::put_word;
@@ -23,14 +23,6 @@ ghost use Prim.Native.Nat.{_<_};
 
 // A number that no call gives.
 const NEVER: u32 = 99;
-
-// The number of a taking.
-fn number_of(taking: Taking) -> u32 {
-    match taking {
-        Taking::Refused(number) => number,
-        Taking::Given(_) => 0,
-    }
-}
 
 // The number of a report.
 fn report(words: &[u32]) -> u32 {
@@ -51,14 +43,14 @@ fn audited(words: &[u32]) -> u32 {
     }
 }
 
-// The call of a row, and its number. Places and limit of an opening; station, kind, weight of a sheet of grade 12 and curve of a submission;
-// the station of a step, a run, a taking and a withdrawal (D); the bytes there, the length and the kind of a frame; a place and the word that is written there.
+// The call of a row, and its number. Places and limit of an opening; station, kind, weight of a point of grade 12 and curve of a submission;
+// the station of a step, a run, a taking and a withdrawal (D); the bytes there, the length and the kind of a frame; an offset and the word that is written there.
 fn perform(words: &mut [u32], row: Row) -> u32 {
     let n = row.n;
     let letter = row.letter;
     match letter {
         b'O' => open(words, n[1], n[2]),
-        b'S' => submit(words, n[1], n[2], point_of(sheet(12, n[3])), n[4]),
+        b'S' => submit(words, n[1], n[2], point_of(at_weight(12, n[3])), n[4]),
         b'T' => step(words, n[1]),
         b'R' => run(words, n[1]),
         b'K' => number_of(take(words, n[1])),
@@ -78,7 +70,7 @@ fn write(words: &mut [u32], at: u32, value: u32) -> u32 {
 }
 
 // A word as a length.
-fn wide(x: u32) -> usize
+fn length_of(x: u32) -> usize
     ensures { λ r. ⌜ r < 4294967296 ⌝ }
 {
     x as usize
@@ -101,17 +93,17 @@ fn kept_from(row: Row, number: u32) -> usize {
         return usize::MAX;
     }
     let n = row.n;
-    608 + 32 * wide(n[1])
+    608 + 32 * length_of(n[1])
 }
 
 // A row is judged: the number, which stands sixth, and the words kept.
-pub fn judged(words: &mut [u32], spare: &mut [u32], book: &mut [u64], row: Row) {
+pub fn judged(words: &mut [u32], copied: &mut [u32], book: &mut [u64], row: Row) {
     let n = row.n;
     tried(book);
-    copy(words, spare);
-    let number = perform_in(words, wide(n[0]), row);
+    copy(words, copied);
+    let number = perform_in(words, length_of(n[0]), row);
     judge(book, number == n[5]);
-    judge(book, same_from(words, spare, kept_from(row, number)));
+    judge(book, same_from(words, copied, kept_from(row, number)));
 }
 
 // Of each axis the coordinate before the least, the least, the greatest and the one after it.
@@ -163,23 +155,23 @@ fn end_due(n: usize) -> u32 {
 }
 
 // An add of a point at one of the ends, on a new index, which is copied before.
-fn end_number(words: &mut [u32], spare: &mut [u32], n: usize) -> u32 {
+fn end_number(words: &mut [u32], copied: &mut [u32], n: usize) -> u32 {
     open(words, 1, 10);
-    copy(words, spare);
+    copy(words, copied);
     submit(words, 3, 1, point_with(n / 4, end_at(&ENDS, n)), 41)
 }
 
 // The add has its number, and a refused one left every word.
-fn end_judged(words: &mut [u32], spare: &mut [u32], book: &mut [u64], n: usize) {
-    let number = end_number(words, spare, n);
+fn end_judged(words: &mut [u32], copied: &mut [u32], book: &mut [u64], n: usize) {
+    let number = end_number(words, copied, n);
     tried(book);
     judge(book, number == end_due(n));
-    judge(book, (number == 0) | same_from(words, spare, 0));
+    judge(book, (number == 0) | same_from(words, copied, 0));
 }
 
 // Every axis at its ends.
-pub fn ends(words: &mut [u32], spare: &mut [u32], book: &mut [u64]) {
+pub fn ends(words: &mut [u32], copied: &mut [u32], book: &mut [u64]) {
     for n in 0..20usize {
-        end_judged(words, spare, book, n);
+        end_judged(words, copied, book, n);
     }
 }

@@ -3,7 +3,7 @@ use audits::audit::audit;
 use audits::report::read_report;
 use calls::take::Taking;
 use plain_list::book::AT_PLACES;
-use plain_list::book::Spot;
+use plain_list::book::PlainPoint;
 use plain_list::book::as_due;
 use plain_list::book::at_code;
 use plain_list::book::point_of;
@@ -32,7 +32,14 @@ pub fn open(words: &mut [u32], book: &mut [u64], places: u32, limit: u32) {
 }
 
 // A submission.
-pub fn submit(words: &mut [u32], book: &mut [u64], s: u32, kind: u32, p: Spot, curve: u32) -> u32 {
+pub fn submit(
+    words: &mut [u32],
+    book: &mut [u64],
+    s: u32,
+    kind: u32,
+    p: PlainPoint,
+    curve: u32,
+) -> u32 {
     let number = submissions::submit::submit(words, s, kind, point_of(p), curve);
     let due = reference::submit(book, s, kind, p, curve);
     judge(book, number == due);
@@ -74,7 +81,7 @@ pub fn withdraw(words: &mut [u32], book: &mut [u64], s: u32) -> u32 {
     number
 }
 
-// An answer that was taken is the one that the table has. Gives the number of the taking.
+// The answer of a taking is the one that the table has. Gives the number of the taking.
 fn judge_taking(book: &mut [u64], s: u32, taking: Taking) -> u32 {
     match taking {
         Taking::Refused(number) => number,
@@ -128,9 +135,9 @@ pub fn run(words: &mut [u32], book: &mut [u64], s: u32) {
 }
 
 // The answer that waits in a copy of the words, after a run of one station alone, is the table's.
-fn judge_alone(spare: &[u32], book: &mut [u64], s: u32, number: u32) {
+fn judge_alone(copied: &[u32], book: &mut [u64], s: u32, number: u32) {
     let due = reference::due_now(book, s);
-    let right = match read_waiting(spare, s) {
+    let right = match read_waiting(copied, s) {
         Waiting::Nothing => false,
         Waiting::Given(answer) => as_due(answer, due),
     };
@@ -138,17 +145,17 @@ fn judge_alone(spare: &[u32], book: &mut [u64], s: u32, number: u32) {
 }
 
 // An unfinished call, run alone on a copy of the words, is answered within the steps that are allowed, and as the table says.
-fn alone(words: &[u32], spare: &mut [u32], book: &mut [u64], s: u32) {
+fn alone(words: &[u32], copied: &mut [u32], book: &mut [u64], s: u32) {
     if reference::state(book, s) == reference::UNFINISHED {
-        copy(words, spare);
-        let number = steps::run::run(spare, s);
-        judge_alone(spare, book, s, number);
+        copy(words, copied);
+        let number = steps::run::run(copied, s);
+        judge_alone(copied, book, s, number);
     }
 }
 
 // The same for every station.
-pub fn all_alone(words: &[u32], spare: &mut [u32], book: &mut [u64]) {
+pub fn all_alone(words: &[u32], copied: &mut [u32], book: &mut [u64]) {
     for s in 0..8u32 {
-        alone(words, spare, book, s);
+        alone(words, copied, book, s);
     }
 }

@@ -1,8 +1,8 @@
 // Long random histories over all eight stations, from the fixed generator, each event judged by the plain table.
 use crate::drive;
 use plain_list::book::AT_HELD;
-use plain_list::book::Spot;
-use plain_list::list::spot_at;
+use plain_list::book::PlainPoint;
+use plain_list::list::record_point;
 use plain_list::verdict::judge;
 use plain_list::verdict::met;
 use plain_list::verdict::tried;
@@ -63,14 +63,14 @@ pub fn some_grade(book: &mut [u64]) -> u64 {
 }
 
 // A point of the plan; now and then one out of range.
-fn new_spot(book: &mut [u64], plan: Plan) -> Spot {
+fn new_point(book: &mut [u64], plan: Plan) -> PlainPoint {
     let grade = some_grade(book);
     let weight = below(book, plan.weights);
     let moisture = below(book, 3);
     let speed = below(book, 3);
     let draw = below(book, 3);
     let past = below(book, 64) == 0;
-    Spot {
+    PlainPoint {
         grade: grade,
         weight: if past { 100000 } else { weight },
         moisture: moisture,
@@ -85,21 +85,21 @@ fn held_points(kind: u32) -> u64 {
 }
 
 // The point of a record that is held, or a new one.
-fn some_spot(book: &mut [u64], plan: Plan, kind: u32) -> Spot {
+fn some_point(book: &mut [u64], plan: Plan, kind: u32) -> PlainPoint {
     let held = get(book, AT_HELD);
     let again = below(book, 16) < held_points(kind);
     if again & (0 < held) {
         let i = below(book, held);
-        spot_at(book, i)
+        record_point(book, i)
     } else {
-        new_spot(book, plan)
+        new_point(book, plan)
     }
 }
 
 // A random submission.
 fn submit(words: &mut [u32], book: &mut [u64], plan: Plan, s: u32) -> u32 {
     let kind = some_kind(book);
-    let p = some_spot(book, plan, kind);
+    let p = some_point(book, plan, kind);
     let curve = some_curve(book);
     drive::submit(words, book, s, kind, p, curve)
 }
@@ -116,10 +116,10 @@ fn event(words: &mut [u32], book: &mut [u64], plan: Plan) -> u32 {
 }
 
 // A random event with all that is asked after it: a refusal left every word, the audit says yes, and the report is right.
-fn audited_event(words: &mut [u32], spare: &mut [u32], book: &mut [u64], plan: Plan) {
-    copy(words, spare);
+fn audited_event(words: &mut [u32], copied: &mut [u32], book: &mut [u64], plan: Plan) {
+    copy(words, copied);
     let number = event(words, book, plan);
-    judge(book, (number == 0) | same_from(words, spare, 0));
+    judge(book, (number == 0) | same_from(words, copied, 0));
     drive::judge_audit(words, book);
     drive::judge_report(words, book);
 }
@@ -136,51 +136,51 @@ fn is_pause(n: u64, every: u64) -> bool {
 }
 
 // An event of an audited history or of a long one.
-fn either_event(words: &mut [u32], spare: &mut [u32], book: &mut [u64], plan: Plan) {
+fn either_event(words: &mut [u32], copied: &mut [u32], book: &mut [u64], plan: Plan) {
     if plan.audited {
-        audited_event(words, spare, book, plan);
+        audited_event(words, copied, book, plan);
     } else {
         plain_event(words, book, plan);
     }
 }
 
 // Every unfinished call is tried alone, at some events.
-fn pause(words: &mut [u32], spare: &mut [u32], book: &mut [u64], n: u64, every: u64) {
+fn pause(words: &mut [u32], copied: &mut [u32], book: &mut [u64], n: u64, every: u64) {
     if is_pause(n, every) {
-        drive::all_alone(words, spare, book);
+        drive::all_alone(words, copied, book);
     }
 }
 
 // One event of a history.
-fn next_event(words: &mut [u32], spare: &mut [u32], book: &mut [u64], plan: Plan, n: u64) {
+fn next_event(words: &mut [u32], copied: &mut [u32], book: &mut [u64], plan: Plan, n: u64) {
     tried(book);
-    either_event(words, spare, book, plan);
-    pause(words, spare, book, n, plan.alone);
+    either_event(words, copied, book, plan);
+    pause(words, copied, book, n, plan.alone);
 }
 
 // The events of a history that was begun, and an audit at the end.
-pub fn events(words: &mut [u32], spare: &mut [u32], book: &mut [u64], plan: Plan) {
+pub fn events(words: &mut [u32], copied: &mut [u32], book: &mut [u64], plan: Plan) {
     for n in 0..plan.events {
-        next_event(words, spare, book, plan, n);
+        next_event(words, copied, book, plan, n);
     }
     drive::judge_audit(words, book);
 }
 
 // A history from its opening.
-fn history(words: &mut [u32], spare: &mut [u32], book: &mut [u64], plan: Plan, number: u32) {
+fn history(words: &mut [u32], copied: &mut [u32], book: &mut [u64], plan: Plan, number: u32) {
     seed(book, number);
     drive::open(words, book, plan.places, plan.limit);
-    events(words, spare, book, plan);
+    events(words, copied, book, plan);
 }
 
 // Histories of one plan with different seeds.
-fn seeded(words: &mut [u32], spare: &mut [u32], book: &mut [u64], plan: Plan) {
+fn seeded(words: &mut [u32], copied: &mut [u32], book: &mut [u64], plan: Plan) {
     for n in 0..plan.seeds {
-        history(words, spare, book, plan, 1 + n);
+        history(words, copied, book, plan, 1 + n);
     }
 }
 
-// Whether answers of every code but 3 and 4 were taken.
+// Whether takings gave answers of every code but 3 and 4.
 fn most_met(book: &[u64]) -> bool {
     met(book, 1)
         & met(book, 2)
@@ -193,17 +193,17 @@ fn most_met(book: &[u64]) -> bool {
 }
 
 // The same in so many of the words.
-fn seeded_in(words: &mut [u32], spare: &mut [u32], book: &mut [u64], plan: Plan, length: usize) {
+fn seeded_in(words: &mut [u32], copied: &mut [u32], book: &mut [u64], plan: Plan, length: usize) {
     if length <= words.len() {
-        seeded(&mut words[0..length], spare, book, plan);
+        seeded(&mut words[0..length], copied, book, plan);
     }
 }
 
 // Histories of one plan, in exactly the words that its places need, in which answers of the plan's own code must come up, and of every code
-// but no room and changes spent.
-pub fn histories(words: &mut [u32], spare: &mut [u32], book: &mut [u64], plan: Plan) {
+// but those for every place taken and for changes spent.
+pub fn histories(words: &mut [u32], copied: &mut [u32], book: &mut [u64], plan: Plan) {
     let places = plan.places;
-    seeded_in(words, spare, book, plan, 608 + 32 * (places as usize));
+    seeded_in(words, copied, book, plan, 608 + 32 * (places as usize));
     judge(book, most_met(book) & met(book, plan.code));
 }
 

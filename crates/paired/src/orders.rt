@@ -1,7 +1,7 @@
-// Two actors, each with calls or single events in a section of a text: their events in every order.
+// Two parties, each with calls or single events in a section of a text: their events in every order.
 use crate::drive;
 use crate::script;
-use plain_list::book::AT_ACTORS;
+use plain_list::book::AT_PARTIES;
 use plain_list::reference;
 use plain_list::text::Row;
 use plain_list::text::row_of;
@@ -17,7 +17,7 @@ const EVENTS: u32 = 14;
 
 const ORDERS: u32 = 16384;
 
-// The sections of a text with the opening, and with the calls of the one actor and of the other.
+// The sections of a text with the opening, and with the calls of the one party and of the other.
 const SETUP: u32 = 2;
 
 const ONE: u32 = 3;
@@ -25,7 +25,7 @@ const ONE: u32 = 3;
 const OTHER: u32 = 4;
 
 // The next event of a whole call: its submission, a step, or its taking, which counts.
-fn call_event(words: &mut [u32], book: &mut [u64], n: [u32; 9], actor: usize) {
+fn call_event(words: &mut [u32], book: &mut [u64], n: [u32; 9], party: usize) {
     match reference::state(book, n[0]) {
         0 => script::submit(words, book, n),
         1 => {
@@ -33,47 +33,47 @@ fn call_event(words: &mut [u32], book: &mut [u64], n: [u32; 9], actor: usize) {
         }
         _ => {
             script::take(words, book, n);
-            count(book, actor);
+            count(book, party);
         }
     }
 }
 
-// The next row of an actor, whose rows done are counted in a cell.
-fn next_row(book: &[u64], text: &[u8], section: u32, actor: usize) -> Row {
-    row_of(text, section, low(get(book, actor)))
+// The next row of a party, whose rows done are counted in a cell.
+fn next_row(book: &[u64], text: &[u8], section: u32, party: usize) -> Row {
+    row_of(text, section, low(get(book, party)))
 }
 
 // The event of a row that is no whole call. It counts.
-fn single_event(words: &mut [u32], book: &mut [u64], row: Row, actor: usize) {
+fn single_event(words: &mut [u32], book: &mut [u64], row: Row, party: usize) {
     script::event(words, book, row);
-    count(book, actor);
+    count(book, party);
 }
 
-// The next event of an actor; none where all its rows are done.
-fn act(words: &mut [u32], book: &mut [u64], text: &[u8], section: u32, actor: usize) {
-    let row = next_row(book, text, section, actor);
+// The next event of a party; none where all its rows are done.
+fn act(words: &mut [u32], book: &mut [u64], text: &[u8], section: u32, party: usize) {
+    let row = next_row(book, text, section, party);
     let n = row.n;
     let letter = row.letter;
     match letter {
         0 => {}
         b'c' => {
-            call_event(words, book, n, actor);
+            call_event(words, book, n, party);
             drive::judge_event(words, book);
         }
-        _ => single_event(words, book, row, actor),
+        _ => single_event(words, book, row, party),
     }
 }
 
-// An event of the one actor or of the other.
+// An event of the one party or of the other.
 fn either(words: &mut [u32], book: &mut [u64], text: &[u8], first: bool) {
     if first {
-        act(words, book, text, ONE, AT_ACTORS);
+        act(words, book, text, ONE, AT_PARTIES);
     } else {
-        act(words, book, text, OTHER, AT_ACTORS + 1);
+        act(words, book, text, OTHER, AT_PARTIES + 1);
     }
 }
 
-// Events in one order, a bit for each, and then what is left of the other actor and of the one.
+// Events in one order, a bit for each, and then what is left of the other party and of the one.
 fn dealt(words: &mut [u32], book: &mut [u64], text: &[u8], order: u32) {
     for k in 0..74u32 {
         let first = if k < EVENTS {
@@ -85,20 +85,20 @@ fn dealt(words: &mut [u32], book: &mut [u64], text: &[u8], order: u32) {
     }
 }
 
-// Every row of an actor has been done.
-fn judge_done(book: &mut [u64], text: &[u8], section: u32, actor: usize) {
-    let row = next_row(book, text, section, actor);
+// Every row of a party has been done.
+fn judge_done(book: &mut [u64], text: &[u8], section: u32, party: usize) {
+    let row = next_row(book, text, section, party);
     judge(book, row.letter == 0);
 }
 
 // One order, from the opening.
 fn one_order(words: &mut [u32], book: &mut [u64], text: &[u8], order: u32) {
-    put(book, AT_ACTORS, 0);
-    put(book, AT_ACTORS + 1, 0);
+    put(book, AT_PARTIES, 0);
+    put(book, AT_PARTIES + 1, 0);
     setup(words, book, text);
     dealt(words, book, text, order);
-    judge_done(book, text, ONE, AT_ACTORS);
-    judge_done(book, text, OTHER, AT_ACTORS + 1);
+    judge_done(book, text, ONE, AT_PARTIES);
+    judge_done(book, text, OTHER, AT_PARTIES + 1);
 }
 
 // The events before the first turn.

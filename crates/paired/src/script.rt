@@ -2,7 +2,7 @@
 // and the one curve that the answer may have, 0 where it may be any.
 use crate::drive;
 use audits::report::read_report;
-use plain_list::book::sheet;
+use plain_list::book::at_weight;
 use plain_list::reference;
 use plain_list::text::Row;
 use plain_list::verdict::judge;
@@ -11,7 +11,7 @@ use stations::answer::read_waiting;
 
 // The submission of a row.
 pub fn submit(words: &mut [u32], book: &mut [u64], n: [u32; 9]) {
-    let p = sheet(n[2], n[3]);
+    let p = at_weight(n[2], n[3]);
     drive::submit(words, book, n[0], n[1], p, n[4]);
 }
 
@@ -41,7 +41,7 @@ fn call(words: &mut [u32], book: &mut [u64], n: [u32; 9]) {
 fn eight(words: &mut [u32], book: &mut [u64], n: [u32; 9]) {
     let mut weight = n[3];
     for s in 0..8u32 {
-        drive::submit(words, book, s, n[1], sheet(n[2], weight), 1 + s);
+        drive::submit(words, book, s, n[1], at_weight(n[2], weight), 1 + s);
         weight = std::num::wrapping_add_u32(weight, n[4]);
     }
 }

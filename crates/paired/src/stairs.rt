@@ -1,6 +1,6 @@
 // The deepest trees: 4,096 records added in the order of their weight make a stair, in which the way down passes every cut.
 use crate::drive;
-use plain_list::book::sheet;
+use plain_list::book::at_weight;
 use plain_list::verdict::tried;
 
 // The places of the largest index.
@@ -21,7 +21,7 @@ pub fn weight_at(n: u32, falling: bool) -> u32 {
 // One record is added.
 fn add(words: &mut [u32], book: &mut [u64], s: u32, weight: u32, curve: u32) {
     tried(book);
-    drive::submit(words, book, s, 1, sheet(12, weight), curve);
+    drive::submit(words, book, s, 1, at_weight(12, weight), curve);
     drive::run(words, book, s);
     drive::take(words, book, s);
 }

@@ -32,8 +32,8 @@ pub const AT_CASES: usize = 9;
 
 pub const AT_WRONG_CASES: usize = 10;
 
-// How many rows each of two actors has done.
-pub const AT_ACTORS: usize = 11;
+// How many rows each of two parties has done.
+pub const AT_PARTIES: usize = 11;
 
 // Steps dealt to stations with an unfinished call since the last answer or withdrawal, and the most of them in the case under way.
 pub const AT_STRETCH: usize = 13;
@@ -48,11 +48,11 @@ pub const AT_SHARE: usize = 37;
 // Codes lie below this.
 pub const CODES: u32 = 12;
 
-// A place that no book has.
+// An offset that no book has.
 pub const NOWHERE: usize = 1000000;
 
 // A point whose coordinates are counted from the least of their axis, so that none is negative.
-pub struct Spot {
+pub struct PlainPoint {
     pub grade: u64,
     pub weight: u64,
     pub moisture: u64,
@@ -63,12 +63,12 @@ pub struct Spot {
 // The answer that the table expects.
 pub struct Due {
     pub code: u64,
-    pub spot: Spot,
+    pub point: PlainPoint,
     pub curve: u64,
     pub square: u64,
 }
 
-// How often an answer of a code was taken in the case under way.
+// How many takings gave an answer of a code in the case under way.
 pub fn at_code(code: u32) -> usize {
     if code < CODES {
         16 + (code as usize)
@@ -114,9 +114,9 @@ pub fn at_removal(i: u64) -> usize {
 }
 
 // The point at five cells.
-pub fn read_spot(book: &[u64], at: usize) -> Spot {
+pub fn read_point(book: &[u64], at: usize) -> PlainPoint {
     if at < NOWHERE {
-        Spot {
+        PlainPoint {
             grade: get(book, at),
             weight: get(book, at + 1),
             moisture: get(book, at + 2),
@@ -124,12 +124,12 @@ pub fn read_spot(book: &[u64], at: usize) -> Spot {
             draw: get(book, at + 4),
         }
     } else {
-        sheet(0, 0)
+        at_weight(0, 0)
     }
 }
 
 // Writes a point to five cells.
-pub fn put_spot(book: &mut [u64], at: usize, p: Spot) {
+pub fn put_point(book: &mut [u64], at: usize, p: PlainPoint) {
     if at < NOWHERE {
         put(book, at, p.grade);
         put(book, at + 1, p.weight);
@@ -139,9 +139,9 @@ pub fn put_spot(book: &mut [u64], at: usize, p: Spot) {
     }
 }
 
-// A sheet of a grade and a weight, at moisture, speed and draw 0.
-pub fn sheet(grade: u32, weight: u32) -> Spot {
-    Spot {
+// The point of a grade and a weight, at moisture, speed and draw 0.
+pub fn at_weight(grade: u32, weight: u32) -> PlainPoint {
+    PlainPoint {
         grade: less(grade as u64),
         weight: less(weight as u64),
         moisture: 0,
@@ -151,7 +151,7 @@ pub fn sheet(grade: u32, weight: u32) -> Spot {
 }
 
 // Whether two points are one.
-pub fn same_spot(a: Spot, b: Spot) -> bool {
+pub fn same_plain(a: PlainPoint, b: PlainPoint) -> bool {
     (a.grade == b.grade)
         & (a.weight == b.weight)
         & (a.moisture == b.moisture)
@@ -160,7 +160,7 @@ pub fn same_spot(a: Spot, b: Spot) -> bool {
 }
 
 // The point for a call. A number past an axis's range gives a coordinate out of range.
-pub fn point_of(p: Spot) -> Point {
+pub fn point_of(p: PlainPoint) -> Point {
     point_at(
         low(p.grade),
         low(p.weight),
@@ -171,8 +171,8 @@ pub fn point_of(p: Spot) -> Point {
 }
 
 // The point of an answer.
-pub fn spot_of(p: Point) -> Spot {
-    Spot {
+pub fn plain_of(p: Point) -> PlainPoint {
+    PlainPoint {
         grade: word(p, 1) as u64,
         weight: word(p, 2) as u64,
         moisture: word(p, 3) as u64,
@@ -184,7 +184,7 @@ pub fn spot_of(p: Point) -> Spot {
 // Whether an answer is the one expected.
 pub fn as_due(answer: Answer, due: Due) -> bool {
     ((answer.code as u64) == due.code)
-        & same_spot(spot_of(answer.point), due.spot)
+        & same_plain(plain_of(answer.point), due.point)
         & ((answer.curve as u64) == due.curve)
         & (answer.square == due.square)
 }

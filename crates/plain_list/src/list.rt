@@ -1,19 +1,19 @@
 // The list of the records held: each is looked for by a linear scan.
 use crate::book::AT_HELD;
 use crate::book::Due;
-use crate::book::Spot;
+use crate::book::PlainPoint;
 use crate::book::at_record;
-use crate::book::put_spot;
-use crate::book::read_spot;
-use crate::book::same_spot;
+use crate::book::put_point;
+use crate::book::read_point;
+use crate::book::same_plain;
 use trial::cells::get;
 use trial::cells::less;
 use trial::cells::more;
 use trial::cells::put;
 
 // The point of a record.
-pub fn spot_at(book: &[u64], i: u64) -> Spot {
-    read_spot(book, at_record(i, 0))
+pub fn record_point(book: &[u64], i: u64) -> PlainPoint {
+    read_point(book, at_record(i, 0))
 }
 
 // The curve of a record.
@@ -21,35 +21,35 @@ pub fn curve_at(book: &[u64], i: u64) -> u64 {
     get(book, at_record(i, 5))
 }
 
-// The place of a point in the list; the number of records where it is not held.
-pub fn find(book: &[u64], p: Spot) -> u64 {
+// The index of a point in the list; the number of records where it is not held.
+pub fn find(book: &[u64], p: PlainPoint) -> u64 {
     let held = get(book, AT_HELD);
     for i in 0..held {
-        if same_spot(spot_at(book, i), p) {
+        if same_plain(record_point(book, i), p) {
             return i;
         }
     }
     held
 }
 
-// Writes a record at a place of the list.
-fn put_record(book: &mut [u64], i: u64, p: Spot, curve: u64) {
-    put_spot(book, at_record(i, 0), p);
+// Writes a record at an index of the list.
+fn put_record(book: &mut [u64], i: u64, p: PlainPoint, curve: u64) {
+    put_point(book, at_record(i, 0), p);
     put(book, at_record(i, 5), curve);
 }
 
 // A record is added at the end.
-pub fn hold(book: &mut [u64], p: Spot, curve: u64) {
+pub fn hold(book: &mut [u64], p: PlainPoint, curve: u64) {
     let held = get(book, AT_HELD);
     put_record(book, held, p, curve);
     put(book, AT_HELD, more(held));
 }
 
-// A record is taken out, and the last one takes its place.
-pub fn drop_record(book: &mut [u64], p: Spot) {
+// A record is taken out, and the last one comes where it was.
+pub fn drop_record(book: &mut [u64], p: PlainPoint) {
     let i = find(book, p);
     let last = less(get(book, AT_HELD));
-    let moved = spot_at(book, last);
+    let moved = record_point(book, last);
     let curve = curve_at(book, last);
     put_record(book, i, moved, curve);
     put(book, AT_HELD, last);
@@ -66,7 +66,7 @@ fn squared(d: u64) -> u64 {
 }
 
 // The square of two points: the sum of the squared differences on axes 2 to 5.
-fn square(a: Spot, b: Spot) -> u64 {
+fn square(a: PlainPoint, b: PlainPoint) -> u64 {
     let weight = squared(apart(a.weight, b.weight));
     let moisture = squared(apart(a.moisture, b.moisture));
     let speed = squared(apart(a.speed, b.speed));
@@ -77,7 +77,7 @@ fn square(a: Spot, b: Spot) -> u64 {
 }
 
 // Whether a point is lower than another, axis by axis.
-fn lower(a: Spot, b: Spot) -> bool {
+fn lower(a: PlainPoint, b: PlainPoint) -> bool {
     if a.grade != b.grade {
         return a.grade < b.grade;
     }
@@ -94,7 +94,7 @@ fn lower(a: Spot, b: Spot) -> bool {
 }
 
 // Whether a point wins a tie: it is the heavier, or of one weight and the lower.
-fn wins(a: Spot, b: Spot) -> bool {
+fn wins(a: PlainPoint, b: PlainPoint) -> bool {
     if a.weight != b.weight {
         return b.weight < a.weight;
     }
@@ -102,18 +102,18 @@ fn wins(a: Spot, b: Spot) -> bool {
 }
 
 // Whether a record at a square is to be taken for the best so far: it is nearer, or as near and wins the tie.
-fn better(best: Due, p: Spot, far: u64) -> bool {
-    (best.code == 9) | (far < best.square) | ((far == best.square) & wins(p, best.spot))
+fn better(best: Due, p: PlainPoint, far: u64) -> bool {
+    (best.code == 9) | (far < best.square) | ((far == best.square) & wins(p, best.point))
 }
 
 // The best so far, or a record of the target's grade that is better.
-fn considered(book: &[u64], i: u64, target: Spot, best: Due) -> Due {
-    let p = spot_at(book, i);
+fn considered(book: &[u64], i: u64, target: PlainPoint, best: Due) -> Due {
+    let p = record_point(book, i);
     let far = square(target, p);
     if (p.grade == target.grade) & better(best, p, far) {
         Due {
             code: 8,
-            spot: p,
+            point: p,
             curve: curve_at(book, i),
             square: far,
         }
@@ -123,10 +123,10 @@ fn considered(book: &[u64], i: u64, target: Spot, best: Due) -> Due {
 }
 
 // The answer of a nearest for the records held now.
-pub fn nearest(book: &[u64], target: Spot) -> Due {
+pub fn nearest(book: &[u64], target: PlainPoint) -> Due {
     let mut best = Due {
         code: 9,
-        spot: target,
+        point: target,
         curve: 0,
         square: 0,
     };

@@ -6,10 +6,10 @@ use crate::book::AT_HELD;
 use crate::book::AT_LIMIT;
 use crate::book::AT_PLACES;
 use crate::book::Due;
-use crate::book::Spot;
+use crate::book::PlainPoint;
 use crate::book::at_station;
-use crate::book::put_spot;
-use crate::book::read_spot;
+use crate::book::put_point;
+use crate::book::read_point;
 use crate::list::curve_at;
 use crate::list::drop_record;
 use crate::list::find;
@@ -56,7 +56,7 @@ pub fn taken(book: &[u64]) -> u64 {
 }
 
 // Whether every coordinate is in range.
-fn in_range(p: Spot) -> bool {
+fn in_range(p: PlainPoint) -> bool {
     (p.grade < 9999)
         & (p.weight < 100000)
         & (p.moisture <= 10000)
@@ -65,7 +65,7 @@ fn in_range(p: Spot) -> bool {
 }
 
 // The first of questions 7 to 9 that a call fails, or 0.
-fn call_question(kind: u32, p: Spot, curve: u32) -> u32 {
+fn call_question(kind: u32, p: PlainPoint, curve: u32) -> u32 {
     if (kind < 1) | (4 < kind) {
         return 7;
     }
@@ -79,17 +79,17 @@ fn call_question(kind: u32, p: Spot, curve: u32) -> u32 {
 }
 
 // An answer with no record and no square.
-fn plain(code: u64, p: Spot, curve: u64) -> Due {
+fn plain(code: u64, p: PlainPoint, curve: u64) -> Due {
     Due {
         code: code,
-        spot: p,
+        point: p,
         curve: curve,
         square: 0,
     }
 }
 
 // The answer of an add at this moment.
-fn add_due(book: &[u64], p: Spot, curve: u64) -> Due {
+fn add_due(book: &[u64], p: PlainPoint, curve: u64) -> Due {
     let i = find(book, p);
     if i < get(book, AT_HELD) {
         return plain(2, p, curve_at(book, i));
@@ -104,7 +104,7 @@ fn add_due(book: &[u64], p: Spot, curve: u64) -> Due {
 }
 
 // The answer of a remove at this moment.
-fn remove_due(book: &[u64], p: Spot) -> Due {
+fn remove_due(book: &[u64], p: PlainPoint) -> Due {
     let i = find(book, p);
     if get(book, AT_HELD) <= i {
         return plain(6, p, 0);
@@ -116,7 +116,7 @@ fn remove_due(book: &[u64], p: Spot) -> Due {
 }
 
 // The answer of a contains at this moment.
-fn contains_due(book: &[u64], p: Spot) -> Due {
+fn contains_due(book: &[u64], p: PlainPoint) -> Due {
     let i = find(book, p);
     if i < get(book, AT_HELD) {
         plain(7, p, curve_at(book, i))
@@ -129,7 +129,7 @@ fn contains_due(book: &[u64], p: Spot) -> Due {
 pub fn read_due(book: &[u64], s: u32) -> Due {
     Due {
         code: get(book, at_station(s, 8)),
-        spot: read_spot(book, at_station(s, 9)),
+        point: read_point(book, at_station(s, 9)),
         curve: get(book, at_station(s, 14)),
         square: get(book, at_station(s, 15)),
     }
@@ -138,14 +138,14 @@ pub fn read_due(book: &[u64], s: u32) -> Due {
 // Sets an answer down.
 fn put_due(book: &mut [u64], s: u32, due: Due) {
     put(book, at_station(s, 8), due.code);
-    put_spot(book, at_station(s, 9), due.spot);
+    put_point(book, at_station(s, 9), due.point);
     put(book, at_station(s, 14), due.curve);
     put(book, at_station(s, 15), due.square);
 }
 
 // The answer that a station's unfinished call gets if it is answered now; a nearest has it from its submission.
 pub fn due_now(book: &[u64], s: u32) -> Due {
-    let p = read_spot(book, at_station(s, 2));
+    let p = read_point(book, at_station(s, 2));
     match kind(book, s) {
         1 => add_due(book, p, get(book, at_station(s, 7))),
         2 => remove_due(book, p),
@@ -157,12 +157,12 @@ pub fn due_now(book: &[u64], s: u32) -> Due {
 // A change takes effect.
 fn apply(book: &mut [u64], due: Due) {
     if due.code == 1 {
-        hold(book, due.spot, due.curve);
+        hold(book, due.point, due.curve);
         count(book, AT_CHANGES);
         return;
     }
     if due.code == 5 {
-        drop_record(book, due.spot);
+        drop_record(book, due.point);
         set_down(book);
         count(book, AT_CHANGES);
     }
@@ -183,10 +183,10 @@ fn answer(book: &mut [u64], s: u32) {
 }
 
 // The call is written at its station. The answer of a nearest is for the records held now.
-fn write_call(book: &mut [u64], s: u32, kind: u32, p: Spot, curve: u32) {
+fn write_call(book: &mut [u64], s: u32, kind: u32, p: PlainPoint, curve: u32) {
     put(book, at_station(s, 0), UNFINISHED);
     put(book, at_station(s, 1), kind as u64);
-    put_spot(book, at_station(s, 2), p);
+    put_point(book, at_station(s, 2), p);
     put(book, at_station(s, 7), curve as u64);
     if kind == 4 {
         let due = nearest(book, p);
@@ -195,7 +195,7 @@ fn write_call(book: &mut [u64], s: u32, kind: u32, p: Spot, curve: u32) {
 }
 
 // A submission: the number of the first of questions 5 to 9 that fails, or 0.
-pub fn submit(book: &mut [u64], s: u32, kind: u32, p: Spot, curve: u32) -> u32 {
+pub fn submit(book: &mut [u64], s: u32, kind: u32, p: PlainPoint, curve: u32) -> u32 {
     if 8 <= s {
         return 5;
     }
@@ -231,7 +231,7 @@ pub fn withdraw(book: &mut [u64], s: u32) -> u32 {
     if state(book, s) != UNFINISHED {
         return 10;
     }
-    let due = plain(11, read_spot(book, at_station(s, 2)), 0);
+    let due = plain(11, read_point(book, at_station(s, 2)), 0);
     wait(book, s, due);
     0
 }

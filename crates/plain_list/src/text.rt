@@ -1,4 +1,4 @@
-// The text of a case. Bars part its sections: its name, what it counts, its rows, and where two actors meet the rows of each. A row is a
+// The text of a case. Bars part its sections: its name, what it counts, its rows, and where two parties meet the rows of each. A row is a
 // letter and up to nine numbers, and ends with a semicolon.
 
 // A row: its letter, 0 where there is no such row, and its numbers, 0 where they are left out.
@@ -7,8 +7,8 @@ pub struct Row {
     pub n: [u32; 9],
 }
 
-// A place in a text: sections and rows passed.
-struct Place {
+// A position in a text: sections and rows passed.
+struct Position {
     section: u32,
     row: u32,
 }
@@ -21,13 +21,13 @@ struct Reading {
     ended: bool,
 }
 
-// The byte at a place, 0 past the end.
+// The byte at an offset, 0 past the end.
 fn byte(text: &[u8], at: usize) -> u8 {
     if at < text.len() { text[at] } else { 0 }
 }
 
 // A byte as a number of 64 bits.
-fn wide(x: u8) -> u64 {
+fn extended(x: u8) -> u64 {
     x as u64
 }
 
@@ -36,40 +36,40 @@ fn more(x: u32) -> u32 {
     if x < 1000000 { x + 1 } else { x }
 }
 
-// The place after a byte.
-fn past(place: Place, byte: u8) -> Place {
+// The position after a byte.
+fn past(position: Position, byte: u8) -> Position {
     match byte {
-        b'|' => Place {
-            section: more(place.section),
+        b'|' => Position {
+            section: more(position.section),
             row: 0,
         },
-        b';' => Place {
-            section: place.section,
-            row: more(place.row),
+        b';' => Position {
+            section: position.section,
+            row: more(position.row),
         },
-        _ => place,
+        _ => position,
     }
 }
 
 // Where a row begins; the end of the text where there is none.
 pub fn start_of(text: &[u8], section: u32, row: u32) -> usize {
-    let mut place = Place { section: 0, row: 0 };
+    let mut position = Position { section: 0, row: 0 };
     for i in 0..text.len() {
-        if (place.section == section) & (place.row == row) {
+        if (position.section == section) & (position.row == row) {
             return i;
         }
-        place = past(place, byte(text, i));
+        position = past(position, byte(text, i));
     }
     text.len()
 }
 
 // The number of a row after one more digit.
 fn grown(x: u32, digit: u8) -> u32 {
-    let d = wide(digit) % 16;
+    let d = extended(digit) % 16;
     ((10 * (x as u64) + d) % 4294967296) as u32
 }
 
-// The numbers of a row after one more digit of the number at a place.
+// The numbers of a row after one more digit of the number at an index.
 fn with_digit(n: [u32; 9], at: usize, digit: u8) -> [u32; 9] {
     let mut m = n;
     if at < 9 {
@@ -89,7 +89,7 @@ fn begun_after(begun: usize, digit: bool) -> usize {
     begun + 1
 }
 
-// The place of the last number begun.
+// The index of the last number begun.
 fn last(begun: usize) -> usize {
     if 0 < begun { begun - 1 } else { 0 }
 }
@@ -143,7 +143,7 @@ fn read(r: Reading, byte: u8) -> Reading {
     }
 }
 
-// The row that begins at a place.
+// The row that begins at an offset.
 fn row_from(text: &[u8], start: usize) -> Row {
     let mut r = Reading {
         row: Row {

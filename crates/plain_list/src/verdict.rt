@@ -24,7 +24,7 @@ pub fn tried(book: &mut [u64]) {
     count(book, AT_TRIED);
 }
 
-// Whether answers of a code were taken in the case under way.
+// Whether takings gave answers of a code in the case under way.
 pub fn met(book: &[u64], code: u32) -> bool {
     0 < get(book, at_code(code))
 }

@@ -5,7 +5,7 @@ use mathlib.Core.Bool.{true, false}
 use Prim.Native.Nat.{ℕ}
 use lib.IntN.{ℤ, pos, negsuc}
 use Rattle.points.specs.declared.point.Point.{Point}
-use Rattle.points.specs.Point.{placeOf, rangeOf, coordinateOf, withinRange, onAxis, inRange}
+use Rattle.points.specs.Point.{indexOf, rangeOf, coordinateOf, withinRange, onAxis, inRange}
 use Rattle.points.specs.Signed.{cappedOf}
 use Rattle.points.specs.Square.{gapOf, topped, squareOf}
 use Rattle.points.specs.Order.{byAxis, orderOf, tieOf}
@@ -13,46 +13,46 @@ use Rattle.points.specs.Choice.{chosenOver, farGap, excluded}
 use Rattle.points.specs.Cut.{widerOf, spreadOf, widestOf, cutOf, goesLeft}
 
 -- grade 12, 80 g/m², 5.5 %, 900 m/min, with the weight, speed and draw given
-abbrev pub sheet : ℤ → ℤ → ℤ → Point
-sheet weight speed draw = record { grade = pos 12; weight = weight; moisture = pos 550; speed = speed; draw = draw }
+abbrev pub pointWith : ℤ → ℤ → ℤ → Point
+pointWith weight speed draw = record { grade = pos 12; weight = weight; moisture = pos 550; speed = speed; draw = draw }
 
 -- P1: draws −3 and 4, else equal: square 49
-pub p1 : squareOf (sheet (pos 8000) (pos 9000) (negsuc 2)) (sheet (pos 8000) (pos 9000) (pos 4)) ≡ 49
+pub p1 : squareOf (pointWith (pos 8000) (pos 9000) (negsuc 2)) (pointWith (pos 8000) (pos 9000) (pos 4)) ≡ 49
 unfolding squareOf topped gapOf coordinateOf
 p1 = refl
 
 -- P2: cut of 3 and 4: 3 left, 4 right
-pub p2 : (goesLeft (cutOf (sheet (pos 8000) (pos 9000) (pos 3)) (sheet (pos 8000) (pos 9000) (pos 4))) (sheet (pos 8000) (pos 9000) (pos 3)) ≡ true)
-    × (goesLeft (cutOf (sheet (pos 8000) (pos 9000) (pos 3)) (sheet (pos 8000) (pos 9000) (pos 4))) (sheet (pos 8000) (pos 9000) (pos 4)) ≡ false)
+pub p2 : (goesLeft (cutOf (pointWith (pos 8000) (pos 9000) (pos 3)) (pointWith (pos 8000) (pos 9000) (pos 4))) (pointWith (pos 8000) (pos 9000) (pos 3)) ≡ true)
+    × (goesLeft (cutOf (pointWith (pos 8000) (pos 9000) (pos 3)) (pointWith (pos 8000) (pos 9000) (pos 4))) (pointWith (pos 8000) (pos 9000) (pos 4)) ≡ false)
 unfolding goesLeft cutOf cappedOf widestOf widerOf spreadOf gapOf coordinateOf
 p2 = (refl, refl)
 
 -- P3: cut of −4 and −3: −4 left, −3 right
-pub p3 : (goesLeft (cutOf (sheet (pos 8000) (pos 9000) (negsuc 3)) (sheet (pos 8000) (pos 9000) (negsuc 2))) (sheet (pos 8000) (pos 9000) (negsuc 3)) ≡ true)
-    × (goesLeft (cutOf (sheet (pos 8000) (pos 9000) (negsuc 3)) (sheet (pos 8000) (pos 9000) (negsuc 2))) (sheet (pos 8000) (pos 9000) (negsuc 2)) ≡ false)
+pub p3 : (goesLeft (cutOf (pointWith (pos 8000) (pos 9000) (negsuc 3)) (pointWith (pos 8000) (pos 9000) (negsuc 2))) (pointWith (pos 8000) (pos 9000) (negsuc 3)) ≡ true)
+    × (goesLeft (cutOf (pointWith (pos 8000) (pos 9000) (negsuc 3)) (pointWith (pos 8000) (pos 9000) (negsuc 2))) (pointWith (pos 8000) (pos 9000) (negsuc 2)) ≡ false)
 unfolding goesLeft cutOf cappedOf widestOf widerOf spreadOf gapOf coordinateOf
 p3 = (refl, refl)
 
 -- P4: points equal but for weight +5 and speed +5: axis 2
-pub p4 : cutOf (sheet (pos 8000) (pos 9000) (pos 0)) (sheet (pos 8005) (pos 9005) (pos 0)) .axis ≡ 2
+pub p4 : cutOf (pointWith (pos 8000) (pos 9000) (pos 0)) (pointWith (pos 8005) (pos 9005) (pos 0)) .axis ≡ 2
 unfolding cutOf widestOf widerOf spreadOf gapOf coordinateOf
 p4 = refl
 
 -- a far side at the distance of the best may hold the record that wins the tie: target 9,000, best 8,990, and beyond the cut, from 9,010 on, the heavier
-pub tie-kept : (farGap (record { axis = 2; sum = pos 18020 }) (sheet (pos 9000) (pos 9000) (pos 0)) ≡ 20)
-    × (excluded (record { axis = 2; sum = pos 18020 }) (sheet (pos 9000) (pos 9000) (pos 0)) 100 ≡ false)
-    × (chosenOver (sheet (pos 9000) (pos 9000) (pos 0)) (sheet (pos 9010) (pos 9000) (pos 0)) (sheet (pos 8990) (pos 9000) (pos 0)) ≡ true)
+pub tie-kept : (farGap (record { axis = 2; sum = pos 18020 }) (pointWith (pos 9000) (pos 9000) (pos 0)) ≡ 20)
+    × (excluded (record { axis = 2; sum = pos 18020 }) (pointWith (pos 9000) (pos 9000) (pos 0)) 100 ≡ false)
+    × (chosenOver (pointWith (pos 9000) (pos 9000) (pos 0)) (pointWith (pos 9010) (pos 9000) (pos 0)) (pointWith (pos 8990) (pos 9000) (pos 0)) ≡ true)
 unfolding excluded farGap goesLeft chosenOver squareOf topped gapOf tieOf orderOf byAxis coordinateOf
 tie-kept = (refl, refl, refl)
 
 -- the same to the left: target speed 9,000, best 9,010, and beyond the cut, up to 8,990, the lower of two of one weight
-pub tie-kept-left : (farGap (record { axis = 4; sum = pos 17981 }) (sheet (pos 8000) (pos 9000) (pos 0)) ≡ 20)
-    × (excluded (record { axis = 4; sum = pos 17981 }) (sheet (pos 8000) (pos 9000) (pos 0)) 100 ≡ false)
-    × (chosenOver (sheet (pos 8000) (pos 9000) (pos 0)) (sheet (pos 8000) (pos 8990) (pos 0)) (sheet (pos 8000) (pos 9010) (pos 0)) ≡ true)
+pub tie-kept-left : (farGap (record { axis = 4; sum = pos 17981 }) (pointWith (pos 8000) (pos 9000) (pos 0)) ≡ 20)
+    × (excluded (record { axis = 4; sum = pos 17981 }) (pointWith (pos 8000) (pos 9000) (pos 0)) 100 ≡ false)
+    × (chosenOver (pointWith (pos 8000) (pos 9000) (pos 0)) (pointWith (pos 8000) (pos 8990) (pos 0)) (pointWith (pos 8000) (pos 9010) (pos 0)) ≡ true)
 unfolding excluded farGap goesLeft chosenOver squareOf topped gapOf tieOf orderOf byAxis coordinateOf
 tie-kept-left = (refl, refl, refl)
 
 -- the ends of the ranges: a draw of −2,000 is in, one of −2,001 is not
-pub least-draw : (inRange (sheet (pos 1) (pos 0) (negsuc 1999)) ≡ true) × (inRange (sheet (pos 1) (pos 0) (negsuc 2000)) ≡ false)
-unfolding inRange onAxis withinRange rangeOf placeOf coordinateOf
+pub least-draw : (inRange (pointWith (pos 1) (pos 0) (negsuc 1999)) ≡ true) × (inRange (pointWith (pos 1) (pos 0) (negsuc 2000)) ≡ false)
+unfolding inRange onAxis withinRange rangeOf indexOf coordinateOf
 least-draw = (refl, refl)

@@ -10,7 +10,7 @@ use lib.Signed.{leZ}
 use borrow.Author.Tests.{ne-eqb, leb-true, le-leb}
 use Rattle.points.specs.declared.point.Point.{Point}
 use Rattle.points.specs.declared.point.Range.{Range}
-use Rattle.points.specs.Point.{placeOf, rangeOf, coordinateOf, withinRange, onAxis, inRange}
+use Rattle.points.specs.Point.{indexOf, rangeOf, coordinateOf, withinRange, onAxis, inRange}
 use Rattle.points.specs.Word.{sumRangeOf}
 use Rattle.points.proofs.Tests.{no!, and-l, and-r, and-i}
 use Rattle.points.proofs.IntegerLaws.{raise, Near, near-add, raise-add, leZ-raise}
@@ -68,9 +68,9 @@ module _ (axis : ℕ) (one : axis ≡ 1 → ⊥) (two : axis ≡ 2 → ⊥) (thr
       go (suc (suc (suc (suc zero)))) a b c d = absurd (d refl)
       go (suc (suc (suc (suc (suc n))))) a b c d = s n
 
-  pub place-rest : placeOf axis ≡ 4
-  unfolding placeOf
-  place-rest = last-axis placeOf 4 refl (λ n. refl)
+  pub index-rest : indexOf axis ≡ 4
+  unfolding indexOf
+  index-rest = last-axis indexOf 4 refl (λ n. refl)
 
 -- a coordinate, as one of two at each axis
 pub coordinate-picked : (p : Point) (axis : ℕ)
@@ -85,18 +85,18 @@ coordinate-picked p (suc (suc (suc (suc (suc n))))) =
     let axis = suc (suc (suc (suc (suc n)))) in
     rw (ne-eqb axis 1 (λ e. omega arith), ne-eqb axis 2 (λ e. omega arith), ne-eqb axis 3 (λ e. omega arith), ne-eqb axis 4 (λ e. omega arith))
 
-pub place-lt : (axis : ℕ) → placeOf axis < 5
-unfolding placeOf
-place-lt zero = lit< tt
-place-lt (suc zero) = lit< tt
-place-lt (suc (suc zero)) = lit< tt
-place-lt (suc (suc (suc zero))) = lit< tt
-place-lt (suc (suc (suc (suc zero)))) = lit< tt
-place-lt (suc (suc (suc (suc (suc n))))) = lit< tt
+pub index-lt : (axis : ℕ) → indexOf axis < 5
+unfolding indexOf
+index-lt zero = lit< tt
+index-lt (suc zero) = lit< tt
+index-lt (suc (suc zero)) = lit< tt
+index-lt (suc (suc (suc zero))) = lit< tt
+index-lt (suc (suc (suc (suc zero)))) = lit< tt
+index-lt (suc (suc (suc (suc (suc n))))) = lit< tt
 
 -- every axis's range is sound
 pub range-sound : (axis : ℕ) → Sound reach (rangeOf axis)
-unfolding rangeOf placeOf
+unfolding rangeOf indexOf
 range-sound zero = record { low = record { near = lit< tt }; high = record { near = lit< tt }; order = lit≤ tt }
 range-sound (suc zero) = record { low = record { near = lit< tt }; high = record { near = lit< tt }; order = lit≤ tt }
 range-sound (suc (suc zero)) = record { low = record { near = lit< tt }; high = record { near = lit< tt }; order = lit≤ tt }
@@ -119,9 +119,9 @@ sum-range-sound axis =
 
 -- any word of an axis but 0 to 3 is taken for that of axis 5
 pub sum-range-rest : (axis : ℕ) → (axis ≡ 0 → ⊥) → (axis ≡ 1 → ⊥) → (axis ≡ 2 → ⊥) → (axis ≡ 3 → ⊥) → sumRangeOf (axis + 1) ≡ sumRangeOf 5
-unfolding sumRangeOf rangeOf placeOf
+unfolding sumRangeOf rangeOf indexOf
 sum-range-rest axis one two three four =
-    rw (place-rest (axis + 1) (λ e. one (omega arith)) (λ e. two (omega arith)) (λ e. three (omega arith)) (λ e. four (omega arith)))
+    rw (index-rest (axis + 1) (λ e. one (omega arith)) (λ e. two (omega arith)) (λ e. three (omega arith)) (λ e. four (omega arith)))
 
 -- the five tests of a point in range
 record Tests (p : Point) : Type 0 where
@@ -146,7 +146,7 @@ tests p e =
 
 -- a point in range is so on every axis
 pub in-range-axis : (p : Point) → inRange p ≡ true → (axis : ℕ) → onAxis p axis ≡ true
-unfolding onAxis coordinateOf rangeOf placeOf
+unfolding onAxis coordinateOf rangeOf indexOf
 in-range-axis p e zero = tests p e .draw
 in-range-axis p e (suc zero) = tests p e .grade
 in-range-axis p e (suc (suc zero)) = tests p e .weight

@@ -8,7 +8,7 @@ use native.Mathlib.Nat.{mul-le-mul}
 use lib.IntN.{ℤ, natAbs, _-ℤ_}
 use lib.Signed.{mag}
 use Rattle.points.specs.declared.point.Point.{Point}
-use Rattle.points.specs.Point.{placeOf, rangeOf, coordinateOf, inRange}
+use Rattle.points.specs.Point.{indexOf, rangeOf, coordinateOf, inRange}
 use Rattle.points.specs.Square.{gapOf, topped, squareOf}
 use Rattle.points.proofs.IntegerLaws.{raise, Near, near-self, apart-raise}
 use Rattle.points.proofs.PointLaws.{reach, axis-within}
@@ -55,7 +55,7 @@ unfolding squareOf
 square-turn a b = rw (gap-turn a b 2, gap-turn a b 3, gap-turn a b 4, gap-turn a b 5)
 
 plain-le : (a b : Point) → inRange a ≡ true → inRange b ≡ true → plain a b ≤ 11015800001
-unfolding rangeOf placeOf
+unfolding rangeOf indexOf
 plain-le a b e f =
     let weight : gapOf a b 2 ≤ 99999 = omega (arith, gap-le a b e f 2) in
     let moisture : gapOf a b 3 ≤ 10000 = omega (arith, gap-le a b e f 3) in

@@ -12,7 +12,7 @@ use lib.Signed.{leZ}
 use Rattle.points.specs.declared.point.Point.{Point}
 use Rattle.points.specs.declared.point.Range.{Range}
 use Rattle.points.specs.declared.cut.Cut.{Cut}
-use Rattle.points.specs.Point.{placeOf, rangeOf, withinRange, coordinateOf, onAxis, inRange}
+use Rattle.points.specs.Point.{indexOf, rangeOf, withinRange, coordinateOf, onAxis, inRange}
 use Rattle.points.specs.Word.{NONE, outside, storedIn, loadedIn, sumRangeOf, spanIn, spanOf, sumSpanOf, wordOf, coordinateAt, pointAt, isAxis, cutInRange, axisWordOf, sumWordOf, cutAt}
 use Rattle.points.proofs.Tests.{and-l, and-r, leb-cong}
 use Rattle.points.proofs.IntegerLaws.{raise, Near, near-add, near-raise, near-more, near-less, near-lt, raise-add, raise-inj, leZ-raise, apart-raise}
@@ -139,11 +139,11 @@ module _ (axis : ℕ) where
 
 -- the words of grades and moistures, by number
 pub grade-span : spanOf 1 ≡ 9998
-unfolding spanIn rangeOf placeOf
+unfolding spanIn rangeOf indexOf
 grade-span = refl
 
 pub moisture-span : spanOf 3 ≡ 10000
-unfolding spanIn rangeOf placeOf
+unfolding spanIn rangeOf indexOf
 moisture-span = refl
 
 -- in range exactly if each stored word is at most high − low

@@ -3,8 +3,8 @@ use crate::cut::Cut;
 use crate::order::by_axis;
 use crate::order::tie;
 use crate::point::Point;
+use crate::signed::extended;
 use crate::signed::twice;
-use crate::signed::wide;
 use crate::square::square;
 ghost use mathlib.Core.Path.{_≡_};
 ghost use Prim.Native.Nat.{_*_};
@@ -38,7 +38,7 @@ fn far_gap(cut: Cut, target: Point) -> u64
     ensures { λ r. ⌜ r ≡ farGap cut target ⌝ }
 {
     let double = twice(target.coordinate(cut.axis));
-    let sum = wide(cut.sum);
+    let sum = extended(cut.sum);
     if double < sum {
         (sum - double) as u64
     } else {

@@ -1,8 +1,8 @@
 // Cuts of the tree: the cut between two points, and the side on which a cut sends a point.
 use crate::point::Point;
 use crate::signed::capped_sum;
+use crate::signed::extended;
 use crate::signed::twice;
-use crate::signed::wide;
 use crate::square::gap;
 ghost use mathlib.Core.Path.{_≡_};
 ghost use Rattle.points.specs.Cut.{widerOf, spreadOf, widestOf, cutOf, goesLeft};
@@ -66,5 +66,5 @@ pub fn cut_between(a: Point, b: Point) -> Cut
 pub fn goes_left(cut: Cut, p: Point) -> bool
     ensures { λ r. ⌜ r ≡ goesLeft cut p ⌝ }
 {
-    twice(p.coordinate(cut.axis)) < wide(cut.sum)
+    twice(p.coordinate(cut.axis)) < extended(cut.sum)
 }

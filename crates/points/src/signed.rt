@@ -5,7 +5,7 @@ ghost use lib.IntN.{natAbs, _+ℤ_, _-ℤ_};
 ghost use Rattle.points.specs.Signed.{cappedOf};
 
 // The same number in 64 bits.
-pub fn wide(x: i32) -> i64
+pub fn extended(x: i32) -> i64
     ensures { λ r. ⌜ r ≡ x ⌝ }
 {
     x as i64
@@ -15,7 +15,7 @@ pub fn wide(x: i32) -> i64
 pub fn twice(x: i32) -> i64
     ensures { λ r. ⌜ r ≡ x +ℤ x ⌝ }
 {
-    let a = wide(x);
+    let a = extended(x);
     a + a
 }
 
@@ -23,8 +23,8 @@ pub fn twice(x: i32) -> i64
 pub fn apart(x: i32, y: i32) -> u64
     ensures { λ r. ⌜ r ≡ natAbs (x -ℤ y) ⌝ }
 {
-    let a = wide(x);
-    let b = wide(y);
+    let a = extended(x);
+    let b = extended(y);
     if a < b {
         (b - a) as u64
     } else {
@@ -44,7 +44,7 @@ pub fn squared_apart(x: i32, y: i32) -> u64
 pub fn capped_sum(x: i32, y: i32) -> i32
     ensures { λ r. ⌜ r ≡ cappedOf (x +ℤ y) ⌝ }
 {
-    let sum = wide(x) + wide(y);
+    let sum = extended(x) + extended(y);
     if sum < -2147483648 {
         return -2147483648;
     }

@@ -3,7 +3,7 @@ use crate::cut::Cut;
 use crate::point::Point;
 use crate::point::Range;
 use crate::point::range_on;
-use crate::signed::wide;
+use crate::signed::extended;
 ghost use mathlib.Core.Path.{_≡_};
 ghost use Prim.Native.Nat.{_+_};
 ghost use lib.Dec.{leb};
@@ -15,7 +15,7 @@ fn stored_in(r: Range, x: i32) -> u32
     ensures { λ w. ⌜ w ≡ storedIn r x ⌝ }
 {
     if r.holds(x) {
-        (wide(x) - wide(r.low)) as u32
+        (extended(x) - extended(r.low)) as u32
     } else {
         4294967295
     }
@@ -25,8 +25,8 @@ fn stored_in(r: Range, x: i32) -> u32
 fn loaded_in(r: Range, w: u32) -> i32
     ensures { λ x. ⌜ x ≡ loadedIn r w ⌝ }
 {
-    let x = wide(r.low) + w as i64;
-    if x <= wide(r.high) {
+    let x = extended(r.low) + w as i64;
+    if x <= extended(r.high) {
         x as i32
     } else {
         2147483647

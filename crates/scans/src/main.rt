@@ -1,9 +1,9 @@
 // Moisture readings from standard input, one to a line, and on standard output what the window of the last ones tells after each. Figures
 // and refusals are those that `window` gives.
 mod answer;
-mod line;
+mod content;
 
-use crate::line::Line;
+use crate::content::Content;
 use libc::STDERR_FILENO;
 use libc::STDIN_FILENO;
 use window::begin::begin;
@@ -17,14 +17,14 @@ struct Scanning {
     window: Window,
     spread: u32,
     ordinal: u64,
-    line: Line,
+    content: Content,
     comment: bool,
     over: bool,
     written: bool,
 }
 
 // Before the first byte. No window is begun: one of zeros refuses every reading.
-fn fresh(written: bool) -> Scanning {
+fn at_start(written: bool) -> Scanning {
     let window = Window {
         length: 0,
         present: 0,
@@ -34,7 +34,7 @@ fn fresh(written: bool) -> Scanning {
         window: window,
         spread: 0,
         ordinal: 1,
-        line: Line::Blank,
+        content: Content::Blank,
         comment: false,
         over: false,
         written: written,
@@ -42,13 +42,13 @@ fn fresh(written: bool) -> Scanning {
 }
 
 // The line under way says this so far, and a comment has begun in it or not.
-fn with_line(scan: Scanning, line: Line, comment: bool) -> Scanning {
+fn with_content(scan: Scanning, content: Content, comment: bool) -> Scanning {
     let window = scan.window;
     Scanning {
         window: window,
         spread: scan.spread,
         ordinal: scan.ordinal,
-        line: line,
+        content: content,
         comment: comment,
         over: scan.over,
         written: scan.written,
@@ -91,19 +91,19 @@ fn with_unclear(scan: Scanning) -> Scanning {
 
 // What the line under way says is done.
 fn answered(scan: Scanning) -> Scanning {
-    let line = scan.line;
-    let whole = line::after_word(line);
+    let content = scan.content;
+    let whole = content::after_word(content);
     match whole {
-        Line::Blank => scan,
-        Line::Reading(reading) => with_reading(scan, reading),
-        Line::Window(length, spread) => with_window(scan, length, spread),
+        Content::Blank => scan,
+        Content::Reading(reading) => with_reading(scan, reading),
+        Content::Window(length, spread) => with_window(scan, length, spread),
         _ => with_unclear(scan),
     }
 }
 
 // The line under way is over, and another begins.
 fn with_line_end(scan: Scanning) -> Scanning {
-    let mut next = with_line(answered(scan), Line::Blank, false);
+    let mut next = with_content(answered(scan), Content::Blank, false);
     if scan.ordinal < u64::MAX {
         next.ordinal = scan.ordinal + 1;
     }
@@ -118,10 +118,10 @@ fn with_byte(scan: Scanning, byte: u8) -> Scanning {
     if byte == b'\n' {
         return with_line_end(scan);
     }
-    let line = scan.line;
+    let content = scan.content;
     let comment = scan.comment | (byte == b'#');
-    let taken = if comment { b' ' } else { byte };
-    with_line(scan, line::after_byte(line, taken), comment)
+    let seen = if comment { b' ' } else { byte };
+    with_content(scan, content::after_byte(content, seen), comment)
 }
 
 // Some bytes of the input.
@@ -169,7 +169,7 @@ fn run(scan: Scanning) -> Scanning {
 
 fn main() {
     let written = answer::say(b"line reading sum least greatest mean steady\n");
-    let scan = run(fresh(written));
+    let scan = run(at_start(written));
     if !scan.written {
         io::write_all(
             STDERR_FILENO,

@@ -18,7 +18,7 @@ use Rattle.table.proofs.Stations.{put-cases, put-each, put-same, search
 use Rattle.table.proofs.Sound.{Sound}
 use Rattle.table.proofs.Trim.{search-quiet}
 use Rattle.table.proofs.Retract.{retract, retract-all}
-use Rattle.table.proofs.Eager.{fresh, Settled}
+use Rattle.table.proofs.Eager.{unsettled, Settled}
 use Rattle.table.proofs.Simulation.{stillAt, still, finished, Matches, Finishes, Simulation, simulation-linear}
 
 -- a station, the answer of its search worked out
@@ -52,18 +52,18 @@ R st t = st ≡ worked t
 
 -- ## Nothing left to work out
 
-settled-at : (t : Table) (x : Station) → fresh x ≡ false → workedAt t x ≡ x
-unfolding fresh workedAt
+settled-at : (t : Table) (x : Station) → unsettled x ≡ false → workedAt t x ≡ x
+unfolding unsettled workedAt
 settled-at t idle e = refl
 settled-at t (waiting a) e = refl
 settled-at t (unfinished i c (some a)) e = refl
 settled-at t (unfinished i c none) e = rw (e, workedAt)
 
-settled-all : (t : Table) → Sound t → Settled t → (u : ℕ) → fresh (t .stations u) ≡ false
-unfolding fresh
-settled-all t k d u = elim (decLt u 8) [ yes l ↦ d u l | no n ↦ ap fresh (k .outside u (omega arith)) ]
+settled-all : (t : Table) → Sound t → Settled t → (u : ℕ) → unsettled (t .stations u) ≡ false
+unfolding unsettled
+settled-all t k d u = elim (decLt u 8) [ yes l ↦ d u l | no n ↦ ap unsettled (k .outside u (omega arith)) ]
 
-settled-worked : (t : Table) → ((u : ℕ) → fresh (t .stations u) ≡ false) → t ≡ worked t
+settled-worked : (t : Table) → ((u : ℕ) → unsettled (t .stations u) ≡ false) → t ≡ worked t
 unfolding worked
 settled-worked t d = ap (λ (f : ℕ → Station). withStations t f) (fun-ext (λ u. sym (settled-at t (t .stations u) (d u))))
 
@@ -158,11 +158,11 @@ settles t s i c g e = settles-put t s i c g e ∙ ap worked (sym (rw (search-qui
 
 -- ## The events on a settled table
 
-put-settled : (t : Table) (s : ℕ) (x : Station) → fresh x ≡ false → ((u : ℕ) → fresh (t .stations u) ≡ false) → (u : ℕ)
-    → fresh (put (t .stations) s x u) ≡ false
-put-settled t s x e d = put-each (λ y. fresh y ≡ false) (t .stations) s x e d
+put-settled : (t : Table) (s : ℕ) (x : Station) → unsettled x ≡ false → ((u : ℕ) → unsettled (t .stations u) ≡ false) → (u : ℕ)
+    → unsettled (put (t .stations) s x u) ≡ false
+put-settled t s x e d = put-each (λ y. unsettled y ≡ false) (t .stations) s x e d
 
-module _ (t : Table) (d : (u : ℕ) → fresh (t .stations u) ≡ false) where
+module _ (t : Table) (d : (u : ℕ) → unsettled (t .stations u) ≡ false) where
   abbrev Match : Reply Table → Reply Table → Type 0
   Match = Matches atomic R
 
@@ -174,7 +174,7 @@ module _ (t : Table) (d : (u : ℕ) → fresh (t .stations u) ≡ false) where
   ask-match false n r q h = same n
 
   took : (s : ℕ) → Match (take t s) (take t s)
-  unfolding take takeAt fresh
+  unfolding take takeAt unsettled
   took s = ask-match (ltb s 8) 5 _ _ (λ l. go (t .stations s))
     where
       go : (x : Station) → Match (takeAt t s x) (takeAt t s x)
@@ -183,7 +183,7 @@ module _ (t : Table) (d : (u : ℕ) → fresh (t .stations u) ≡ false) where
       go (waiting a) = record { number = refl; given = refl; next = settled-worked (withStations t (put (t .stations) s idle)) (put-settled t s idle refl d) }
 
   retracted : (s : ℕ) → Match (retract t s) (retract t s)
-  unfolding fresh
+  unfolding unsettled
   retracted s = retract-all (λ r. Match r r) t s (same 5) (same 10) (λ l i c o q. record {
     number = refl;
     given = refl;
@@ -191,7 +191,7 @@ module _ (t : Table) (d : (u : ℕ) → fresh (t .stations u) ≡ false) where
   })
 
   finished-match : (s : ℕ) (c : Call) (o : Option Answer) → Match (accept (finished t s c o)) (accept (finished t s c o))
-  unfolding finished fresh
+  unfolding finished unsettled
   finished-match s c (some a) = record { number = refl; given = refl; next = settled-worked (finished t s c (some a)) (put-settled t s (waiting a) refl d) }
   finished-match s c none = record { number = refl; given = refl; next = settled-worked (finished t s c none) (put-settled t s (waiting (answerOf t c)) refl d) }
 

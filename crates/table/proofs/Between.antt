@@ -30,7 +30,7 @@ setAt (unfinished i c o) = o
 set-stays : (ev : Event) (t u : Table) (v s i : ℕ) (c : Call) (a : Answer) → Moment ev t v u → t .stations s ≡ unfinished i c (some a)
     → u .stations s ≡ unfinished i c (some a)
 unfolding setAt
-set-stays ev t u v s i c a m e = moment-other ev t u v s m (λ q. Option·none-ne-some a (ap setAt (sym (m .fresh) ∙ ap (t .stations) (sym q) ∙ e))) ∙ e
+set-stays ev t u v s i c a m e = moment-other ev t u v s m (λ q. Option·none-ne-some a (ap setAt (sym (m .pending) ∙ ap (t .stations) (sym q) ∙ e))) ∙ e
 
 pub sets-stay : (ev : Event) (ms : List ℕ) (t u : Table) (s i : ℕ) (c : Call) (a : Answer) → moments ev t ms ≡ some u → t .stations s ≡ unfinished i c (some a)
     → u .stations s ≡ unfinished i c (some a)
@@ -65,7 +65,7 @@ done-held ev ms t u s i c a o e q = moments-keep ev P keep ms t u q (refl, e) .0
     keep : (x y : Table) (v : ℕ) → P x → Moment ev x v y → P y
     keep x y v h m = elim (change-own ev x y v m) [
       | inl d ↦ (d ∙ h .0, set-stays ev x y v s i c a m (h .1))
-      | inr d ↦ absurd (Option·none-ne-some a (ap setAt (sym (m .fresh) ∙ ap (x .stations) (own-one ev v s d o) ∙ h .1)))
+      | inr d ↦ absurd (Option·none-ne-some a (ap setAt (sym (m .pending) ∙ ap (x .stations) (own-one ev v s d o) ∙ h .1)))
     ]
 
 -- the call c of station s has got its answer at the moments from t to u, and the answer is the table's for the records held before or after
@@ -83,7 +83,7 @@ between ev (v ∷ ms) t u s i c e q = go (λ x. between ev ms x u s i c) (moment
   where
     first : (x : Table) → Moment ev t v x → moments ev x ms ≡ some u → v ≡ s → SetBetween t u s i c
     first x m r d =
-        let f : unfinished (m .identity) (m .call) none ≡ unfinished i c none = sym (m .fresh) ∙ ap (t .stations) d ∙ e in
+        let f : unfinished (m .identity) (m .call) none ≡ unfinished i c none = sym (m .pending) ∙ ap (t .stations) d ∙ e in
         let ci : m .identity ≡ i = cc in
         let cd : m .call ≡ c = cc in
         let k : x .stations v ≡ unfinished (m .identity) (m .call) (some (answerOf t (m .call))) = moment-own ev t x v m in

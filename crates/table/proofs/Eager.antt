@@ -65,17 +65,17 @@ perform-trim h t (singleStep s) true r o q z =
 -- ## The first moments
 
 -- an unfinished nearest call with nothing set down
-unfoldable pub fresh : Station → Bool
-fresh idle = false
-fresh (waiting a) = false
-fresh (unfinished i c (some a)) = false
-fresh (unfinished i c none) = isSearch c
+unfoldable pub unsettled : Station → Bool
+unsettled idle = false
+unsettled (waiting a) = false
+unsettled (unfinished i c (some a)) = false
+unsettled (unfinished i c none) = isSearch c
 
 -- no station has one
 abbrev pub Settled : Table → Type 0
-Settled t = (s : ℕ) → s < 8 → fresh (t .stations s) ≡ false
+Settled t = (s : ℕ) → s < 8 → unsettled (t .stations s) ≡ false
 
--- a fresh nearest call of the station gets its moment
+-- an unsettled nearest call of the station gets its moment
 unfoldable settleAt : Table → ℕ → Station → Table
 settleAt t s idle = t
 settleAt t s (waiting a) = t
@@ -94,51 +94,51 @@ unfoldable pub consIf : Bool → ℕ → List ℕ → List ℕ
 consIf true s ss = s ∷ ss
 consIf false s ss = ss
 
--- the stations with a fresh nearest call whose answer is seen
+-- the stations with an unsettled nearest call whose answer is seen
 unfoldable pub firsts : (ℕ → Bool) → List ℕ → Table → List ℕ
 firsts seen [] t = []
-firsts seen (s ∷ ss) t = consIf (fresh (t .stations s) && seen s) s (firsts seen ss (settleOne t s))
+firsts seen (s ∷ ss) t = consIf (unsettled (t .stations s) && seen s) s (firsts seen ss (settleOne t s))
 
--- the station has a fresh nearest call
-pub record Fresh (t : Table) (s : ℕ) : Type 0 where
+-- the station has an unsettled nearest call
+pub record Unsettled (t : Table) (s : ℕ) : Type 0 where
   pub identity : ℕ
   pub call : Call
   pub search : isSearch call ≡ true
   pub is : t .stations s ≡ unfinished identity call none
   pub settles : settleOne t s ≡ setDown t s identity call (answerOf t call)
 
-pub fresh-cases : (t : Table) (s : ℕ) → ((fresh (t .stations s) ≡ false) × (settleOne t s ≡ t)) ⊎ Fresh t s
-unfolding fresh settleAt settleOne
-fresh-cases t s = go (t .stations s) refl
+pub unsettled-cases : (t : Table) (s : ℕ) → ((unsettled (t .stations s) ≡ false) × (settleOne t s ≡ t)) ⊎ Unsettled t s
+unfolding unsettled settleAt settleOne
+unsettled-cases t s = go (t .stations s) refl
   where
-    go : (x : Station) → t .stations s ≡ x → ((fresh (t .stations s) ≡ false) × (settleOne t s ≡ t)) ⊎ Fresh t s
-    go idle e = inl (rw (e, fresh), rw (e, settleAt))
-    go (waiting a) e = inl (rw (e, fresh), rw (e, settleAt))
-    go (unfinished i c (some a)) e = inl (rw (e, fresh), rw (e, settleAt))
+    go : (x : Station) → t .stations s ≡ x → ((unsettled (t .stations s) ≡ false) × (settleOne t s ≡ t)) ⊎ Unsettled t s
+    go idle e = inl (rw (e, unsettled), rw (e, settleAt))
+    go (waiting a) e = inl (rw (e, unsettled), rw (e, settleAt))
+    go (unfinished i c (some a)) e = inl (rw (e, unsettled), rw (e, settleAt))
     go (unfinished i c none) e = by (isSearch c) refl
       where
-        by : (b : Bool) → isSearch c ≡ b → ((fresh (t .stations s) ≡ false) × (settleOne t s ≡ t)) ⊎ Fresh t s
+        by : (b : Bool) → isSearch c ≡ b → ((unsettled (t .stations s) ≡ false) × (settleOne t s ≡ t)) ⊎ Unsettled t s
         by true q = inr (record { identity = i; call = c; search = q; is = e; settles = rw (e, settleAt, q) })
-        by false q = inl (rw (e, fresh) q, rw (e, settleAt, q))
+        by false q = inl (rw (e, unsettled) q, rw (e, settleAt, q))
 
--- a fresh nearest call can have its moment at any event
-first-moment : (ev : Event) (t : Table) (s : ℕ) → Fresh t s → moment ev t s ≡ some (settleOne t s)
+-- an unsettled nearest call can have its moment at any event
+first-moment : (ev : Event) (t : Table) (s : ℕ) → Unsettled t s → moment ev t s ≡ some (settleOne t s)
 unfolding moment momentAt onlyIf mayFall
 first-moment ev t s w = rw (w .settles, w .is, momentAt, search-quiet t (w .call) (w .search))
 
 firsts-trim : (ev : Event) (seen : ℕ → Bool) (ss : List ℕ) (t : Table) → moments ev (trim seen t) (firsts seen ss t) ≡ some (trim seen (settle ss t))
-unfolding firsts moments settle consIf fresh
+unfolding firsts moments settle consIf unsettled
 firsts-trim ev seen [] t = refl
-firsts-trim ev seen (s ∷ ss) t = go (firsts-trim ev seen ss) (fresh-cases t s)
+firsts-trim ev seen (s ∷ ss) t = go (firsts-trim ev seen ss) (unsettled-cases t s)
   where
     go : ((u : Table) → moments ev (trim seen u) (firsts seen ss u) ≡ some (trim seen (settle ss u)))
-        → ((fresh (t .stations s) ≡ false) × (settleOne t s ≡ t)) ⊎ Fresh t s
+        → ((unsettled (t .stations s) ≡ false) × (settleOne t s ≡ t)) ⊎ Unsettled t s
         → moments ev (trim seen t) (firsts seen (s ∷ ss) t) ≡ some (trim seen (settle (s ∷ ss) t))
     go ih (inl v) = rw (v .0, v .1) (ih t)
     go ih (inr w) = by (seen s) refl
       where
-        f : fresh (t .stations s) ≡ true
-        f = rw (w .is, fresh) (w .search)
+        f : unsettled (t .stations s) ≡ true
+        f = rw (w .is, unsettled) (w .search)
 
         by : (b : Bool) → seen s ≡ b → moments ev (trim seen t) (firsts seen (s ∷ ss) t) ≡ some (trim seen (settle (s ∷ ss) t))
         by true q = rw (f, q, moment-kept ev seen t s q ∙ ap (Option·map (trim seen)) (first-moment ev t s w), moments) (ih (settleOne t s))
@@ -221,7 +221,7 @@ fed-inv t ev answers r e = go (moments ev t (own t ev answers)) refl
 own-eight : (t : Table) (ev : Event) (answers : Bool) (u : Table) → Eight t → moments ev t (own t ev answers) ≡ some u → Eight u
 unfolding isIdle
 own-eight t ev answers u o e s l = moments-keep ev (λ x. x .stations s ≡ idle)
-    (λ x y v h m. moment-other ev x y v s m (λ q. idle-busy s v x l q h (m .fresh)) ∙ h) (own t ev answers) t u e (o s l)
+    (λ x y v h m. moment-other ev x y v s m (λ q. idle-busy s v x l q h (m .pending)) ∙ h) (own t ev answers) t u e (o s l)
   where
     idle-busy : (s v : ℕ) (x : Table) → 8 ≤ s → s ≡ v → x .stations s ≡ idle → {i : ℕ} {c : Call} → x .stations v ≡ unfinished i c none → ⊥
     idle-busy s v x l q h f = let z : _≡_ {A = Bool} true false = ap isIdle (sym h ∙ ap (x .stations) q ∙ f) in false≢true (sym z)

@@ -70,14 +70,14 @@ module _ (t : Table) (s : ℕ) (c : Call) (h : Sound t) (l : s < 8) where
         | inr x ↦ searches-in eight (t .stations) (w .0) i (w .1) (record { call = w .2 .call; set = w .2 .set; is = sym (x .1) ∙ w .2 .is; search = w .2 .search })
       ]
 
-  new-room : holding (t .removals) (searches eight (put (t .stations) s new)) ≤ holding (t .removals) (searches eight (t .stations))
-  new-room = holding-le (t .removals) (searches eight (t .stations)) (searches eight (put (t .stations) s new)) (λ r m i q. new-old i (h .given-out r m i q))
+  new-holding : holding (t .removals) (searches eight (put (t .stations) s new)) ≤ holding (t .removals) (searches eight (t .stations))
+  new-holding = holding-le (t .removals) (searches eight (t .stations)) (searches eight (put (t .stations) s new)) (λ r m i q. new-old i (h .given-out r m i q))
 
   pub sound-enter : Sound (enter t s c)
   unfolding enter taken
   sound-enter =
-      let n = new-room in
-      let r = h .room in
+      let n = new-holding in
+      let r = h .bounded in
       record {
         once = h .once;
         outside = λ u g. elim (put-cases (t .stations) s u new) [ inl w ↦ absurd (omega (arith, w .0)) | inr w ↦ w .1 ∙ h .outside u g ];
@@ -86,7 +86,7 @@ module _ (t : Table) (s : ℕ) (c : Call) (h : Sound t) (l : s < 8) where
         given-out = λ r m i q. let k = h .given-out r m i q in omega arith;
         counted = h .counted;
         spent = h .spent;
-        room = omega arith;
+        bounded = omega arith;
       }
 
 -- ## The events
@@ -143,7 +143,7 @@ reply-if {b} {q} {r} = go b
     go true e = (refl, Option·some-injective _ _ e)
     go false e = absurd (Option·none-ne-some r e)
 
--- what holds of a refusal, and of an answer that waits in the place of an unfinished call, holds of a withdrawal's reply
+-- what holds of a refusal, and of an answer that waits where an unfinished call was, holds of a withdrawal's reply
 pub withdraw-all : (P : Reply Table → Type 0) (t : Table) (s : ℕ) (r : Reply Table) → P (refuse 5 t) → P (refuse 10 t)
     → (s < 8 → (i : ℕ) (c : Call) (o : Option Answer) (b : Answer) → t .stations s ≡ unfinished i c o → P (accept (withStations t (put (t .stations) s (waiting b)))))
     → withdraw t s ≡ some r → P r
@@ -178,8 +178,8 @@ unfolding identityOf
 sound-moment ev t u s h m = go (decLt s 8)
   where
     go : Dec (s < 8) → Sound u
-    go (yes l) = rw (m .is) at (sound-set t s (m .identity) (m .call) l (m .fresh) h)
-    go (no n) = absurd (Option·none-ne-some (m .identity) (ap identityOf (sym (h .outside s (omega arith)) ∙ m .fresh)))
+    go (yes l) = rw (m .is) at (sound-set t s (m .identity) (m .call) l (m .pending) h)
+    go (no n) = absurd (Option·none-ne-some (m .identity) (ap identityOf (sym (h .outside s (omega arith)) ∙ m .pending)))
 
 pub sound-feed : (t : Table) (ms : List ℕ) (ev : Event) (answers : Bool) (r : Reply Table) → Sound t → feed t ms ev answers ≡ some r → Sound (r .next)
 sound-feed t ms ev answers r h e =

@@ -52,24 +52,24 @@ deaf-not-linear = not-linear deaf tt 1 1 notSix (submission 0 1 p 41 ∷ []) (6,
 -- ## It answers always 6
 
 -- nothing asked, a call under way, its answer ready
-pub data Phase : Type 0 where
-  resting : Phase
-  asked : Point → Phase
-  ready : Point → Phase
+pub data Six : Type 0 where
+  resting : Six
+  asked : Point → Six
+  answering : Point → Six
 
-unfoldable pub stepSix : Phase → Reply Phase
+unfoldable pub stepSix : Six → Reply Six
 stepSix resting = replyWith 10 none resting
-stepSix (asked p) = replyWith 0 none (ready p)
-stepSix (ready p) = replyWith 10 none (ready p)
+stepSix (asked p) = replyWith 0 none (answering p)
+stepSix (answering p) = replyWith 10 none (answering p)
 
-unfoldable pub takeSix : Phase → Reply Phase
+unfoldable pub takeSix : Six → Reply Six
 takeSix resting = replyWith 12 none resting
 takeSix (asked p) = replyWith 12 none (asked p)
-takeSix (ready p) = replyWith 0 (some (answer 6 p 0 0)) resting
+takeSix (answering p) = replyWith 0 (some (answer 6 p 0 0)) resting
 
 abbrev pub alwaysSix : Index
 alwaysSix = record {
-  State = Phase;
+  State = Six;
   submit = λ st s kind p c. replyWith 0 none (asked p);
   step = λ st s. stepSix st;
   take = λ st s. takeSix st;

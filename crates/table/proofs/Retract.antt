@@ -24,7 +24,7 @@ retractAt t s (unfinished i c o) = accept (withStations t (put (t .stations) s (
 unfoldable pub retract : Table → ℕ → Reply Table
 retract t s = ask (ltb s 8) 5 t (retractAt t s (t .stations s))
 
--- what holds of a refusal, and of the answer 11 that waits in the place of an unfinished call, holds of the reply
+-- what holds of a refusal, and of the answer 11 that waits where an unfinished call was, holds of the reply
 pub retract-all : (P : Reply Table → Type 0) (t : Table) (s : ℕ) → P (refuse 5 t) → P (refuse 10 t)
     → (s < 8 → (i : ℕ) (c : Call) (o : Option Answer) → t .stations s ≡ unfinished i c o → P (accept (withStations t (put (t .stations) s (waiting (withdrawnAnswer c))))))
     → P (retract t s)

@@ -19,7 +19,7 @@ use Rattle.table.proofs.Moments.{set-same, set-cases, Moment, moments-k
 use Rattle.table.proofs.Reached.{ask-all}
 use Rattle.table.proofs.Trim.{forget, not-refused}
 use Rattle.table.proofs.Retract.{retract, retract-all}
-use Rattle.table.proofs.Eager.{fresh, Settled, settleOne, settle, Fresh, fresh-cases}
+use Rattle.table.proofs.Eager.{unsettled, Settled, settleOne, settle, Unsettled, unsettled-cases}
 
 -- ## The first moments
 
@@ -35,9 +35,9 @@ AfterFirst t s u = (settleOne t s .stations u ≡ t .stations u)
     ⊎ ((i : ℕ) × (c : Call) × (a : Answer) × (settleOne t s .stations u ≡ unfinished i c (some a)) × (t .stations u ≡ unfinished i c none))
 
 after-first : (t : Table) (s u : ℕ) → AfterFirst t s u
-after-first t s u = elim (fresh-cases t s) [ inl v ↦ inl (ap (λ (x : Table). x .stations u) (v .1)) | inr w ↦ go w ]
+after-first t s u = elim (unsettled-cases t s) [ inl v ↦ inl (ap (λ (x : Table). x .stations u) (v .1)) | inr w ↦ go w ]
   where
-    go : Fresh t s → AfterFirst t s u
+    go : Unsettled t s → AfterFirst t s u
     go w =
         let a : Answer = answerOf t (w .call) in
         let e : settleOne t s .stations u ≡ setDown t s (w .identity) (w .call) a .stations u = ap (λ (y : Table). y .stations u) (w .settles) in
@@ -55,37 +55,37 @@ unfolding settle
 settle-busy [] t u = refl
 settle-busy (s ∷ ss) t u = settle-busy ss (settleOne t s) u ∙ one-busy t s u
 
-fresh-stays : (t : Table) (s u : ℕ) → fresh (t .stations u) ≡ false → fresh (settleOne t s .stations u) ≡ false
-unfolding fresh
-fresh-stays t s u e = elim (after-first t s u) [ inl q ↦ ap fresh q ∙ e | inr w ↦ rw (w .3, fresh) ]
+stays-settled : (t : Table) (s u : ℕ) → unsettled (t .stations u) ≡ false → unsettled (settleOne t s .stations u) ≡ false
+unfolding unsettled
+stays-settled t s u e = elim (after-first t s u) [ inl q ↦ ap unsettled q ∙ e | inr w ↦ rw (w .3, unsettled) ]
 
-fresh-all : (ss : List ℕ) (t : Table) (u : ℕ) → fresh (t .stations u) ≡ false → fresh (settle ss t .stations u) ≡ false
+all-settled : (ss : List ℕ) (t : Table) (u : ℕ) → unsettled (t .stations u) ≡ false → unsettled (settle ss t .stations u) ≡ false
 unfolding settle
-fresh-all [] t u e = e
-fresh-all (s ∷ ss) t u e = fresh-all ss (settleOne t s) u (fresh-stays t s u e)
+all-settled [] t u e = e
+all-settled (s ∷ ss) t u e = all-settled ss (settleOne t s) u (stays-settled t s u e)
 
-fresh-one : (t : Table) (s : ℕ) → fresh (settleOne t s .stations s) ≡ false
-unfolding fresh
-fresh-one t s = elim (fresh-cases t s) [
+one-settled : (t : Table) (s : ℕ) → unsettled (settleOne t s .stations s) ≡ false
+unfolding unsettled
+one-settled t s = elim (unsettled-cases t s) [
   | inl v ↦ rw (v .1) (v .0)
-  | inr w ↦ ap fresh (ap (λ (x : Table). x .stations s) (w .settles) ∙ set-same t s (w .identity) (w .call) (answerOf t (w .call)))
+  | inr w ↦ ap unsettled (ap (λ (x : Table). x .stations s) (w .settles) ∙ set-same t s (w .identity) (w .call) (answerOf t (w .call)))
 ]
 
-stale : (ss : List ℕ) (t : Table) → Each (λ s. fresh (settle ss t .stations s) ≡ false) ss
+settled-each : (ss : List ℕ) (t : Table) → Each (λ s. unsettled (settle ss t .stations s) ≡ false) ss
 unfolding settle
-stale [] t = tt
-stale (s ∷ ss) t = (fresh-all ss (settleOne t s) s (fresh-one t s), stale ss (settleOne t s))
+settled-each [] t = tt
+settled-each (s ∷ ss) t = (all-settled ss (settleOne t s) s (one-settled t s), settled-each ss (settleOne t s))
 
 -- the first moments settle the table
 pub settled : (t : Table) → Settled (settle eight t)
-settled t u l = each-mem (λ s. fresh (settle eight t .stations s) ≡ false) eight (stale eight t) u (eight-mem u l)
+settled t u l = each-mem (λ s. unsettled (settle eight t .stations s) ≡ false) eight (settled-each eight t) u (eight-mem u l)
 
 keeps : (P : Table → Type 0)
     → ((t : Table) (s i : ℕ) (c : Call) → s < 8 → isSearch c ≡ true → t .stations s ≡ unfinished i c none → P t → P (setDown t s i c (answerOf t c)))
     → (ss : List ℕ) → Each (λ s. s < 8) ss → (t : Table) → P t → P (settle ss t)
 unfolding settle
 keeps P g [] l t h = h
-keeps P g (s ∷ ss) l t h = keeps P g ss (l .1) (settleOne t s) (elim (fresh-cases t s) [
+keeps P g (s ∷ ss) l t h = keeps P g ss (l .1) (settleOne t s) (elim (unsettled-cases t s) [
   | inl v ↦ rw (v .1) h
   | inr w ↦ rw (w .settles) (g t s (w .identity) (w .call) (l .0) (w .search) (w .is) h)
 ])
@@ -96,15 +96,15 @@ pub settle-keeps : (P : Table → Type 0)
     → (t : Table) → P t → P (settle eight t)
 settle-keeps P g = keeps P g eight each-eight
 
--- a station with no fresh search stays as it is
-pub settle-stays : (t : Table) (u : ℕ) → fresh (t .stations u) ≡ false → settle eight t .stations u ≡ t .stations u
-unfolding fresh
+-- a station with no unsettled search stays as it is
+pub settle-stays : (t : Table) (u : ℕ) → unsettled (t .stations u) ≡ false → settle eight t .stations u ≡ t .stations u
+unfolding unsettled
 settle-stays t u f = settle-keeps (λ v. v .stations u ≡ t .stations u) stays t refl
   where
     stays : (v : Table) (s i : ℕ) (c : Call) → s < 8 → isSearch c ≡ true → v .stations s ≡ unfinished i c none → v .stations u ≡ t .stations u
         → setDown v s i c (answerOf v c) .stations u ≡ t .stations u
     stays v s i c l g e h = elim (set-cases v s i u c (answerOf v c)) [
-      | inl w ↦ absurd (false≢true (sym f ∙ ap fresh (sym h ∙ ap (v .stations) (w .0) ∙ e) ∙ g))
+      | inl w ↦ absurd (false≢true (sym f ∙ ap unsettled (sym h ∙ ap (v .stations) (w .0) ∙ e) ∙ g))
       | inr w ↦ w .1 ∙ h
     ]
 
@@ -177,7 +177,7 @@ answer-next t s r = go (ltb s 8) (t .stations s) refl
 pub moment-busy : (ev : Event) (t u : Table) (s v : ℕ) → Moment ev t s u → busy (u .stations v) ≡ busy (t .stations v)
 unfolding busy
 moment-busy ev t u s v m = elim (ℕ-discrete v s) [
-  | yes e ↦ ap busy (ap (u .stations) e ∙ moment-own ev t u s m) ∙ sym (ap busy (ap (t .stations) e ∙ m .fresh))
+  | yes e ↦ ap busy (ap (u .stations) e ∙ moment-own ev t u s m) ∙ sym (ap busy (ap (t .stations) e ∙ m .pending))
   | no n ↦ ap busy (moment-other ev t u s v m n)
 ]
 

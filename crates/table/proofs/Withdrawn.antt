@@ -29,22 +29,22 @@ still-unfinished ev ms t u s i c (some b) e m = (some b, sets-stay ev ms t u s i
 still-unfinished ev ms t u s i c none e m = elim (between ev ms t u s i c e m) [ inl x ↦ (none, x) | inr x ↦ (some (answerOf (x .at-moment) c), x .is) ]
 
 -- 11 with the point of the call, or a change
-abbrev pub TakenBack : Call → Answer → Type 0
-TakenBack c a = (a ≡ withdrawnAnswer c) ⊎ (isChange a ≡ true)
+abbrev pub AfterWithdrawal : Call → Answer → Type 0
+AfterWithdrawal c a = (a ≡ withdrawnAnswer c) ⊎ (isChange a ≡ true)
 
 -- a withdrawal of an unfinished call, where it is defined
 withdraw-ends : (t : Table) (s i : ℕ) (c : Call) (o : Option Answer) (r : Reply Table) → s < 8 → t .stations s ≡ unfinished i c o → withdraw t s ≡ some r
-    → (r .number ≡ 0) × ((a : Answer) × TakenBack c a × (r .next .stations s ≡ waiting a))
+    → (r .number ≡ 0) × ((a : Answer) × AfterWithdrawal c a × (r .next .stations s ≡ waiting a))
 unfolding withdraw withdrawAt
 withdraw-ends t s i c o r l e d = go o (rw (lt-ltb s 8 l, e) at d)
   where
-    waits : (a : Answer) → TakenBack c a → some (accept (withStations t (put (t .stations) s (waiting a)))) ≡ some r
-        → (r .number ≡ 0) × ((a : Answer) × TakenBack c a × (r .next .stations s ≡ waiting a))
+    waits : (a : Answer) → AfterWithdrawal c a → some (accept (withStations t (put (t .stations) s (waiting a)))) ≡ some r
+        → (r .number ≡ 0) × ((a : Answer) × AfterWithdrawal c a × (r .next .stations s ≡ waiting a))
     waits a b q =
         let z = Option·some-injective _ _ q in
         (ap (λ (x : Reply Table). x .number) (sym z), (a, b, ap (λ (x : Reply Table). x .next .stations s) (sym z) ∙ put-same (t .stations) s (waiting a)))
 
-    go : (o : Option Answer) → withdrawAt t s true (unfinished i c o) ≡ some r → (r .number ≡ 0) × ((a : Answer) × TakenBack c a × (r .next .stations s ≡ waiting a))
+    go : (o : Option Answer) → withdrawAt t s true (unfinished i c o) ≡ some r → (r .number ≡ 0) × ((a : Answer) × AfterWithdrawal c a × (r .next .stations s ≡ waiting a))
     go none q = waits (withdrawnAnswer c) (inl refl) q
     go (some a) q = let z = reply-if q in waits a (inr (z .0)) (ap some (z .1))
 
@@ -63,7 +63,7 @@ module _ (I : Index) where
 
   withdrawn-rest : (s i : ℕ) (c : Call) (during : List Event) (did : ℕ → Type 0) (mss : List (List ℕ)) (st : State) (t : Table) (o : Option Answer)
       → Follows I did st t (during ++ (withdrawal s ∷ [])) mss → s < 8 → t .stations s ≡ unfinished i c o → Unanswered I s st during
-      → (I .withdraw (after I st during) s .number ≡ 0) × ((a : Answer) × TakenBack c a × (wouldGive I (I .withdraw (after I st during) s .next) s ≡ some a))
+      → (I .withdraw (after I st during) s .number ≡ 0) × ((a : Answer) × AfterWithdrawal c a × (wouldGive I (I .withdraw (after I st during) s .next) s ≡ some a))
   unfolding after reply perform
   withdrawn-rest s i c [] did [] st t o h l e n = absurd h
   withdrawn-rest s i c [] did (ms ∷ mss) st t o h l e n =
@@ -87,7 +87,7 @@ module _ (I : Index) where
   pub withdrawn-waits : (start : State) (places limit : ℕ) → Linear I start places limit
       → (before during : List Event) (s kind : ℕ) (p : Point) (c : ℕ) (st : State)
       → reply I (after I start before) (submission s kind p c) .number ≡ 0 → reply I (after I start before) (submission s kind p c) .next ≡ st → Unanswered I s st during
-      → (I .withdraw (after I st during) s .number ≡ 0) × ((a : Answer) × TakenBack (callOf kind p c) a × (wouldGive I (I .withdraw (after I st during) s .next) s ≡ some a))
+      → (I .withdraw (after I st during) s .number ≡ 0) × ((a : Answer) × AfterWithdrawal (callOf kind p c) a × (wouldGive I (I .withdraw (after I st during) s .next) s ≡ some a))
   unfolding perform enter
   withdrawn-waits start places limit linear before during s kind p c st e d n =
       let rest : List Event = during ++ (withdrawal s ∷ []) in
@@ -95,7 +95,7 @@ module _ (I : Index) where
       follows-after I _ before (submission s kind p c ∷ rest) (λ s. ⊥) (w .0) start (opened places limit) (w .1) go
     where
       go : (did : ℕ → Type 0) (mss : List (List ℕ)) (t : Table) → Follows I did (after I start before) t (submission s kind p c ∷ (during ++ (withdrawal s ∷ []))) mss
-          → (I .withdraw (after I st during) s .number ≡ 0) × ((a : Answer) × TakenBack (callOf kind p c) a × (wouldGive I (I .withdraw (after I st during) s .next) s ≡ some a))
+          → (I .withdraw (after I st during) s .number ≡ 0) × ((a : Answer) × AfterWithdrawal (callOf kind p c) a × (wouldGive I (I .withdraw (after I st during) s .next) s ≡ some a))
       go did [] t h = absurd h
       go did (ms ∷ mss) t h =
           let ev : Event = submission s kind p c in

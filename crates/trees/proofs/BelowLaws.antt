@@ -92,7 +92,7 @@ pub covered-insert : {marks marks′ : Marks} (path : Path) (e : ℕ) (d : Entry
     → marks′ b own (new .point) ≡ true → marks′ b (not own) (d .point) ≡ true
     → ((x : ℕ) (side : Bool) → PathSide path x side → marks x side (new .point) ≡ true)
     → TreeCovered marks′ (plug path (fill own b k (leaf a new) (leaf e d)))
-covered-insert {marks} {marks′} path e d own b k a new c g here there above x side f m =
+covered-insert {marks} {marks′} path e d own b k a new c g here there passed x side f m =
     elim (below-split path (fill own b k (leaf a new) (leaf e d)) x side f m) [
       | inl n ↦ elim (below-fill own b k (leaf a new) (leaf e d) x side f n) [
         | inl u ↦ rw (u .0, u .1, u .2) here
@@ -101,7 +101,7 @@ covered-insert {marks} {marks′} path e d own b k a new c g here there above x 
         | inr (inr (inr u)) ↦ absurd u
       ]
       | inr (inl n) ↦ elim (holds-fill own b k (leaf a new) (leaf e d) f (n .1)) [
-        | inl u ↦ g x (below-cut (plug path (leaf e d)) x side d (below-side path (leaf e d) x side d (n .0) refl)) side (f .point) (rw u (above x side (n .0)))
+        | inl u ↦ g x (below-cut (plug path (leaf e d)) x side d (below-side path (leaf e d) x side d (n .0) refl)) side (f .point) (rw u (passed x side (n .0)))
         | inr u ↦ old (below-side path (leaf e d) x side f (n .0) u)
       ]
       | inr (inr n) ↦ old (below-path path (leaf e d) x side f n)

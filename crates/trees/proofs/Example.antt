@@ -10,7 +10,7 @@ use mathlib.Core.Option.{Option, none, some}
 use native.Mathlib.Omega.{arith}
 use lib.IntN.{ℤ, pos}
 use Rattle.points.specs.declared.point.Point.{Point}
-use Rattle.points.specs.Point.{coordinateOf, withinRange, onAxis, inRange, rangeOf, placeOf}
+use Rattle.points.specs.Point.{coordinateOf, withinRange, onAxis, inRange, rangeOf, indexOf}
 use Rattle.points.specs.Square.{gapOf}
 use Rattle.points.specs.Order.{byAxis}
 use Rattle.points.specs.Signed.{cappedOf}
@@ -70,11 +70,11 @@ abbrev left : Progress
 left = searchAfterUnlink 0 2 1 (landing (choiceOf target .side) two 2 0) (searchAfterInsert 0 2 (begun (some (leaf 0 old))))
 
 old-in-range : inRange (old .point) ≡ true
-unfolding inRange onAxis withinRange rangeOf placeOf coordinateOf
+unfolding inRange onAxis withinRange rangeOf indexOf coordinateOf
 old-in-range = refl
 
 new-in-range : inRange (new .point) ≡ true
-unfolding inRange onAxis withinRange rangeOf placeOf coordinateOf
+unfolding inRange onAxis withinRange rangeOf indexOf coordinateOf
 new-in-range = refl
 
 -- a store whose tree has this shape holds this tree

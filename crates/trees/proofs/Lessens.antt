@@ -48,7 +48,7 @@ module _ (side : Cut → Bool) where
     pub left : TreeHas t (s .cursor) → treeLeft side t′ s′ ≤ c + treeLeft side t s
     pub costs : cost t′ ≤ c + cost t
 
-  -- the same of the whole tour, from any place
+  -- the same of the whole tour, from any stand
   pub lessens-tour : (c : ℕ) {t t′ : Tree} {s s′ : Stand} → Lessens c t t′ s s′ → Rows t → Rows t′ → (s .cursor ≡ NONE → s′ .cursor ≡ NONE) → Standing (some t) (s .cursor)
       → tourLeft side (some t′) s′ ≤ c + tourLeft side (some t) s
   lessens-tour c {s′ = s′} w rs rs′ still (inl e) = rw (eq-eqb (s′ .cursor) NONE (still e), cond) (omega arith)

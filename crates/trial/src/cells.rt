@@ -1,11 +1,11 @@
 // Cells of 64 bits, and slices of words that are copied and compared. Outside of a slice 0 is read, and nothing is written.
 
-// The cell at a place.
+// The cell at an offset.
 pub fn get(cells: &[u64], at: usize) -> u64 {
     if at < cells.len() { cells[at] } else { 0 }
 }
 
-// Writes the cell at a place.
+// Writes the cell at an offset.
 pub fn put(cells: &mut [u64], at: usize, value: u64) {
     if at < cells.len() {
         cells[at] = value;
@@ -22,7 +22,7 @@ pub fn less(x: u64) -> u64 {
     if 0 < x { x - 1 } else { 0 }
 }
 
-// The cell at a place grows by one.
+// The cell at an offset grows by one.
 pub fn count(cells: &mut [u64], at: usize) {
     let n = get(cells, at);
     put(cells, at, more(n));
@@ -33,12 +33,12 @@ pub fn low(x: u64) -> u32 {
     (x % 4294967296) as u32
 }
 
-// The word at a place.
+// The word at an offset.
 pub fn word(words: &[u32], at: usize) -> u32 {
     if at < words.len() { words[at] } else { 0 }
 }
 
-// Writes the word at a place.
+// Writes the word at an offset.
 pub fn put_word(words: &mut [u32], at: usize, value: u32) {
     if at < words.len() {
         words[at] = value;
@@ -52,7 +52,7 @@ pub fn copy(from: &[u32], to: &mut [u32]) {
     }
 }
 
-// Whether two slices agree from a place up to another.
+// Whether two slices agree from an offset up to another.
 pub fn same(a: &[u32], b: &[u32], from: usize, end: usize) -> bool {
     for i in from..end {
         if word(a, i) != word(b, i) {
@@ -62,7 +62,7 @@ pub fn same(a: &[u32], b: &[u32], from: usize, end: usize) -> bool {
     true
 }
 
-// Whether a slice agrees with another from a place to its end.
+// Whether a slice agrees with another from an offset to its end.
 pub fn same_from(a: &[u32], b: &[u32], from: usize) -> bool {
     same(a, b, from, a.len())
 }

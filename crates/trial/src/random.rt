@@ -3,7 +3,7 @@ use crate::cells::get;
 use crate::cells::low;
 use crate::cells::put;
 
-// The place of the generator's state.
+// The cell of the generator's state.
 const AT_RANDOM: usize = 0;
 
 // The number after x: three shifts of 32 bits, by 13, 17 and 5.

@@ -170,7 +170,7 @@ own-readings w size h =
     ∙ ap (λ (ys : List ℕ). windowOf n ys) (tail-short n (presentIn w) (omega (arith, present-length w size h, h .present)))
     ∙ sound-window w size h
 
--- "18 for .. a state no readings could leave": a state is sound exactly if some readings leave it. Its array has 64 places, as its type says.
+-- "18 for .. a state no readings could leave": a state is sound exactly if some readings leave it. Its array has 64 positions, as its type says.
 pub sound-exact : (w : Window) → length (w .readings) ≡ longest → (isSound w ≡ true) ↔ LeftByReadings w
 sound-exact w size = (left, back)
   where

@@ -8,7 +8,7 @@ use lib.ListN.{length, drop, getD, set, replicate, length-append, length-drop, l
 use lib.Seq.{getD-set-same, getD-set-other, getD-drop, getD-append-add, ext-getD}
 use Rattle.window.specs.Window.{longest}
 
--- what stands at a place of an array of zeros
+-- what stands at a position of an array of zeros
 pub zeros-behind : (k : ℕ) → 0 ≤ k → _≡_ {A = ℕ} (getD (replicate longest 0) k 0) 0
 zeros-behind k l = zero-at longest k
   where

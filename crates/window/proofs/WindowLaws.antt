@@ -75,7 +75,7 @@ pub record SoundState (w : Window) : Type 0 where
   pub least : 1 ≤ w .length
   pub most : w .length ≤ longest
   pub present : w .present ≤ w .length
-  pub places : (k : ℕ) → k < longest → getD (w .readings) k 0 ≤ mostAt (w .present) k
+  pub positions : (k : ℕ) → k < longest → getD (w .readings) k 0 ≤ mostAt (w .present) k
 
 pub length-tells : (n : ℕ) → lengthIn n ≡ true → (1 ≤ n) × (n ≤ longest)
 length-tells n e = (leb-true 1 n (and-left (leb 1 n) (leb n longest) e), leb-true n longest (and-right (leb 1 n) (leb n longest) e))
@@ -92,13 +92,13 @@ sound-tells w e =
       least = n .0;
       most = n .1;
       present = leb-true (w .present) (w .length) (and-right (lengthIn (w .length)) (leb (w .present) (w .length)) a);
-      places = below-tells (w .readings) (w .present) longest (and-right (lengthIn (w .length) && leb (w .present) (w .length)) (soundBelow (w .readings) (w .present) longest) e);
+      positions = below-tells (w .readings) (w .present) longest (and-right (lengthIn (w .length) && leb (w .present) (w .length)) (soundBelow (w .readings) (w .present) longest) e);
     }
 
 -- a reading that is present is in range
 pub sound-reading : (w : Window) → SoundState w → (k : ℕ) → k < w .present → getD (w .readings) k 0 ≤ wettest
 unfolding mostAt
-sound-reading w h k l = rw (lt-ltb k (w .present) l) at (h .places k (omega (arith, h .present, h .most)))
+sound-reading w h k l = rw (lt-ltb k (w .present) l) at (h .positions k (omega (arith, h .present, h .most)))
 
 pub present-length : (w : Window) → length (w .readings) ≡ longest → SoundState w → length (presentIn w) ≡ w .present
 unfolding presentIn
@@ -122,7 +122,7 @@ zeros-after xs c n l f =
         let e : getD xs (c + i) 0 ≡ 0 = omega arith in
         getD-drop c xs i 0 ∙ e ∙ sym (getD-replicate (longest - c) i 0 0 m)
 
--- so the places are the readings present, padded
+-- so the array is the readings present, padded
 pub sound-padded : (w : Window) → length (w .readings) ≡ longest → SoundState w → w .readings ≡ padded (presentIn w)
 unfolding padded presentIn
 sound-padded w size h =
@@ -130,7 +130,7 @@ sound-padded w size h =
     let xs : List ℕ = w .readings in
     let m : c ≤ longest = omega (arith, h .present, h .most) in
     let e : length (take c xs) ≡ c = length-take-le c xs (omega arith) in
-    sym (take-append-drop c xs) ∙ ap (λ (ys : List ℕ). take c xs ++ ys) (zeros-after xs c size m (h .places) ∙ ap (λ (k : ℕ). replicate (longest - k) 0) (sym e))
+    sym (take-append-drop c xs) ∙ ap (λ (ys : List ℕ). take c xs ++ ys) (zeros-after xs c size m (h .positions) ∙ ap (λ (k : ℕ). replicate (longest - k) 0) (sym e))
 
 -- and the state is that of a window in which they are present
 pub sound-window : (w : Window) → length (w .readings) ≡ longest → SoundState w → windowOf (w .length) (presentIn w) ≡ w

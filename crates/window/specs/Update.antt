@@ -8,7 +8,7 @@ use Rattle.window.specs.Tail.{tailOf}
 use Rattle.window.specs.Figures.{figuresOf, refusedWith}
 use Rattle.window.specs.Window.{readingIn, windowOf, presentIn, isSound}
 
--- the window with a reading more: of those present and this one, the last that it has room for
+-- the window with a reading more: of those present and this one, the last, no more than its length
 unfoldable pub nextOf : Window → ℕ → Window
 nextOf w x = windowOf (w .length) (tailOf (w .length) (presentIn w ++ (x ∷ [])))
 

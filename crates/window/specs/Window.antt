@@ -20,7 +20,7 @@ lengthIn n = leb 1 n && leb n longest
 abbrev pub readingIn : ℕ → Bool
 readingIn x = leb x wettest
 
--- zeros behind some readings, so that the places are 64
+-- zeros behind some readings, so that there are 64 numbers
 unfoldable pub padded : List ℕ → List ℕ
 padded xs = xs ++ replicate (longest - length xs) 0
 
@@ -32,11 +32,11 @@ windowOf n xs = record { length = n; present = length xs; readings = padded xs }
 unfoldable pub presentIn : Window → List ℕ
 presentIn w = take (w .present) (w .readings)
 
--- the most that may stand at a place: a reading, or behind those present 0
+-- the most that may stand at a position: a reading, or behind those present 0
 unfoldable pub mostAt : ℕ → ℕ → ℕ
 mostAt present i = cond (ltb i present) wettest 0
 
--- the first n places hold what they may
+-- the first n positions hold what they may
 unfoldable pub soundBelow : List ℕ → ℕ → ℕ → Bool
 soundBelow readings present zero = true
 soundBelow readings present (suc n) = soundBelow readings present n && leb (getD readings n 0) (mostAt present n)

@@ -1,6 +1,6 @@
 // What is told of the readings present: sum, least, greatest and mean.
 use crate::window::Window;
-use crate::window::place;
+use crate::window::position;
 ghost use mathlib.Core.Path.{_≡_};
 ghost use mathlib.Core.Bool.{true};
 ghost use Prim.Native.Nat.{_*_, _≤_, min, max};
@@ -46,7 +46,7 @@ pub(crate) fn figures_of(window: Window) -> Figures
 {
     let readings = window.readings;
     let present = window.present;
-    let end = place(present);
+    let end = position(present);
     let first = readings[0];
     let mut sum: u32 = first;
     let mut least: u32 = first;

@@ -8,7 +8,7 @@ ghost use Prim.Native.Nat.{_≤_};
 ghost use Rattle.window.specs.Steady.{isFull, withinSpread, isSteady};
 ghost use Rattle.window.specs.Window.{isSound};
 
-// As many readings are present as the window has room for.
+// As many readings are present as the window is long.
 fn is_full(window: Window) -> bool
     ensures { λ r. ⌜ r ≡ isFull window ⌝ }
 {

@@ -4,7 +4,7 @@ use crate::figures::figures_of;
 use crate::figures::refused_with;
 use crate::window::Window;
 use crate::window::is_sound;
-use crate::window::place;
+use crate::window::position;
 use crate::window::reading_fits;
 ghost use mathlib.Core.Path.{_≡_};
 ghost use mathlib.Core.Bool.{true};
@@ -29,7 +29,7 @@ fn leaving(present: u32, length: u32) -> u32
     if present < length { 0 } else { 1 }
 }
 
-// The readings from a place on, slid to the front, with zeros behind.
+// The readings from a position on, slid to the front, with zeros behind.
 fn slid(readings: [u32; 64], from: usize) -> [u32; 64]
     requires { ⌜ (from ≤ 64) × (length readings ≡ 64) ⌝ }
     ensures { λ r. ⌜ r ≡ drop from readings ++ replicate from 0 ⌝ }
@@ -54,8 +54,8 @@ fn next_window(window: Window, reading: u32) -> Window
     let readings = window.readings;
     let gone = leaving(present, length);
     let staying = present - gone;
-    let at = place(staying);
-    let mut kept = slid(readings, place(gone));
+    let at = position(staying);
+    let mut kept = slid(readings, position(gone));
     kept[at] = reading;
     Window {
         length: length,

@@ -30,22 +30,22 @@ pub(crate) fn reading_fits(reading: u32) -> bool
     reading <= WETTEST
 }
 
-// A number of readings as a place of the array.
-pub(crate) fn place(n: u32) -> usize
+// A number of readings as a position of the array.
+pub(crate) fn position(n: u32) -> usize
     ensures { λ r. ⌜ r ≡ n ⌝ }
 {
     n as usize
 }
 
-// The greatest number that may stand at a place: a reading, or behind those present 0.
+// The greatest number that may stand at a position: a reading, or behind those present 0.
 fn most_at(present: usize, i: usize) -> u32
     ensures { λ r. ⌜ r ≡ mostAt present i ⌝ }
 {
     if i < present { WETTEST } else { 0 }
 }
 
-// Each place holds what it may.
-fn places_sound(readings: [u32; 64], present: usize) -> bool
+// Each position holds what it may.
+fn positions_sound(readings: [u32; 64], present: usize) -> bool
     ensures { λ r. ⌜ r ≡ soundBelow readings present 64 ⌝ }
 {
     let mut sound = true;
@@ -65,5 +65,5 @@ pub fn is_sound(window: Window) -> bool
     let length = window.length;
     let present = window.present;
     let readings = window.readings;
-    length_fits(length) & (present <= length) & places_sound(readings, place(present))
+    length_fits(length) & (present <= length) & positions_sound(readings, position(present))
 }

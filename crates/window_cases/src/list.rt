@@ -10,7 +10,7 @@ use window::figures::Figures;
 use window::update::update;
 use window::window::Window;
 
-// The number of the list at a place from a start on; 0 outside of it.
+// The number of the list at an index from a start on; 0 outside of it.
 fn listed_at(list: &[u32], start: usize, i: usize) -> u32 {
     let at = std::num::wrapping_add_usize(start, i);
     if at < list.len() { list[at] } else { 0 }
@@ -55,7 +55,7 @@ pub fn figures_of(list: &[u32], start: usize, n: u32) -> Figures {
     }
 }
 
-// Whether the places of a window have n numbers of the list, and zeros behind.
+// Whether the array of a window has n numbers of the list, and zeros behind.
 fn holds(window: Window, list: &[u32], start: usize, n: usize) -> bool {
     let readings = window.readings;
     let mut same = true;

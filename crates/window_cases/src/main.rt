@@ -12,9 +12,9 @@ use crate::tally::tried;
 use std::num::wrapping_sub_u32;
 use window::window::Window;
 
-// The state with another number at a place.
-fn with_number(window: Window, place: u32, number: u32) -> Window {
-    let at = place as usize;
+// The state with another number at a position.
+fn with_number(window: Window, position: u32, number: u32) -> Window {
+    let at = position as usize;
     let mut next = window;
     if at < 64 {
         next.readings[at] = number;
@@ -26,8 +26,8 @@ fn with_number(window: Window, place: u32, number: u32) -> Window {
 fn try_length(book: &mut [u64], window: Window, length: u32, number: u32) {
     let begun = window::begin::begin(window, length);
     let after = begun.window;
-    let fresh = state(length, 0);
-    let expected = if number == 0 { fresh } else { window };
+    let empty = state(length, 0);
+    let expected = if number == 0 { empty } else { window };
     tried(book);
     judge(book, begun.number == number);
     judge(book, list::same_state(after, expected));
@@ -108,17 +108,17 @@ fn more_present(book: &mut [u64]) {
     end_case(book, b"states with more readings present than the length: ");
 }
 
-// A number at a place, where it is one of the readings present, or one behind them.
-fn try_place(book: &mut [u64], window: Window, behind: bool, number: u32, place: u32) {
-    if (place < window.present) != behind {
-        try_bad(book, with_number(window, place, number));
+// A number at a position, where it is one of the readings present, or one behind them.
+fn try_position(book: &mut [u64], window: Window, behind: bool, number: u32, position: u32) {
+    if (position < window.present) != behind {
+        try_bad(book, with_number(window, position, number));
     }
 }
 
-// The same at each such place.
-fn try_places(book: &mut [u64], window: Window, behind: bool, number: u32) {
-    for place in 0..64u32 {
-        try_place(book, window, behind, number, place);
+// The same at each such position.
+fn try_positions(book: &mut [u64], window: Window, behind: bool, number: u32) {
+    for position in 0..64u32 {
+        try_position(book, window, behind, number, position);
     }
 }
 
@@ -128,10 +128,10 @@ fn shortest(present: u32) -> u32 {
 }
 
 // In the shortest window and in the longest, with each number of readings present.
-fn bad_places(book: &mut [u64], behind: bool, number: u32, name: &[u8]) {
+fn bad_positions(book: &mut [u64], behind: bool, number: u32, name: &[u8]) {
     for present in 0..65u32 {
-        try_places(book, state(shortest(present), present), behind, number);
-        try_places(book, state(64, present), behind, number);
+        try_positions(book, state(shortest(present), present), behind, number);
+        try_positions(book, state(64, present), behind, number);
     }
     end_case(book, name);
 }
@@ -179,13 +179,13 @@ fn main() {
     history(&mut book, &mut list, 64, b"length 64, beside a list: ");
     bad_lengths(&mut book);
     more_present(&mut book);
-    bad_places(
+    bad_positions(
         &mut book,
         false,
         10001,
         b"states with a reading of 10,001, at each place: ",
     );
-    bad_places(
+    bad_positions(
         &mut book,
         true,
         1,

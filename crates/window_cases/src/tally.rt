@@ -14,12 +14,12 @@ const CASES: usize = 4;
 
 const WRONG_CASES: usize = 5;
 
-// The cell at a place; 0 outside of the book.
+// The cell at an offset; 0 outside of the book.
 pub fn get(book: &[u64], at: usize) -> u64 {
     if at < book.len() { book[at] } else { 0 }
 }
 
-// Writes the cell at a place.
+// Writes the cell at an offset.
 fn put(book: &mut [u64], at: usize, value: u64) {
     if at < book.len() {
         book[at] = value;

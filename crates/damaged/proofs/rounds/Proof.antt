@@ -6,10 +6,10 @@ use lib.ListN.{length}
 use Prim.Native.Nat.{_-_}
 
 abbrev Inv-loop : tie.InvT-loop
-Inv-loop whole₀ spare₀ book₀ n₀ whole spare book n = (length whole ≡ length whole₀) × (length spare ≡ length spare₀) × (length book ≡ length book₀)
+Inv-loop whole₀ copied₀ book₀ n₀ whole copied book n = (length whole ≡ length whole₀) × (length copied ≡ length copied₀) × (length book ≡ length book₀)
 
 abbrev μ-loop : tie.MeasureT-loop
-μ-loop whole₀ spare₀ book₀ n₀ whole spare book n = 3000 - n
+μ-loop whole₀ copied₀ book₀ n₀ whole copied book n = 3000 - n
 
 loop-holds : tie.Need-loop-holds Inv-loop μ-loop
 loop-holds c = search needs

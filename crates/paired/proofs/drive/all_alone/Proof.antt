@@ -6,10 +6,10 @@ use lib.ListN.{length}
 use Prim.Native.Nat.{_-_}
 
 abbrev Inv-loop : tie.InvT-loop
-Inv-loop words spare₀ book₀ s₀ spare book s = (length spare ≡ length spare₀) × (length book ≡ length book₀)
+Inv-loop words copied₀ book₀ s₀ copied book s = (length copied ≡ length copied₀) × (length book ≡ length book₀)
 
 abbrev μ-loop : tie.MeasureT-loop
-μ-loop words spare₀ book₀ s₀ spare book s = 8 - s
+μ-loop words copied₀ book₀ s₀ copied book s = 8 - s
 
 loop-holds : tie.Need-loop-holds Inv-loop μ-loop
 loop-holds c = search needs

@@ -20,11 +20,11 @@ loop-holds c = search needs
 array-read-submit : tie.Need-array-read-submit Inv-loop μ-loop
 array-read-submit c = search needs
 
-array-read-sheet : tie.Need-array-read-sheet Inv-loop μ-loop
-array-read-sheet c = search needs
+array-read-at-weight : tie.Need-array-read-at-weight Inv-loop μ-loop
+array-read-at-weight c = search needs
 
-sheet-requires : tie.Need-sheet-requires Inv-loop μ-loop
-sheet-requires c κs = search needs
+at-weight-requires : tie.Need-at-weight-requires Inv-loop μ-loop
+at-weight-requires c κs = search needs
 
 add-submit : tie.Need-add-submit Inv-loop μ-loop
 add-submit c = search needs
@@ -65,8 +65,8 @@ eight-spec =
     array-read-weight
     loop-holds
     array-read-submit
-    array-read-sheet
-    sheet-requires
+    array-read-at-weight
+    at-weight-requires
     add-submit
     submit-requires
     array-read-wrapping-add-u32

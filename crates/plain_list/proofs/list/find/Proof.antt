@@ -15,11 +15,11 @@ get-requires c κs = search needs
 loop-holds : tie.Need-loop-holds Inv-loop μ-loop
 loop-holds c = search needs
 
-spot-at-requires : tie.Need-spot-at-requires Inv-loop μ-loop
-spot-at-requires c κs = search needs
+record-point-requires : tie.Need-record-point-requires Inv-loop μ-loop
+record-point-requires c κs = search needs
 
-same-spot-requires : tie.Need-same-spot-requires Inv-loop μ-loop
-same-spot-requires c κs = search needs
+same-plain-requires : tie.Need-same-plain-requires Inv-loop μ-loop
+same-plain-requires c κs = search needs
 
 returns : tie.Need-returns Inv-loop μ-loop
 returns c = search needs
@@ -44,8 +44,8 @@ find-spec =
     μ-loop
     get-requires
     loop-holds
-    spot-at-requires
-    same-spot-requires
+    record-point-requires
+    same-plain-requires
     returns
     add-i
     loop-less

@@ -14,27 +14,27 @@ use Rattle.points.specs.Point.{coordinateOf}
 use Rattle.points.specs.Cut.{goesLeft}
 use Rattle.points.specs.Choice.{farGap}
 use Rattle.points.proofs.IntegerLaws.{Near, near-add, near-sub, near-more, near-lt, abs-raise}
-use Rattle.points.proofs.MachineLaws.{in64, of-ok, of-result, widened, doubled, sub64, fits64, back64, lt-not, cast-sub}
+use Rattle.points.proofs.MachineLaws.{in64, of-ok, of-result, extended-read, doubled, sub64, fits64, back64, lt-not, cast-sub}
 
 -- twice the target's coordinate, and the sum, as the machine has them
-double : tie.After-wide → ℤ
+double : tie.After-extended → ℤ
 double c =
     let s = c .before .before .before .before .args in
     coordinateOf (s .target) (s .cut .axis) +ℤ coordinateOf (s .target) (s .cut .axis)
 
-sum : tie.After-wide → ℤ
+sum : tie.After-extended → ℤ
 sum c = c .before .before .before .before .args .cut .sum
 
-module _ (c : tie.After-wide) where
+module _ (c : tie.After-extended) where
   is-double : in64 (c .before .before .twice .result) ≡ double c
   unfolding double
   is-double =
       let x = c .before .before .before .coordinate in
       doubled (c .before .before .twice .ensures) (x .ensures) (x .ok)
 
-  is-sum : in64 (c .wide .result) ≡ sum c
+  is-sum : in64 (c .extended .result) ≡ sum c
   unfolding sum
-  is-sum = widened (c .wide .ensures) (of-ok (c .before .struct-told .given .1 .0 .1))
+  is-sum = extended-read (c .extended .ensures) (of-ok (c .before .struct-told .given .1 .0 .1))
 
   near-double : Near 4294967296 (double c)
   unfolding double
@@ -48,7 +48,7 @@ module _ (c : tie.After-wide) where
   unfolding sum
   near-sum = near-more 4294967296 (lit≤ tt) (of-ok (c .before .struct-told .given .1 .0 .1))
 
-  left : {t : Bool} → ltZ (in64 (c .before .before .twice .result)) (in64 (c .wide .result)) ≡ t → ltZ (double c) (sum c) ≡ t
+  left : {t : Bool} → ltZ (in64 (c .before .before .twice .result)) (in64 (c .extended .result)) ≡ t → ltZ (double c) (sum c) ≡ t
   left e = (λ i. ltZ (sym is-double i) (sym is-sum i)) ∙ e
 
   -- the two differences
@@ -69,8 +69,8 @@ coordinate-requires c κs = search needs
 twice-requires : tie.Need-twice-requires
 twice-requires c κs = search needs
 
-wide-requires : tie.Need-wide-requires
-wide-requires c κs = search needs
+extended-requires : tie.Need-extended-requires
+extended-requires c κs = search needs
 
 sub-result : tie.Need-sub-result
 sub-result c = rw (is-sum (c .before), is-double (c .before)) (fits64 (up (c .before)))
@@ -112,7 +112,7 @@ far-gap-spec =
     (tie.spec
     coordinate-requires
     twice-requires
-    wide-requires
+    extended-requires
     sub-result
     cast-result
     sub-result-2

@@ -3,7 +3,7 @@ use Rattle.points.proofs.cut.goes_left.Statement.{statement}
 use Rattle.points.proofs.cut.goes_left.Tie as tie
 use lib.Signed.{ltZ}
 use Rattle.points.specs.Cut.{goesLeft}
-use Rattle.points.proofs.MachineLaws.{of-ok, widened, doubled}
+use Rattle.points.proofs.MachineLaws.{of-ok, extended-read, doubled}
 
 coordinate-requires : tie.Need-coordinate-requires
 coordinate-requires c κs = search needs
@@ -11,16 +11,16 @@ coordinate-requires c κs = search needs
 twice-requires : tie.Need-twice-requires
 twice-requires c κs = search needs
 
-wide-requires : tie.Need-wide-requires
-wide-requires c κs = search needs
+extended-requires : tie.Need-extended-requires
+extended-requires c κs = search needs
 
 returns : tie.Need-returns
 unfolding goesLeft
 returns c =
     let x = c .before .before .before .coordinate in
     let double = doubled (c .before .before .twice .ensures) (x .ensures) (x .ok) in
-    let sum = widened (c .wide .ensures) (of-ok (c .before .struct-told .given .1 .0 .1)) in
+    let sum = extended-read (c .extended .ensures) (of-ok (c .before .struct-told .given .1 .0 .1)) in
     λ i. ltZ (double i) (sum i)
 
 pub goes-left-spec : {M : Type 1} → statement M
-goes-left-spec = tie.close (tie.spec coordinate-requires twice-requires wide-requires returns)
+goes-left-spec = tie.close (tie.spec coordinate-requires twice-requires extended-requires returns)

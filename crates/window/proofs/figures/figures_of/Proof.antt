@@ -24,8 +24,8 @@ size c = sym (length-map (c .args .window .readings) (λ v. v)) ∙ c .good .0 .
 sound : (c : tie.Start Inv-loop μ-loop) → SoundState (c .args .window)
 sound c = sound-tells (c .args .window) (c .pre .0)
 
-place-requires : tie.Need-place-requires Inv-loop μ-loop
-place-requires c κs = search needs
+position-requires : tie.Need-position-requires Inv-loop μ-loop
+position-requires c κs = search needs
 
 array-read-first : tie.Need-array-read-first Inv-loop μ-loop
 array-read-first c = omega arith
@@ -34,24 +34,24 @@ loop-holds : tie.Need-loop-holds Inv-loop μ-loop
 loop-holds c =
     let s = c .before .before in
     let f = figures-first (s .args .window .readings) (omega (arith, size s)) in
-    (omega arith, omega (arith, c .place .ensures, s .pre .1), sym (f .sum), sym (f .least), sym (f .greatest), sound-reading (s .args .window) (sound s) 0 (s .pre .1))
+    (omega arith, omega (arith, c .position .ensures, s .pre .1), sym (f .sum), sym (f .least), sym (f .greatest), sound-reading (s .args .window) (sound s) 0 (s .pre .1))
 
 mul-reading : tie.Need-mul-reading Inv-loop μ-loop
 mul-reading c =
     let h = sound (c .before .before .before .before) in
-    omega (arith, c .before .before .place .ensures, h .present, h .most)
+    omega (arith, c .before .before .position .ensures, h .present, h .most)
 
 array-read-reading : tie.Need-array-read-reading Inv-loop μ-loop
 array-read-reading c =
     let h = sound (c .before .before .before .before) in
-    omega (arith, c .before .before .place .ensures, h .present, h .most)
+    omega (arith, c .before .before .position .ensures, h .present, h .most)
 
 add-sum : tie.Need-add-sum Inv-loop μ-loop
 add-sum c =
     let s = c .before .before .before .before in
     let l = c .before .loop in
     let h = sound s in
-    omega (arith, c .before .before .place .ensures, h .present, h .most, l .inv .5, sound-reading (s .args .window) h (l .i) (omega (arith, c .before .before .place .ensures)))
+    omega (arith, c .before .before .position .ensures, h .present, h .most, l .inv .5, sound-reading (s .args .window) h (l .i) (omega (arith, c .before .before .position .ensures)))
 
 lesser-requires : tie.Need-lesser-requires Inv-loop μ-loop
 lesser-requires c κs = search needs
@@ -62,7 +62,7 @@ greater-requires c κs = search needs
 add-i : tie.Need-add-i Inv-loop μ-loop
 add-i c =
     let h = sound (c .before .before .before .before .before .before) in
-    omega (arith, c .before .before .before .before .place .ensures, h .present, h .most)
+    omega (arith, c .before .before .before .before .position .ensures, h .present, h .most)
 
 loop-less : tie.Need-loop-less Inv-loop μ-loop
 loop-less c = omega arith
@@ -71,7 +71,7 @@ loop-again : tie.Need-loop-again Inv-loop μ-loop
 loop-again c =
     let l = c .before .before .before .loop in
     let s = c .before .before .before .before .before .before in
-    let p = c .before .before .before .before .place .ensures in
+    let p = c .before .before .before .before .position .ensures in
     let h = sound s in
     let xs = s .args .window .readings in
     let f = figures-more xs (l .i) (omega arith) (omega (arith, size s, p, h .present, h .most)) in (
@@ -87,7 +87,7 @@ mean-of-requires : tie.Need-mean-of-requires Inv-loop μ-loop
 mean-of-requires c κs =
     let s = c .before .before .before .before in
     let h = sound s in
-    (s .pre .1, omega (arith, h .present, h .most), omega (arith, c .before .loop .inv .5, c .before .loop .inv .1, c .before .before .place .ensures, h .present, h .most))
+    (s .pre .1, omega (arith, h .present, h .most), omega (arith, c .before .loop .inv .5, c .before .loop .inv .1, c .before .before .position .ensures, h .present, h .most))
 
 returns : tie.Need-returns Inv-loop μ-loop
 unfolding figuresOf presentIn
@@ -95,7 +95,7 @@ returns c =
     let l = c .before .before .loop in
     let s = c .before .before .before .before .before in
     let w = s .args .window in
-    let e : l .i ≡ w .present = omega (arith, l .inv .1, c .before .before .before .place .ensures) in
+    let e : l .i ≡ w .present = omega (arith, l .inv .1, c .before .before .before .position .ensures) in
     let sum = l .inv .2 ∙ ap (λ (k : ℕ). sumOf (take k (w .readings))) e in
     let least = l .inv .3 ∙ ap (λ (k : ℕ). leastOf (take k (w .readings))) e in
     let greatest = l .inv .4 ∙ ap (λ (k : ℕ). greatestOf (take k (w .readings))) e in
@@ -108,7 +108,7 @@ figures-of-spec =
     (tie.spec
     Inv-loop
     μ-loop
-    place-requires
+    position-requires
     array-read-first
     loop-holds
     mul-reading

@@ -26,17 +26,17 @@ sub-staying c =
     let h = sound (c .before .before) in
     omega (arith, c .leaving .ensures, h .least, h .present)
 
-place-requires : tie.Need-place-requires
-place-requires c κs = search needs
+position-requires : tie.Need-position-requires
+position-requires c κs = search needs
 
-place-requires-2 : tie.Need-place-requires-2
-place-requires-2 c κs = search needs
+position-requires-2 : tie.Need-position-requires-2
+position-requires-2 c κs = search needs
 
 slid-requires : tie.Need-slid-requires
 slid-requires c κs =
     let s = c .before .before .before .before in
     let h = sound s in
-    (omega (arith, c .place2 .ensures, c .before .before .leaving .ensures, h .least, h .present), size s)
+    (omega (arith, c .position2 .ensures, c .before .before .leaving .ensures, h .least, h .present), size s)
 
 mul-kept : tie.Need-mul-kept
 mul-kept c = search needs
@@ -44,7 +44,7 @@ mul-kept c = search needs
 array-write-kept : tie.Need-array-write-kept
 array-write-kept c =
     let h = sound (c .before .before .before .before .before) in
-    omega (arith, c .before .before .place .ensures, c .before .before .before .leaving .ensures, h .least, h .present, h .most)
+    omega (arith, c .before .before .position .ensures, c .before .before .before .leaving .ensures, h .least, h .present, h .most)
 
 add-t14 : tie.Need-add-t14
 add-t14 c = search needs
@@ -56,11 +56,11 @@ returns c =
     let w = s .args .window in
     let x = s .args .reading in
     let g = c .before .before .before .leaving .ensures in
-    let at = c .before .before .place .ensures ∙ ap (λ (k : ℕ). w .present - k) g in
+    let at = c .before .before .position .ensures ∙ ap (λ (k : ℕ). w .present - k) g in
     let present = ap (λ (k : ℕ). (w .present - k) + 1) g ∙ next-present w (size s) (sound s) x in
     let readings =
     ap (λ (k : ℕ). set (c .slid .result) k x) at
-    ∙ ap (λ (ys : List ℕ). set ys (w .present - ((w .present + 1) - w .length)) x) (c .slid .ensures ∙ ap (λ (k : ℕ). drop k (w .readings) ++ replicate k 0) (c .before .place2 .ensures ∙ g))
+    ∙ ap (λ (ys : List ℕ). set ys (w .present - ((w .present + 1) - w .length)) x) (c .slid .ensures ∙ ap (λ (k : ℕ). drop k (w .readings) ++ replicate k 0) (c .before .position2 .ensures ∙ g))
     ∙ next-readings w (size s) (sound s) x in
     λ i. record { length = w .length; present = present i; readings = readings i }
 
@@ -70,8 +70,8 @@ next-window-spec =
     (tie.spec
     leaving-requires
     sub-staying
-    place-requires
-    place-requires-2
+    position-requires
+    position-requires-2
     slid-requires
     mul-kept
     array-write-kept

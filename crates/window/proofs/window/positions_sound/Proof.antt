@@ -1,4 +1,4 @@
--- `window::window::places_sound` meets its contract. Assumes nothing.
+-- `window::window::positions_sound` meets its contract. Assumes nothing.
 use borrow.Author.Needs.{needs}
 use Prim.Native.Nat.{ℕ, _≤_, _-_}
 use mathlib.Core.Path.{_≡_, refl, sym, ap, _∙_}
@@ -8,8 +8,8 @@ use native.Mathlib.Numerals.{add-one}
 use lib.Dec.{leb}
 use lib.ListN.{getD}
 use Rattle.window.specs.Window.{soundBelow}
-use Rattle.window.proofs.window.places_sound.Statement.{statement}
-use Rattle.window.proofs.window.places_sound.Tie as tie
+use Rattle.window.proofs.window.positions_sound.Statement.{statement}
+use Rattle.window.proofs.window.positions_sound.Tie as tie
 
 abbrev Inv-loop : tie.InvT-loop
 Inv-loop present readings sound₀ i₀ sound i = (i ≤ 64) × (sound ≡ soundBelow readings present i)
@@ -54,8 +54,8 @@ returns c =
     let e : l .i ≡ 64 = omega arith in
     l .inv .1 ∙ ap (λ (n : ℕ). soundBelow (a .t1) (a .present) n) e
 
-pub places-sound-spec : {M : Type 1} → statement M
-places-sound-spec =
+pub positions-sound-spec : {M : Type 1} → statement M
+positions-sound-spec =
     tie.close
     (tie.spec
     Inv-loop

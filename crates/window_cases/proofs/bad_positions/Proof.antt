@@ -1,10 +1,10 @@
--- `window_cases::bad_places` is safe and ends. Assumes nothing.
+-- `window_cases::bad_positions` is safe and ends. Assumes nothing.
 use borrow.Author.Needs.{needs}
 use mathlib.Core.Path.{_≡_}
 use Prim.Native.Nat.{_-_}
 use lib.ListN.{length}
-use Rattle.window_cases.proofs.bad_places.Statement.{statement}
-use Rattle.window_cases.proofs.bad_places.Tie as tie
+use Rattle.window_cases.proofs.bad_positions.Statement.{statement}
+use Rattle.window_cases.proofs.bad_positions.Tie as tie
 
 abbrev Inv-loop : tie.InvT-loop
 Inv-loop book₀ behind number name present₀ book present = length book ≡ length book₀
@@ -21,14 +21,14 @@ shortest-requires c κs = search needs
 state-requires : tie.Need-state-requires Inv-loop μ-loop
 state-requires c κs = search needs
 
-try-places-requires : tie.Need-try-places-requires Inv-loop μ-loop
-try-places-requires c κs = search needs
+try-positions-requires : tie.Need-try-positions-requires Inv-loop μ-loop
+try-positions-requires c κs = search needs
 
 state-requires-2 : tie.Need-state-requires-2 Inv-loop μ-loop
 state-requires-2 c κs = search needs
 
-try-places-requires-2 : tie.Need-try-places-requires-2 Inv-loop μ-loop
-try-places-requires-2 c κs = search needs
+try-positions-requires-2 : tie.Need-try-positions-requires-2 Inv-loop μ-loop
+try-positions-requires-2 c κs = search needs
 
 add-present : tie.Need-add-present Inv-loop μ-loop
 add-present c = search needs
@@ -48,8 +48,8 @@ same-length c = search needs
 returns : tie.Need-returns Inv-loop μ-loop
 returns c = search needs
 
-pub bad-places-spec : {M : Type 1} → statement M
-bad-places-spec =
+pub bad-positions-spec : {M : Type 1} → statement M
+bad-positions-spec =
     tie.close
     (tie.spec
     Inv-loop
@@ -57,9 +57,9 @@ bad-places-spec =
     loop-holds
     shortest-requires
     state-requires
-    try-places-requires
+    try-positions-requires
     state-requires-2
-    try-places-requires-2
+    try-positions-requires-2
     add-present
     loop-less
     loop-again
