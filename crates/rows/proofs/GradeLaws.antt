@@ -19,11 +19,11 @@ use Rattle.points.specs.Choice.{sameGrade}
 use Rattle.points.proofs.Tests.{and-r}
 use Rattle.points.proofs.ChoiceLaws.{grade-word}
 use Rattle.rows.specs.declared.row.Row.the-variants.{Cut}
-use Rattle.words.specs.Layout.{atRow, mostRows}
+use Rattle.words.specs.Layout.{mostRows, rowSize, atRow, Fits}
 use Rattle.words.specs.Words.{get, put, splice}
-use Rattle.words.specs.Agree.{Agree, Only, inRow, AgreeIn, OnlyIn}
+use Rattle.words.specs.Agree.{Agree, Only, inRow, AgreeIn, OnlyIn, startOf, sizeOf}
 use Rattle.rows.specs.Row.{rowAt, putRow}
-use Rattle.rows.specs.Tree.{childAt}
+use Rattle.rows.specs.Tree.{childAt, atChild}
 use Rattle.rows.specs.Grades.{slotOf, atSlot, hasBit, withBit, admits, markSide, markToward, noGrades, beginGrades}
 use Rattle.words.proofs.Splice.{length-splice}
 use Rattle.words.proofs.WordLaws.{put-outside, get-put-same, get-put-other}
@@ -97,7 +97,7 @@ module _ (w : List ℕ) (r : ℕ) (left : Bool) (k : ℕ) where
 
   -- it touches the grades of its row alone
   mark-grades : k < 128 → Only (markSide w r left k) w (atRow r + 8) 8
-  unfolding markSide
+  unfolding markSide atSlot
   mark-grades h = go left
     where
       go : (b : Bool) → Only (put w (atSlot r b k) (withBit (get w (atSlot r b k)) k)) w (atRow r + 8) 8
@@ -106,7 +106,7 @@ module _ (w : List ℕ) (r : ℕ) (left : Bool) (k : ℕ) where
 
 -- slices that agree, and agree on the row, agree again after one mark
 mark-agree : {v w : List ℕ} {a n : ℕ} → Agree v w a n → (r : ℕ) (left : Bool) (k : ℕ) → k < 128 → AgreeIn v w (inRow r) → Agree (markSide v r left k) (markSide w r left k) a n
-unfolding markSide
+unfolding markSide atSlot startOf sizeOf
 mark-agree {v} {w} {a} {n} g r left k h m = go left
   where
     go : (b : Bool) → Agree (put v (atSlot r b k) (withBit (get v (atSlot r b k)) k)) (put w (atSlot r b k) (withBit (get w (atSlot r b k)) k)) a n
@@ -117,7 +117,7 @@ mark-agree {v} {w} {a} {n} g r left k h m = go left
 
 -- slices that agree on a row admit the same there
 pub admits-agree : {v w : List ℕ} (r : ℕ) (side : Bool) (k : ℕ) → k < 128 → AgreeIn v w (inRow r) → admits v r side k ≡ admits w r side k
-unfolding admits
+unfolding admits atSlot startOf sizeOf
 admits-agree {v} {w} r side k h g = go side
   where
     go : (b : Bool) → hasBit (get v (atSlot r b k)) k ≡ hasBit (get w (atSlot r b k)) k
@@ -127,7 +127,7 @@ admits-agree {v} {w} r side k h g = go side
 -- a cut that is written keeps its grades
 pub admits-putRow : (w : List ℕ) (r parent : ℕ) (cut : PointCut) (left right q : ℕ) (side : Bool) (k : ℕ) → k < 128
     → admits (putRow w r (Cut parent cut left right)) q side k ≡ admits w q side k
-unfolding admits
+unfolding admits atSlot atRow
 admits-putRow w r parent cut left right q side k h = go side
   where
     go : (b : Bool) → hasBit (get (putRow w r (Cut parent cut left right)) (atSlot q b k)) k ≡ hasBit (get w (atSlot q b k)) k
@@ -137,11 +137,12 @@ admits-putRow w r parent cut left right q side k h = go side
 -- no row is seen to change where only the grades of a cut do
 module _ {v w : List ℕ} (rows r parent : ℕ) (cut : PointCut) (left right : ℕ) where
   rowAt-grades : Only v w (atRow r + 8) 8 → rowAt w rows r ≡ Cut parent cut left right → (q : ℕ) → rowAt v rows q ≡ rowAt w rows q
+  unfolding startOf sizeOf
   rowAt-grades g e q = go (ℕ-discrete q r)
     where
       go : Dec (q ≡ r) → rowAt v rows q ≡ rowAt w rows q
       go (yes f) = rw f (cut-first w rows r e (only-apart g (atRow r) 8 (λ i p l p′ l′. omega arith)))
-      go (no n) = rowAt-agree rows q (elsewhere (inRow r) (inRow q) (only-within g (atRow r) 16 (omega arith) (omega arith)) (row-row q r n))
+      go (no n) = rowAt-agree rows q (elsewhere (inRow r) (inRow q) (only-within g (atRow r) rowSize (omega arith) (omega arith)) (row-row q r n))
 
 -- ---- a walk's mark
 
@@ -164,7 +165,8 @@ module _ (w : List ℕ) (r to k : ℕ) (below : k < 128) where
 
   -- it touches its row alone
   pub toward-only : OnlyIn (markToward w r to k) w (inRow r)
-  toward-only = only-within toward-grades (atRow r) 16 (omega arith) (omega arith)
+  unfolding startOf sizeOf
+  toward-only = only-within toward-grades (atRow r) rowSize (omega arith) (omega arith)
 
   -- a walk that stays marks nothing
   pub toward-here : r ≡ to → markToward w r to k ≡ w
@@ -177,7 +179,7 @@ module _ (w : List ℕ) (r to k : ℕ) (below : k < 128) where
     toward-rows = rowAt-grades rows r parent cut left right toward-grades reads
 
     pub toward-in : ¬ (r ≡ to) → admits (markToward w r to k) r (eqb left to) k ≡ true
-    unfolding markToward
+    unfolding markToward atSlot
     toward-in n = rw (ne-eqb r to n) (rw (cut-child w rows r reads true) (mark-in w r (eqb left to) k (go (eqb left to))))
       where
         go : (b : Bool) → atSlot r b k < length w
@@ -186,7 +188,7 @@ module _ (w : List ℕ) (r to k : ℕ) (below : k < 128) where
 
 -- slices that agree, and agree on the row, agree again after a walk's mark
 pub toward-agree : {v w : List ℕ} {a n : ℕ} → Agree v w a n → (r to k : ℕ) → k < 128 → AgreeIn v w (inRow r) → Agree (markToward v r to k) (markToward w r to k) a n
-unfolding markToward childAt
+unfolding markToward childAt atChild startOf sizeOf
 toward-agree {v} {w} {a} {n} g r to k h m = rw (m .words (atRow r + 6) (omega arith) (omega arith)) (go (eqb r to))
   where
     go : (b : Bool) → Agree (cond b v (markSide v r (eqb (get w (atRow r + 6)) to) k)) (cond b w (markSide w r (eqb (get w (atRow r + 6)) to) k)) a n
@@ -201,15 +203,16 @@ cleared w r = splice w noGrades (atRow r + 8) 8
 
 module _ (w : List ℕ) (r : ℕ) (left : Bool) (here there : ℕ) (below : here < 128) (below′ : there < 128) where
   begin-grades : Only (beginGrades w r left here there) w (atRow r + 8) 8
-  unfolding beginGrades
-  begin-grades = cond-only (ltb r mostRows && leb (atRow r + 16) (length w)) (λ e.
+  unfolding beginGrades noGrades
+  begin-grades = cond-only (ltb r mostRows && leb (atRow r + rowSize) (length w)) (λ e.
       only-trans (mark-grades (markSide (cleared w r) r left here) r (not left) there below′)
       (only-trans (mark-grades (cleared w r) r left here below)
-      (splice-only w noGrades (atRow r + 8) 8 (omega (arith, leb-true (atRow r + 16) (length w) (and-r (ltb r mostRows) _ e))) refl)))
+      (splice-only w noGrades (atRow r + 8) 8 (omega (arith, leb-true (atRow r + rowSize) (length w) (and-r (ltb r mostRows) _ e))) refl)))
 
   -- they touch its row alone
   pub begin-only : OnlyIn (beginGrades w r left here there) w (inRow r)
-  begin-only = only-within begin-grades (atRow r) 16 (omega arith) (omega arith)
+  unfolding startOf sizeOf
+  begin-only = only-within begin-grades (atRow r) rowSize (omega arith) (omega arith)
 
   -- no row is seen to change
   pub begin-rows : (rows : ℕ) {parent : ℕ} {cut : PointCut} {one two : ℕ} → rowAt w rows r ≡ Cut parent cut one two → (q : ℕ)
@@ -217,27 +220,37 @@ module _ (w : List ℕ) (r : ℕ) (left : Bool) (here there : ℕ) (below : here
   begin-rows rows {parent} {cut} {one} {two} e = rowAt-grades rows r parent cut one two begin-grades e
 
   -- both slots are there
-  module _ (m : r < mostRows) (fits : atRow r + 16 ≤ length w) where
+  module _ (rows : ℕ) (room : Fits w rows) (h : r < rows) where
+    m : r < mostRows
+    m = omega (arith, room .most)
+
+    fits : atRow r + rowSize ≤ length w
+    unfolding atRow
+    fits = omega (arith, room .long)
+
     begun : beginGrades w r left here there ≡ markSide (markSide (cleared w r) r left here) r (not left) there
     unfolding beginGrades
-    begun = rw (lt-ltb r mostRows m, le-leb (atRow r + 16) (length w) fits)
+    begun = rw (lt-ltb r mostRows m, le-leb (atRow r + rowSize) (length w) fits)
 
     size : length (cleared w r) ≡ length w
-    size = length-splice w noGrades (atRow r + 8) 8 (omega arith) refl
+    unfolding noGrades
+    size = length-splice w noGrades (atRow r + 8) 8 (omega (arith, fits)) refl
 
     pub begin-here : admits (beginGrades w r left here there) r left here ≡ true
+    unfolding atSlot
     begin-here = rw begun (mark-stays (markSide (cleared w r) r left here) r (not left) there r left here (mark-in (cleared w r) r left here (go left)))
       where
         go : (b : Bool) → atSlot r b here < length (cleared w r)
-        go true = omega (arith, size, below)
-        go false = omega (arith, size, below)
+        go true = omega (arith, size, fits, below)
+        go false = omega (arith, size, fits, below)
 
     pub begin-there : admits (beginGrades w r left here there) r (not left) there ≡ true
+    unfolding atSlot
     begin-there = rw begun (mark-in (markSide (cleared w r) r left here) r (not left) there (go (not left)))
       where
         go : (b : Bool) → atSlot r b there < length (markSide (cleared w r) r left here)
-        go true = omega (arith, size, below′, mark-grades (cleared w r) r left here below .lengths)
-        go false = omega (arith, size, below′, mark-grades (cleared w r) r left here below .lengths)
+        go true = omega (arith, size, fits, below′, mark-grades (cleared w r) r left here below .lengths)
+        go false = omega (arith, size, fits, below′, mark-grades (cleared w r) r left here below .lengths)
 
 -- a row that is not there gets none
 pub begin-outside : (w : List ℕ) (r : ℕ) (left : Bool) (here there : ℕ) → mostRows ≤ r → beginGrades w r left here there ≡ w
@@ -247,12 +260,12 @@ begin-outside w r left here there h = rw (le-ltb r mostRows h)
 -- slices that agree, and agree on the row, agree again after a new cut got its grades
 pub begin-agree : {v w : List ℕ} {a n : ℕ} → Agree v w a n → (r : ℕ) (left : Bool) (here there : ℕ) → here < 128 → there < 128 → AgreeIn v w (inRow r)
     → Agree (beginGrades v r left here there) (beginGrades w r left here there) a n
-unfolding beginGrades
+unfolding beginGrades noGrades
 begin-agree {v} {w} {a} {n} g r left here there h h′ m =
-    cond-agree (ltb r mostRows && leb (atRow r + 16) (length v)) (ltb r mostRows && leb (atRow r + 16) (length w))
-    (ap (λ i. ltb r mostRows && leb (atRow r + 16) i) (g .lengths))
+    cond-agree (ltb r mostRows && leb (atRow r + rowSize) (length v)) (ltb r mostRows && leb (atRow r + rowSize) (length w))
+    (ap (λ i. ltb r mostRows && leb (atRow r + rowSize) i) (g .lengths))
     (λ e.
-    let room : atRow r + 8 + 8 ≤ length v = omega (arith, leb-true (atRow r + 16) (length v) (and-r (ltb r mostRows) _ e)) in
+    let room : atRow r + 8 + 8 ≤ length v = omega (arith, leb-true (atRow r + rowSize) (length v) (and-r (ltb r mostRows) _ e)) in
     let c = splice-agree g noGrades (atRow r + 8) 8 room refl in
     let d = splice-agree m noGrades (atRow r + 8) 8 room refl in
     mark-agree (mark-agree c r left here h d) r (not left) there h′ (mark-agree d r left here h d))

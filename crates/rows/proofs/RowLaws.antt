@@ -2,11 +2,11 @@
 -- harmless; slices that agree on the words of a row have the same row there.
 -- Assumes nothing.
 use mathlib.Core.Path.{_≡_, refl, ap, _∙_}
-use mathlib.Core.Bool.{Bool, true, false, cond, _&&_, false≢true, and-false}
+use mathlib.Core.Bool.{Bool, true, false, cond, _&&_, false≢true}
 use mathlib.Core.List.{List}
 use Prim.Native.Nat.{ℕ, _+_, _≤_, _<_}
 use native.Mathlib.Omega.{arith}
-use borrow.Author.Tests.{leb-true, le-leb, lt-leb, lt-ltb, le-ltb}
+use borrow.Author.Tests.{leb-true, le-leb, lt-ltb, le-ltb}
 use lib.Dec.{leb, ltb, lit<}
 use lib.ListN.{length, getD, drop}
 use Rattle.points.specs.Point.{inRange}
@@ -17,15 +17,15 @@ use Rattle.points.specs.declared.cut.Cut.{Cut as PointCut}
 use Rattle.points.specs.declared.point.Point.{Point}
 use Rattle.rows.specs.declared.row.Row.{Row}
 use Rattle.rows.specs.declared.row.Row.the-variants.{Bad, Spare, Removed, Leaf, Cut}
-use Rattle.words.specs.Layout.{atRow, mostRows, records, Room}
-use Rattle.words.specs.Words.{get, put, part, splice}
-use Rattle.words.specs.Agree.{Off, Agree, Only, inRow, AgreeIn, OnlyIn}
+use Rattle.words.specs.Layout.{rowSize, atRow, mostRows, Fits}
+use Rattle.words.specs.Words.{part, splice}
+use Rattle.words.specs.Agree.{Agree, Only, inRow, AgreeIn, OnlyIn, startOf, sizeOf}
 use Rattle.words.specs.Range.{linkIn, curveIn}
-use Rattle.rows.specs.Row.{isRow, inRows, checkedRow, rowOf, rowAt, encodeRow, filledRow, putRow}
-use Rattle.words.specs.Part.{pointFrom}
+use Rattle.rows.specs.Row.{isRow, inRows, checkedRow, rowOf, rowAt, encodeRow, filledRow, putRow, spareWords, recordWords, cutWords, asSpare, asRemoved, asLeaf, asCut}
+use Rattle.words.specs.Part.{pointFrom, pointWords}
 use lib.Seq.{getD-take, getD-drop}
 use Rattle.words.proofs.Splice.{length-splice, splice-inside}
-use Rattle.words.proofs.AgreeLaws.{part-agree, only-within, only-apart, put-only, splice-only, splice-agree, cond-only, cond-agree, row-row, elsewhere}
+use Rattle.words.proofs.AgreeLaws.{part-agree, only-within, splice-only, splice-agree, cond-only, cond-agree, row-row, elsewhere}
 
 -- what it means that a row is in range, by kind
 pub in-rows-bad : (rows : ℕ) → inRows rows Bad ≡ false
@@ -61,8 +61,8 @@ in-rows-row rows (Leaf parent added point curve) e = refl
 in-rows-row rows (Cut parent cut left right) e = refl
 
 -- at most sixteen words are written
-encode-fits : (row : Row) → length (encodeRow row) ≤ 16
-unfolding encodeRow
+encode-fits : (row : Row) → length (encodeRow row) ≤ rowSize
+unfolding encodeRow spareWords recordWords cutWords pointWords
 encode-fits Bad = omega arith
 encode-fits (Spare next freed) = omega arith
 encode-fits (Removed next freed added point curve) = omega arith
@@ -72,7 +72,7 @@ encode-fits (Cut parent cut left right) = omega arith
 -- words that begin as those of a row give the row
 row-back : (rows : ℕ) (row : Row) (x : List ℕ) → inRows rows row ≡ true
     → ((k : ℕ) → k < length (encodeRow row) → getD x k 0 ≡ getD (encodeRow row) k 0) → rowOf x ≡ row
-unfolding inRows rowOf encodeRow pointFrom
+unfolding inRows rowOf encodeRow pointFrom spareWords recordWords cutWords asSpare asRemoved asLeaf asCut pointWords
 row-back rows Bad x e h = absurd (false≢true e)
 row-back rows (Spare next freed) x e h = simp (h 0 (lit< tt), h 1 (lit< tt), h 2 (lit< tt))
 row-back rows (Removed next freed added point curve) x e h =
@@ -103,11 +103,11 @@ checked-sound rows row e = go (inRows rows row) refl e
 -- a row that is read is in range
 pub row-sound : (w : List ℕ) (rows r : ℕ) → isRow (rowAt w rows r) ≡ true → inRows rows (rowAt w rows r) ≡ true
 unfolding rowAt
-row-sound w rows r e = go (ltb r rows && leb (atRow r + 16) (length w)) e
+row-sound w rows r e = go (ltb r rows && leb (atRow r + rowSize) (length w)) e
   where
-    go : (b : Bool) → isRow (cond b (checkedRow rows (rowOf (part w (atRow r) 16))) Bad) ≡ true
-        → inRows rows (cond b (checkedRow rows (rowOf (part w (atRow r) 16))) Bad) ≡ true
-    go true h = checked-sound rows (rowOf (part w (atRow r) 16)) h
+    go : (b : Bool) → isRow (cond b (checkedRow rows (rowOf (part w (atRow r) rowSize))) Bad) ≡ true
+        → inRows rows (cond b (checkedRow rows (rowOf (part w (atRow r) rowSize))) Bad) ≡ true
+    go true h = checked-sound rows (rowOf (part w (atRow r) rowSize)) h
     go false h = absurd (false≢true h)
 
 -- there is no row from rows on, so none at NONE
@@ -115,14 +115,14 @@ pub rowAt-outside : (w : List ℕ) (rows r : ℕ) → rows ≤ r → rowAt w row
 unfolding rowAt
 rowAt-outside w rows r h = rw (le-ltb r rows h)
 
-pub rowAt-none : (w : List ℕ) (rows : ℕ) → Room w rows → rowAt w rows NONE ≡ Bad
+pub rowAt-none : (w : List ℕ) (rows : ℕ) → Fits w rows → rowAt w rows NONE ≡ Bad
 rowAt-none w rows m = rowAt-outside w rows NONE (omega (arith, m .most))
 
 pub putRow-outside : (w : List ℕ) (r : ℕ) (row : Row) → mostRows ≤ r → putRow w r row ≡ w
 unfolding putRow
 putRow-outside w r row h = go (isRow row) (ltb r mostRows) (le-ltb r mostRows h)
   where
-    go : (b d : Bool) → d ≡ false → cond ((b && d) && leb (atRow r + 16) (length w)) (filledRow w (atRow r) row) w ≡ w
+    go : (b d : Bool) → d ≡ false → cond ((b && d) && leb (atRow r + rowSize) (length w)) (filledRow w (atRow r) row) w ≡ w
     go true d e = rw e
     go false d e = refl
 
@@ -135,40 +135,33 @@ unfolding putRow
 putRow-bad w r = refl
 
 -- the words that are written fit where the row does
-fill-fits : (w : List ℕ) (a : Bool) (row : Row) (r : ℕ) → (a && leb (atRow r + 16) (length w)) ≡ true → atRow r + length (encodeRow row) ≤ length w
-fill-fits w a row r e = omega (arith, leb-true (atRow r + 16) (length w) (and-r a _ e), encode-fits row)
+fill-fits : (w : List ℕ) (a : Bool) (row : Row) (r : ℕ) → (a && leb (atRow r + rowSize) (length w)) ≡ true → atRow r + length (encodeRow row) ≤ length w
+fill-fits w a row r e = omega (arith, leb-true (atRow r + rowSize) (length w) (and-r a _ e), encode-fits row)
 
 -- writing a row touches its sixteen words alone
 pub putRow-only : (w : List ℕ) (r : ℕ) (row : Row) → OnlyIn (putRow w r row) w (inRow r)
-unfolding putRow
+unfolding putRow filledRow startOf sizeOf
 putRow-only w r row =
-    cond-only ((isRow row && ltb r mostRows) && leb (atRow r + 16) (length w))
+    cond-only ((isRow row && ltb r mostRows) && leb (atRow r + rowSize) (length w))
     (λ e. only-within (splice-only w (encodeRow row) (atRow r) (length (encodeRow row)) (fill-fits w (isRow row && ltb r mostRows) row r e) refl)
-    (atRow r) 16 (omega arith) (omega (arith, encode-fits row)))
+    (atRow r) rowSize (omega arith) (omega (arith, encode-fits row)))
 
 pub length-putRow : (w : List ℕ) (r : ℕ) (row : Row) → length (putRow w r row) ≡ length w
 length-putRow w r row = putRow-only w r row .lengths
 
-pub get-putRow : (w : List ℕ) (r : ℕ) (row : Row) (k : ℕ) → Off (atRow r) 16 k → get (putRow w r row) k ≡ get w k
-get-putRow w r row k o = putRow-only w r row .others k o
-
 -- slices that agree agree again after the same row was written
 pub putRow-agree : {v w : List ℕ} {a n : ℕ} → Agree v w a n → (r : ℕ) (row : Row) → Agree (putRow v r row) (putRow w r row) a n
-unfolding putRow
+unfolding putRow filledRow
 putRow-agree {v} {w} {a} {n} g r row =
-    cond-agree ((isRow row && ltb r mostRows) && leb (atRow r + 16) (length v)) ((isRow row && ltb r mostRows) && leb (atRow r + 16) (length w))
-    (ap (λ k. (isRow row && ltb r mostRows) && leb (atRow r + 16) k) (g .lengths))
+    cond-agree ((isRow row && ltb r mostRows) && leb (atRow r + rowSize) (length v)) ((isRow row && ltb r mostRows) && leb (atRow r + rowSize) (length w))
+    (ap (λ k. (isRow row && ltb r mostRows) && leb (atRow r + rowSize) k) (g .lengths))
     (λ e. splice-agree g (encodeRow row) (atRow r) (length (encodeRow row)) (fill-fits v (isRow row && ltb r mostRows) row r e) refl)
     g
 
 -- slices that agree on the words of a row have the same row there
 pub rowAt-agree : {v w : List ℕ} (rows r : ℕ) → AgreeIn v w (inRow r) → rowAt v rows r ≡ rowAt w rows r
-unfolding rowAt
+unfolding rowAt startOf sizeOf
 rowAt-agree rows r g = rw (g .lengths, part-agree g)
-
--- a word of the records and the rows do not touch each other
-pub rowAt-put : (w : List ℕ) (i x rows r : ℕ) → i < records → rowAt (put w i x) rows r ≡ rowAt w rows r
-rowAt-put w i x rows r h = rowAt-agree rows r (only-apart (put-only w i x) (atRow r) 16 (λ k p q p′ q′. omega arith))
 
 -- another row stays
 pub rowAt-putRow-other : (w : List ℕ) (r : ℕ) (row : Row) (rows q : ℕ) → ¬ (q ≡ r) → rowAt (putRow w r row) rows q ≡ rowAt w rows q
@@ -176,34 +169,25 @@ rowAt-putRow-other w r row rows q n =
     rowAt-agree rows q (elsewhere (inRow r) (inRow q) (putRow-only w r row) (row-row q r n))
 
 -- a row in range that is written is read back
-pub rowAt-putRow-same : (w : List ℕ) (r : ℕ) (row : Row) (rows : ℕ) → Room w rows → r < rows → inRows rows row ≡ true → rowAt (putRow w r row) rows r ≡ row
-unfolding rowAt putRow
+pub rowAt-putRow-same : (w : List ℕ) (r : ℕ) (row : Row) (rows : ℕ) → Fits w rows → r < rows → inRows rows row ≡ true → rowAt (putRow w r row) rows r ≡ row
+unfolding rowAt putRow filledRow atRow
 rowAt-putRow-same w r row rows m h e =
-    let room : atRow r + 16 ≤ length w = omega (arith, m .fits) in
+    let room : atRow r + rowSize ≤ length w = omega (arith, m .long) in
     let below : r < mostRows = omega (arith, m .most) in
     let n = length (encodeRow row) in
     let fits : atRow r + n ≤ length w = omega (arith, encode-fits row) in
     let new = splice w (encodeRow row) (atRow r) n in
-    let first : (k : ℕ) → k < n → getD (part new (atRow r) 16) k 0 ≡ getD (encodeRow row) k 0 =
-    λ k l. getD-take 16 (drop (atRow r) new) k 0 (omega (arith, encode-fits row)) ∙ getD-drop (atRow r) new k 0
+    let first : (k : ℕ) → k < n → getD (part new (atRow r) rowSize) k 0 ≡ getD (encodeRow row) k 0 =
+    λ k l. getD-take rowSize (drop (atRow r) new) k 0 (omega (arith, encode-fits row)) ∙ getD-drop (atRow r) new k 0
     ∙ splice-inside w (encodeRow row) (atRow r) n fits refl k l in
-    simp (in-rows-row rows row e, lt-ltb r mostRows below, le-leb (atRow r + 16) (length w) room, length-splice w (encodeRow row) (atRow r) n fits refl, lt-ltb r rows h, row-back rows row (part new (atRow r) 16) e first)
+    simp (in-rows-row rows row e, lt-ltb r mostRows below, le-leb (atRow r + rowSize) (length w) room, length-splice w (encodeRow row) (atRow r) n fits refl, lt-ltb r rows h, row-back rows row (part new (atRow r) rowSize) e first)
     (checked-same rows row e)
 
 -- ---- cuts, whose last eight words are no field of the row
 
 -- writing a cut touches its first eight words alone
 pub putRow-cut-only : (w : List ℕ) (r parent : ℕ) (cut : PointCut) (left right : ℕ) → Only (putRow w r (Cut parent cut left right)) w (atRow r) 8
-unfolding putRow encodeRow
+unfolding putRow encodeRow filledRow cutWords
 putRow-cut-only w r parent cut left right =
-    cond-only ((true && ltb r mostRows) && leb (atRow r + 16) (length w))
-    (λ e. splice-only w (encodeRow (Cut parent cut left right)) (atRow r) 8 (omega (arith, leb-true (atRow r + 16) (length w) (and-r (true && ltb r mostRows) _ e))) refl)
-
--- ---- a slice that is too short
-pub rowAt-short : (w : List ℕ) (rows r : ℕ) → length w < atRow r + 16 → rowAt w rows r ≡ Bad
-unfolding rowAt
-rowAt-short w rows r h = rw (lt-leb (atRow r + 16) (length w) h, and-false (ltb r rows))
-
-pub putRow-short : (w : List ℕ) (r : ℕ) (row : Row) → length w < atRow r + 16 → putRow w r row ≡ w
-unfolding putRow
-putRow-short w r row h = rw (lt-leb (atRow r + 16) (length w) h, and-false (isRow row && ltb r mostRows))
+    cond-only ((true && ltb r mostRows) && leb (atRow r + rowSize) (length w))
+    (λ e. splice-only w (encodeRow (Cut parent cut left right)) (atRow r) 8 (omega (arith, leb-true (atRow r + rowSize) (length w) (and-r (true && ltb r mostRows) _ e))) refl)

@@ -44,15 +44,15 @@ tree-checked-leaf rows parent added point curve = go (inRows rows (Leaf parent a
 -- words of kind 3, of kind 2, and of any other kind
 module _ (rows : ℕ) (w : List ℕ) where
   pub tree-of-cut : getD w 0 0 ≡ 3 → treeRow (checkedRow rows (rowOf w)) ≡ checkedRow rows (asCut w)
-  unfolding rowOf
+  unfolding rowOf checkedRow asCut
   tree-of-cut e = rw e (tree-checked-cut rows _ _ _ _)
 
   pub tree-of-leaf : getD w 0 0 ≡ 2 → treeRow (checkedRow rows (rowOf w)) ≡ checkedRow rows (asLeaf w)
-  unfolding rowOf
+  unfolding rowOf checkedRow asLeaf
   tree-of-leaf e = rw e (tree-checked-leaf rows _ _ _ _)
 
   pub tree-of-none : ¬ (getD w 0 0 ≡ 3) → ¬ (getD w 0 0 ≡ 2) → treeRow (checkedRow rows (rowOf w)) ≡ Bad
-  unfolding rowOf checkedRow
+  unfolding rowOf checkedRow asRemoved asSpare
   tree-of-none f g = rw (ne-eqb (getD w 0 0) 3 f, ne-eqb (getD w 0 0) 2 g) (go (eqb (getD w 0 0) 0) (eqb (getD w 0 0) 1))
     where
       go : (a b : Bool) → treeRow (cond (inRows rows (cond a (asSpare w) (cond b (asRemoved w) Bad))) (cond a (asSpare w) (cond b (asRemoved w) Bad)) Bad) ≡ Bad

@@ -8,7 +8,7 @@ use lib.Dec.{eqb, leb, ltb}
 use lib.ListN.{length}
 use Rattle.points.specs.declared.point.Point.{Point}
 use Rattle.points.specs.Word.{wordOf}
-use Rattle.words.specs.Layout.{atRow, mostRows}
+use Rattle.words.specs.Layout.{mostRows, rowSize, atRow}
 use Rattle.words.specs.Words.{get, put, splice}
 use Rattle.rows.specs.Tree.{childAt}
 
@@ -17,7 +17,7 @@ unfoldable pub slotOf : Point → ℕ
 slotOf p = wordOf p 1 % 127
 
 -- the word of slot k on a side, left or not, of row r
-abbrev pub atSlot : ℕ → Bool → ℕ → ℕ
+unfoldable pub atSlot : ℕ → Bool → ℕ → ℕ
 atSlot r left k = atRow r + k / 32 + cond left 8 12
 
 -- bit k mod 32 of a word is set
@@ -41,11 +41,11 @@ unfoldable pub markToward : List ℕ → ℕ → ℕ → ℕ → List ℕ
 markToward words r to k = cond (eqb r to) words (markSide words r (eqb (childAt words r true) to) k)
 
 -- no slot on either side
-abbrev pub noGrades : List ℕ
+unfoldable pub noGrades : List ℕ
 noGrades = 0 ∷ 0 ∷ 0 ∷ 0 ∷ 0 ∷ 0 ∷ 0 ∷ 0 ∷ []
 
 -- the grades of a new cut in row r: one slot on the side that is told, one on the other, and no more; as they were where there is no such row, and
 -- where the slice is too short
 unfoldable pub beginGrades : List ℕ → ℕ → Bool → ℕ → ℕ → List ℕ
 beginGrades words r left here there =
-    cond (ltb r mostRows && leb (atRow r + 16) (length words)) (markSide (markSide (splice words noGrades (atRow r + 8) 8) r left here) r (not left) there) words
+    cond (ltb r mostRows && leb (atRow r + rowSize) (length words)) (markSide (markSide (splice words noGrades (atRow r + 8) 8) r left here) r (not left) there) words

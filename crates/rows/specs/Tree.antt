@@ -16,7 +16,7 @@ treeRow (Leaf parent added point curve) = Leaf parent added point curve
 treeRow (Cut parent cut left right) = Cut parent cut left right
 
 -- the word of the child of row r on a side, left or not, and that child where the row is a cut
-abbrev pub atChild : ℕ → Bool → ℕ
+unfoldable pub atChild : ℕ → Bool → ℕ
 atChild r left = atRow r + cond left 6 7
 
 unfoldable pub childAt : List ℕ → ℕ → Bool → ℕ

@@ -1,10 +1,10 @@
 // The grades that may lie on each side of a cut: 127 slots a side, the bits of four words.
-use crate::row::FIRST_ROW;
-use crate::row::MOST_ROWS;
-use crate::row::ROW;
 use crate::tree::child_at;
 use points::point::Point;
 use points::word::word;
+use words::layout::MOST_ROWS;
+use words::layout::ROW_SIZE;
+use words::layout::at_row;
 use words::part::write_part;
 use words::word::get;
 use words::word::put;
@@ -22,7 +22,7 @@ pub fn slot_of(point: Point) -> u32
 fn at_slot(r: u32, left: bool, k: u32) -> usize
     ensures { λ x. ⌜ x ≡ atSlot r left k ⌝ }
 {
-    let first = FIRST_ROW + ROW * (r as usize) + ((k / 32) as usize);
+    let first = at_row(r) + ((k / 32) as usize);
     if left { first + 8 } else { first + 12 }
 }
 
@@ -71,8 +71,8 @@ pub fn begin_grades(words: &mut [u32], r: u32, left: bool, here: u32, there: u32
     ensures { λ _. ⌜ now (words .exit) ≡ beginGrades (now (words .entry)) r left here there ⌝ }
 {
     if r < MOST_ROWS {
-        let at = FIRST_ROW + ROW * (r as usize);
-        if at + ROW <= words.len() {
+        let at = at_row(r);
+        if at + ROW_SIZE <= words.len() {
             let none: [u32; 8] = [0, 0, 0, 0, 0, 0, 0, 0];
             write_part(words, at + 8, &none[..]);
             mark_side(words, r, left, here);

@@ -7,6 +7,9 @@ use points::word::cut_at;
 use points::word::cut_in_range;
 use points::word::sum_word;
 use points::word::word;
+use words::layout::MOST_ROWS;
+use words::layout::ROW_SIZE;
+use words::layout::at_row;
 use words::part::point_from;
 use words::part::write_part;
 use words::word::curve_in;
@@ -14,14 +17,17 @@ use words::word::link_in;
 ghost use mathlib.Core.Path.{_≡_};
 ghost use Prim.Native.Nat.{_+_, _≤_};
 ghost use lib.ListN.{length};
+ghost use Rattle.words.specs.Layout.{rowSize};
 ghost use Rattle.rows.specs.Row.{isRow, recordIn, inRows, checkedRow, asSpare, asRemoved, asLeaf, asCut, rowOf, rowAt, spareWords, recordWords, cutWords, filledRow, putRow};
 
-// The word where the rows begin, the words of a row, and the rows of the greatest index.
-pub(crate) const FIRST_ROW: usize = 608;
+// The kinds of a row.
+const SPARE_KIND: u32 = 0;
 
-pub(crate) const ROW: usize = 16;
+const REMOVED_KIND: u32 = 1;
 
-pub(crate) const MOST_ROWS: u32 = 8192;
+pub(crate) const LEAF_KIND: u32 = 2;
+
+pub(crate) const CUT_KIND: u32 = 3;
 
 pub enum Row {
     // No row, or one with a field out of range.
@@ -56,7 +62,7 @@ pub enum Row {
 }
 
 // Whether a row is one.
-pub fn is_row(row: Row) -> bool
+fn is_row(row: Row) -> bool
     ensures { λ r. ⌜ r ≡ isRow row ⌝ }
 {
     match row {
@@ -76,7 +82,7 @@ fn record_in(rows: u32, link: u32, point: Point, curve: u32) -> bool
 }
 
 // Whether every field of a row is in range for an index of so many rows.
-pub fn in_rows(row: Row, rows: u32) -> bool
+fn in_rows(row: Row, rows: u32) -> bool
     ensures { λ r. ⌜ r ≡ inRows rows row ⌝ }
 {
     match row {
@@ -112,7 +118,7 @@ fn checked_row(row: Row, rows: u32) -> Row
 
 // Sixteen words as a row of each kind.
 fn as_spare(part: &[u32]) -> Row
-    requires { ⌜ length (now part) ≡ 16 ⌝ }
+    requires { ⌜ length (now part) ≡ rowSize ⌝ }
     ensures { λ r. ⌜ r ≡ asSpare (now (part .entry)) ⌝ }
 {
     Row::Spare {
@@ -122,7 +128,7 @@ fn as_spare(part: &[u32]) -> Row
 }
 
 fn as_removed(part: &[u32]) -> Row
-    requires { ⌜ length (now part) ≡ 16 ⌝ }
+    requires { ⌜ length (now part) ≡ rowSize ⌝ }
     ensures { λ r. ⌜ r ≡ asRemoved (now (part .entry)) ⌝ }
 {
     Row::Removed {
@@ -135,7 +141,7 @@ fn as_removed(part: &[u32]) -> Row
 }
 
 pub(crate) fn as_leaf(part: &[u32]) -> Row
-    requires { ⌜ length (now part) ≡ 16 ⌝ }
+    requires { ⌜ length (now part) ≡ rowSize ⌝ }
     ensures { λ r. ⌜ r ≡ asLeaf (now (part .entry)) ⌝ }
 {
     Row::Leaf {
@@ -147,7 +153,7 @@ pub(crate) fn as_leaf(part: &[u32]) -> Row
 }
 
 fn as_cut(part: &[u32]) -> Row
-    requires { ⌜ length (now part) ≡ 16 ⌝ }
+    requires { ⌜ length (now part) ≡ rowSize ⌝ }
     ensures { λ r. ⌜ r ≡ asCut (now (part .entry)) ⌝ }
 {
     Row::Cut {
@@ -160,20 +166,20 @@ fn as_cut(part: &[u32]) -> Row
 
 // The row of sixteen words, by their kind.
 fn row_of(part: &[u32]) -> Row
-    requires { ⌜ length (now part) ≡ 16 ⌝ }
+    requires { ⌜ length (now part) ≡ rowSize ⌝ }
     ensures { λ r. ⌜ r ≡ rowOf (now (part .entry)) ⌝ }
 {
     let kind = part[0];
-    if kind == 0 {
+    if kind == SPARE_KIND {
         return as_spare(part);
     }
-    if kind == 1 {
+    if kind == REMOVED_KIND {
         return as_removed(part);
     }
-    if kind == 2 {
+    if kind == LEAF_KIND {
         return as_leaf(part);
     }
-    if kind == 3 {
+    if kind == CUT_KIND {
         return as_cut(part);
     }
     Row::Bad
@@ -184,8 +190,8 @@ pub fn read_row(words: &[u32], rows: u32, r: u32) -> Row
     ensures { λ x. ⌜ x ≡ rowAt (now (words .entry)) rows r ⌝ }
 {
     if r < rows {
-        let start = FIRST_ROW + ROW * (r as usize);
-        let end = start + ROW;
+        let start = at_row(r);
+        let end = start + ROW_SIZE;
         if end <= words.len() {
             return checked_row(row_of(&words[start..end]), rows);
         }
@@ -197,7 +203,8 @@ pub fn read_row(words: &[u32], rows: u32, r: u32) -> Row
 fn spare_words(next: u32, freed: u32) -> [u32; 16]
     ensures { λ r. ⌜ r ≡ spareWords next freed ⌝ }
 {
-    [0, next, freed, 0, 0, 0, 0, 0, 0, 0, 0, 0, 0, 0, 0, 0]
+    let kind = SPARE_KIND;
+    [kind, next, freed, 0, 0, 0, 0, 0, 0, 0, 0, 0, 0, 0, 0, 0]
 }
 
 // The sixteen words of a record, held or removed.
@@ -228,12 +235,14 @@ fn record_words(kind: u32, link: u32, freed: u32, added: u32, point: Point, curv
 fn cut_words(parent: u32, cut: Cut, left: u32, right: u32) -> [u32; 8]
     ensures { λ r. ⌜ r ≡ cutWords parent cut left right ⌝ }
 {
-    [3, parent, 0, 0, axis_word(cut), sum_word(cut), left, right]
+    let axis = axis_word(cut);
+    let sum = sum_word(cut);
+    [CUT_KIND, parent, 0, 0, axis, sum, left, right]
 }
 
-// Writes a row from one place on. The grades of a cut stay.
+// Writes a row from one offset on. The grades of a cut stay.
 fn fill_row(words: &mut [u32], at: usize, row: Row)
-    requires { ⌜ at + 16 ≤ length (now words) ⌝ }
+    requires { ⌜ at + rowSize ≤ length (now words) ⌝ }
     ensures { λ _. ⌜ now (words .exit) ≡ filledRow (now (words .entry)) at row ⌝ }
 {
     match row {
@@ -249,7 +258,7 @@ fn fill_row(words: &mut [u32], at: usize, row: Row)
             point,
             curve,
         } => {
-            let from = record_words(1, next, freed, added, point, curve);
+            let from = record_words(REMOVED_KIND, next, freed, added, point, curve);
             write_part(words, at, &from[..]);
         }
         Row::Leaf {
@@ -258,7 +267,7 @@ fn fill_row(words: &mut [u32], at: usize, row: Row)
             point,
             curve,
         } => {
-            let from = record_words(2, parent, 0, added, point, curve);
+            let from = record_words(LEAF_KIND, parent, 0, added, point, curve);
             write_part(words, at, &from[..]);
         }
         Row::Cut {
@@ -278,8 +287,8 @@ pub fn write_row(words: &mut [u32], r: u32, row: Row)
     ensures { λ _. ⌜ now (words .exit) ≡ putRow (now (words .entry)) r row ⌝ }
 {
     if is_row(row) & (r < MOST_ROWS) {
-        let at = FIRST_ROW + ROW * (r as usize);
-        if at + ROW <= words.len() {
+        let at = at_row(r);
+        if at + ROW_SIZE <= words.len() {
             fill_row(words, at, row);
         }
     }

@@ -1,12 +1,14 @@
 // Rows of the tree, leaves and cuts, as a search reads them: cuts first, which it reads most, and each field tested as a word.
-use crate::row::FIRST_ROW;
-use crate::row::ROW;
+use crate::row::CUT_KIND;
+use crate::row::LEAF_KIND;
 use crate::row::Row;
 use crate::row::as_leaf;
 use points::cut::Cut;
 use points::word::cut_words_in_range;
 use points::word::point_words_in_range;
 use points::word::sum_low_at;
+use words::layout::ROW_SIZE;
+use words::layout::at_row;
 use words::word::curve_in;
 use words::word::get;
 use words::word::link_in;
@@ -14,12 +16,13 @@ ghost use mathlib.Core.Path.{_≡_};
 ghost use mathlib.Core.Bool.{true};
 ghost use lib.ListN.{length, getD};
 ghost use Rattle.points.specs.Word.{cutAt, cutInRange};
+ghost use Rattle.words.specs.Layout.{rowSize};
 ghost use Rattle.rows.specs.Row.{inRows, checkedRow, asLeaf, asCut, rowOf, rowAt};
 ghost use Rattle.rows.specs.Tree.{treeRow, atChild, childAt};
 
 // Whether sixteen words are a cut in range, by the words alone.
 fn cut_sound(part: &[u32], rows: u32) -> bool
-    requires { ⌜ length (now part) ≡ 16 ⌝ }
+    requires { ⌜ length (now part) ≡ rowSize ⌝ }
     ensures { λ r. ⌜ r ≡ inRows rows (asCut (now (part .entry))) ⌝ }
 {
     link_in(rows, part[1])
@@ -30,7 +33,7 @@ fn cut_sound(part: &[u32], rows: u32) -> bool
 
 // The same for a leaf.
 fn leaf_sound(part: &[u32], rows: u32) -> bool
-    requires { ⌜ length (now part) ≡ 16 ⌝ }
+    requires { ⌜ length (now part) ≡ rowSize ⌝ }
     ensures { λ r. ⌜ r ≡ inRows rows (asLeaf (now (part .entry))) ⌝ }
 {
     link_in(rows, part[1])
@@ -51,7 +54,7 @@ fn sound_cut(axis: u32, sum: u32) -> Cut
 
 // Sixteen words as a cut, where its axis and sum are in range.
 fn as_sound_cut(part: &[u32]) -> Row
-    requires { ⌜ (length (now part) ≡ 16) × (cutInRange (cutAt (getD (now part) 4 0) (getD (now part) 5 0)) ≡ true) ⌝ }
+    requires { ⌜ (length (now part) ≡ rowSize) × (cutInRange (cutAt (getD (now part) 4 0) (getD (now part) 5 0)) ≡ true) ⌝ }
     ensures { λ r. ⌜ r ≡ asCut (now (part .entry)) ⌝ }
 {
     Row::Cut {
@@ -64,7 +67,7 @@ fn as_sound_cut(part: &[u32]) -> Row
 
 // Sixteen words as a cut in range, else `Bad`.
 fn tree_cut(part: &[u32], rows: u32) -> Row
-    requires { ⌜ length (now part) ≡ 16 ⌝ }
+    requires { ⌜ length (now part) ≡ rowSize ⌝ }
     ensures { λ r. ⌜ r ≡ checkedRow rows (asCut (now (part .entry))) ⌝ }
 {
     if cut_sound(part, rows) {
@@ -76,7 +79,7 @@ fn tree_cut(part: &[u32], rows: u32) -> Row
 
 // Sixteen words as a leaf in range, else `Bad`.
 fn tree_leaf(part: &[u32], rows: u32) -> Row
-    requires { ⌜ length (now part) ≡ 16 ⌝ }
+    requires { ⌜ length (now part) ≡ rowSize ⌝ }
     ensures { λ r. ⌜ r ≡ checkedRow rows (asLeaf (now (part .entry))) ⌝ }
 {
     if leaf_sound(part, rows) {
@@ -88,14 +91,14 @@ fn tree_leaf(part: &[u32], rows: u32) -> Row
 
 // The row of sixteen words where it is a leaf or a cut in range, else `Bad`.
 fn tree_of(part: &[u32], rows: u32) -> Row
-    requires { ⌜ length (now part) ≡ 16 ⌝ }
+    requires { ⌜ length (now part) ≡ rowSize ⌝ }
     ensures { λ r. ⌜ r ≡ treeRow (checkedRow rows (rowOf (now (part .entry)))) ⌝ }
 {
     let kind = part[0];
-    if kind == 3 {
+    if kind == CUT_KIND {
         return tree_cut(part, rows);
     }
-    if kind == 2 {
+    if kind == LEAF_KIND {
         return tree_leaf(part, rows);
     }
     Row::Bad
@@ -106,8 +109,8 @@ pub fn read_tree(words: &[u32], rows: u32, r: u32) -> Row
     ensures { λ x. ⌜ x ≡ treeRow (rowAt (now (words .entry)) rows r) ⌝ }
 {
     if r < rows {
-        let start = FIRST_ROW + ROW * (r as usize);
-        let end = start + ROW;
+        let start = at_row(r);
+        let end = start + ROW_SIZE;
         if end <= words.len() {
             return tree_of(&words[start..end], rows);
         }
@@ -119,7 +122,7 @@ pub fn read_tree(words: &[u32], rows: u32, r: u32) -> Row
 fn at_child(r: u32, left: bool) -> usize
     ensures { λ x. ⌜ x ≡ atChild r left ⌝ }
 {
-    let first = FIRST_ROW + ROW * (r as usize);
+    let first = at_row(r);
     if left { first + 6 } else { first + 7 }
 }
 

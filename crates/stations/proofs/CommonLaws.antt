@@ -3,47 +3,77 @@
 -- Assumes nothing.
 use mathlib.Core.Path.{_≡_, refl, ap}
 use mathlib.Core.Bool.{Bool, true, false, cond, _&&_, false≢true}
+use mathlib.Core.Logic.{_⊎_, inl, inr}
 use mathlib.Core.List.{List}
-use Prim.Native.Nat.{ℕ, _+_, _≤_, _<_}
-use native.Mathlib.Omega.{arith}
-use borrow.Author.Tests.{leb-true, ltb-true, le-leb, lt-ltb}
-use lib.Dec.{leb, ltb}
+use Prim.Native.Nat.{ℕ, _≤_, _<_}
+use borrow.Author.Tests.{leb-true, ltb-true, eqb-true, le-leb, lt-leb, lt-ltb, eq-eqb}
+use lib.Dec.{eqb, leb, ltb}
 use lib.ListN.{length}
+use Rattle.points.specs.Word.{NONE}
 use Rattle.points.proofs.Tests.{and-l, and-r, and-i}
-use Rattle.words.specs.Layout.{atPlaces, atLimit, atChanges, atHeld, atRoot, atHead, atTail, atRemovals, atCursor, atPhase, atSince, atMissed}
-use Rattle.words.specs.Words.{get}
+use Rattle.words.specs.Layout.{stations, records}
 use Rattle.words.specs.Agree.{inCommon, AgreeIn}
 use Rattle.words.specs.Range.{linkIn}
-use Rattle.stations.specs.Common.{countsIn, linksIn, phasesIn, sinceIn, sincesIn, commonFields, commonSound}
+use Rattle.words.proofs.RangeLaws.{or-true, or-right}
+use Rattle.stations.specs.declared.track.Track.{Track}
+use Rattle.stations.specs.Counts.{countsAt}
+use Rattle.stations.specs.Track.{trackAt}
+use Rattle.stations.specs.Common.{placesAt, limitAt, countsIn, sinceIn, trackIn, tracksIn, commonSound}
 use Rattle.stations.proofs.Eight.{eight-tells, eight-of, eight-same}
+use Rattle.stations.proofs.OpeningLaws.{places-agree, limit-agree}
+use Rattle.stations.proofs.CountLaws.{counts-agree}
+use Rattle.stations.proofs.TrackLaws.{track-agree}
 
--- what the counts and links of an index in range are
+-- ---- what the checks say
+
+-- a since word is none or at most the removals
+pub since-tells : (removals x : ℕ) → sinceIn removals x ≡ true → (x ≡ NONE) ⊎ (x ≤ removals)
+unfolding sinceIn
+since-tells removals x e = go (or-true (eqb x NONE) (leb x removals) e)
+  where
+    go : (eqb x NONE ≡ true) ⊎ (leb x removals ≡ true) → (x ≡ NONE) ⊎ (x ≤ removals)
+    go (inl f) = inl (eqb-true x NONE f)
+    go (inr f) = inr (leb-true x removals f)
+
+pub since-none : (removals x : ℕ) → x ≡ NONE → sinceIn removals x ≡ true
+unfolding sinceIn
+since-none removals x e = rw (eq-eqb x NONE e)
+
+pub since-some : (removals x : ℕ) → x ≤ removals → sinceIn removals x ≡ true
+unfolding sinceIn
+since-some removals x h = or-right (eqb x NONE) (le-leb x removals h)
+
+-- what counts, root, head and tail in range are
 pub record SoundCounts (w : List ℕ) (rows : ℕ) : Type 0 where
-  pub changes : get w atChanges ≤ get w atLimit
-  pub held : get w atHeld ≤ get w atPlaces
-  pub removals : get w atRemovals ≤ get w atChanges
-  pub root : linkIn rows (get w atRoot) ≡ true
-  pub head : get w atHead < rows
-  pub tail : get w atTail < rows
+  pub changes : countsAt w .changes ≤ limitAt w
+  pub held : countsAt w .held ≤ placesAt w
+  pub removals : countsAt w .removals ≤ countsAt w .changes
+  pub root : linkIn rows (countsAt w .root) ≡ true
+  pub head : countsAt w .head < rows
+  pub tail : countsAt w .tail < rows
+
+-- what a track in range is
+pub record SoundTrack (rows removals : ℕ) (track : Track) : Type 0 where
+  pub cursor : linkIn rows (track .cursor) ≡ true
+  pub phase : track .phase ≤ 1
+  pub since : sinceIn removals (track .since) ≡ true
+  pub missed : linkIn rows (track .missed) ≡ true
 
 -- what a common record in range has
 pub record SoundCommon (w : List ℕ) (rows : ℕ) : Type 0 where
-  pub there : 96 ≤ length w
+  pub there : records ≤ length w
   pub counts : SoundCounts w rows
-  pub cursor : (s : ℕ) → s < 8 → linkIn rows (get w (atCursor s)) ≡ true
-  pub phase : (s : ℕ) → s < 8 → get w (atPhase s) ≤ 1
-  pub since : (s : ℕ) → s < 8 → sinceIn (get w atRemovals) (get w (atSince s)) ≡ true
-  pub missed : (s : ℕ) → s < 8 → linkIn rows (get w (atMissed s)) ≡ true
+  pub tracks : (s : ℕ) → s < stations → SoundTrack rows (countsAt w .removals) (trackAt w s)
 
 counts-tells : (w : List ℕ) (rows : ℕ) → countsIn w rows ≡ true → SoundCounts w rows
 unfolding countsIn
 counts-tells w rows e =
-    let a = leb (get w atChanges) (get w atLimit) in
-    let b = leb (get w atHeld) (get w atPlaces) in
-    let c = leb (get w atRemovals) (get w atChanges) in
-    let d = linkIn rows (get w atRoot) in
-    let h = ltb (get w atHead) rows in
-    let five = and-l ((((a && b) && c) && d) && h) (ltb (get w atTail) rows) e in
+    let a = leb (countsAt w .changes) (limitAt w) in
+    let b = leb (countsAt w .held) (placesAt w) in
+    let c = leb (countsAt w .removals) (countsAt w .changes) in
+    let d = linkIn rows (countsAt w .root) in
+    let h = ltb (countsAt w .head) rows in
+    let five = and-l ((((a && b) && c) && d) && h) (ltb (countsAt w .tail) rows) e in
     let four = and-l (((a && b) && c) && d) h five in
     let three = and-l ((a && b) && c) d four in
     let two = and-l (a && b) c three in
@@ -53,33 +83,8 @@ counts-tells w rows e =
       removals = leb-true _ _ (and-r (a && b) c three);
       root = and-r ((a && b) && c) d four;
       head = ltb-true _ _ (and-r (((a && b) && c) && d) h five);
-      tail = ltb-true _ _ (and-r ((((a && b) && c) && d) && h) (ltb (get w atTail) rows) e);
+      tail = ltb-true _ _ (and-r ((((a && b) && c) && d) && h) (ltb (countsAt w .tail) rows) e);
     }
-
--- the check passes exactly on such a record
-pub common-tells : (w : List ℕ) (rows : ℕ) → commonSound w rows ≡ true → SoundCommon w rows
-unfolding commonSound commonFields linksIn phasesIn sincesIn
-common-tells w rows e = go (leb 96 (length w)) refl e
-  where
-    go : (b : Bool) → leb 96 (length w) ≡ b → cond b (commonFields w rows) false ≡ true → SoundCommon w rows
-    go true f h =
-        let a = countsIn w rows in
-        let b = linksIn w rows (atCursor 0) in
-        let c = phasesIn w in
-        let d = sincesIn w (get w atRemovals) in
-        let m = linksIn w rows (atMissed 0) in
-        let three = and-l (((a && b) && c) && d) m h in
-        let two = and-l ((a && b) && c) d three in
-        let one = and-l (a && b) c two in
-        record {
-          there = leb-true 96 (length w) f;
-          counts = counts-tells w rows (and-l a b one);
-          cursor = eight-tells (λ s. linkIn rows (get w (atCursor s))) (and-r a b one);
-          phase = λ s l. leb-true (get w (atPhase s)) 1 (eight-tells (λ s. leb (get w (atPhase s)) 1) (and-r (a && b) c two) s l);
-          since = eight-tells (λ s. sinceIn (get w atRemovals) (get w (atSince s))) (and-r ((a && b) && c) d three);
-          missed = eight-tells (λ s. linkIn rows (get w (atMissed s))) (and-r (((a && b) && c) && d) m h);
-        }
-    go false f h = absurd (false≢true h)
 
 counts-of : (w : List ℕ) (rows : ℕ) → SoundCounts w rows → countsIn w rows ≡ true
 unfolding countsIn
@@ -87,42 +92,57 @@ counts-of w rows c =
     and-i (and-i (and-i (and-i (and-i (le-leb _ _ (c .changes)) (le-leb _ _ (c .held))) (le-leb _ _ (c .removals))) (c .root)) (lt-ltb _ _ (c .head)))
     (lt-ltb _ _ (c .tail))
 
-pub common-of : (w : List ℕ) (rows : ℕ) → SoundCommon w rows → commonSound w rows ≡ true
-unfolding commonSound commonFields linksIn phasesIn sincesIn
-common-of w rows c =
-    rw (le-leb 96 (length w) (c .there))
-    (and-i (and-i (and-i (and-i (counts-of w rows (c .counts))
-    (eight-of (λ s. linkIn rows (get w (atCursor s))) (c .cursor)))
-    (eight-of (λ s. leb (get w (atPhase s)) 1) (λ s l. le-leb (get w (atPhase s)) 1 (c .phase s l))))
-    (eight-of (λ s. sinceIn (get w atRemovals) (get w (atSince s))) (c .since)))
-    (eight-of (λ s. linkIn rows (get w (atMissed s))) (c .missed)))
+module _ (rows removals : ℕ) (track : Track) where
+  track-tells : trackIn rows removals track ≡ true → SoundTrack rows removals track
+  unfolding trackIn
+  track-tells e =
+      let a = linkIn rows (track .cursor) in
+      let b = leb (track .phase) 1 in
+      let c = sinceIn removals (track .since) in
+      let d = linkIn rows (track .missed) in
+      let two = and-l ((a && b) && c) d e in
+      let one = and-l (a && b) c two in
+      record { cursor = and-l a b one; phase = leb-true (track .phase) 1 (and-r a b one); since = and-r (a && b) c two; missed = and-r ((a && b) && c) d e }
 
--- slices that agree on the common record get the same check
-module _ {v w : List ℕ} (g : AgreeIn v w inCommon) where
-  word : (k : ℕ) → k < 96 → get v k ≡ get w k
-  word k l = g .words k (omega arith) (omega arith)
+  track-of : SoundTrack rows removals track → trackIn rows removals track ≡ true
+  unfolding trackIn
+  track-of t = and-i (and-i (and-i (t .cursor) (le-leb (track .phase) 1 (t .phase))) (t .since)) (t .missed)
 
-  counts-agree : (rows : ℕ) → countsIn v rows ≡ countsIn w rows
-  unfolding countsIn
-  counts-agree rows =
-      rw (word atChanges (omega arith), word atLimit (omega arith), word atHeld (omega arith), word atPlaces (omega arith), word atRemovals (omega arith), word atRoot (omega arith), word atHead (omega arith), word atTail (omega arith))
+-- ---- the check passes exactly on such a record
+module _ (w : List ℕ) (rows : ℕ) where
+  abbrev test : ℕ → Bool
+  test s = trackIn rows (countsAt w .removals) (trackAt w s)
 
-  links-agree : (rows k : ℕ) → k + 8 ≤ 96 → linksIn v rows k ≡ linksIn w rows k
-  unfolding linksIn
-  links-agree rows k h =
-      eight-same (λ s. linkIn rows (get v (k + s))) (λ s. linkIn rows (get w (k + s))) (λ s l. ap (linkIn rows) (word (k + s) (omega arith)))
+  pub common-tells : commonSound w rows ≡ true → SoundCommon w rows
+  unfolding commonSound tracksIn
+  common-tells e = go (leb records (length w)) refl e
+    where
+      go : (b : Bool) → leb records (length w) ≡ b → cond b (countsIn w rows && tracksIn w rows (countsAt w .removals)) false ≡ true → SoundCommon w rows
+      go true f h = record {
+        there = leb-true records (length w) f;
+        counts = counts-tells w rows (and-l (countsIn w rows) (tracksIn w rows (countsAt w .removals)) h);
+        tracks = λ s l. track-tells rows (countsAt w .removals) (trackAt w s) (eight-tells test (and-r (countsIn w rows) (tracksIn w rows (countsAt w .removals)) h) s l);
+      }
+      go false f h = absurd (false≢true h)
 
-  phases-agree : phasesIn v ≡ phasesIn w
-  unfolding phasesIn
-  phases-agree =
-      eight-same (λ s. leb (get v (atPhase s)) 1) (λ s. leb (get w (atPhase s)) 1) (λ s l. ap (λ x. leb x 1) (word (atPhase s) (omega arith)))
+  pub common-of : SoundCommon w rows → commonSound w rows ≡ true
+  unfolding commonSound tracksIn
+  common-of c =
+      rw (le-leb records (length w) (c .there))
+      (and-i (counts-of w rows (c .counts)) (eight-of test (λ s l. track-of rows (countsAt w .removals) (trackAt w s) (c .tracks s l))))
 
-  sinces-agree : (n : ℕ) → sincesIn v n ≡ sincesIn w n
-  unfolding sincesIn
-  sinces-agree n =
-      eight-same (λ s. sinceIn n (get v (atSince s))) (λ s. sinceIn n (get w (atSince s))) (λ s l. ap (sinceIn n) (word (atSince s) (omega arith)))
+  -- it does not where the slice is too short
+  pub common-short : length w < records → commonSound w rows ≡ false
+  unfolding commonSound
+  common-short h = rw (lt-leb records (length w) h)
 
-  pub commonSound-agree : (rows : ℕ) → commonSound v rows ≡ commonSound w rows
-  unfolding commonSound commonFields
-  commonSound-agree rows =
-      rw (g .lengths, counts-agree rows, links-agree rows (atCursor 0) (omega arith), phases-agree, word atRemovals (omega arith), sinces-agree (get w atRemovals), links-agree rows (atMissed 0) (omega arith))
+-- ---- slices that agree on the common record get the same check
+pub commonSound-agree : {v w : List ℕ} → AgreeIn v w inCommon → (rows : ℕ) → commonSound v rows ≡ commonSound w rows
+unfolding commonSound countsIn tracksIn
+commonSound-agree {v} {w} g rows =
+    rw (g .lengths, counts-agree g, places-agree g, limit-agree g)
+    (ap (λ b. cond (leb records (length w)) (counts && b) false)
+    (eight-same (λ s. trackIn rows (countsAt w .removals) (trackAt v s)) (test w rows) (λ s l. ap (trackIn rows (countsAt w .removals)) (track-agree g s))))
+  where
+    counts : Bool
+    counts = countsIn w rows

@@ -5,10 +5,11 @@ use mathlib.Core.Bool.{Bool, true, _&&_}
 use Prim.Native.Nat.{ℕ, zero, suc, _<_}
 use native.Mathlib.Omega.{arith}
 use Rattle.points.proofs.Tests.{and-l, and-r, and-i}
+use Rattle.words.specs.Layout.{stations}
 use Rattle.stations.specs.Common.{eight}
 
 -- a fact for each of the numbers below 8
-pub below-eight : (P : ℕ → Type 0) → P 0 → P 1 → P 2 → P 3 → P 4 → P 5 → P 6 → P 7 → (s : ℕ) → s < 8 → P s
+pub below-eight : (P : ℕ → Type 0) → P 0 → P 1 → P 2 → P 3 → P 4 → P 5 → P 6 → P 7 → (s : ℕ) → s < stations → P s
 below-eight P a b c d e f g h zero l = a
 below-eight P a b c d e f g h (suc zero) l = b
 below-eight P a b c d e f g h (suc (suc zero)) l = c
@@ -20,7 +21,7 @@ below-eight P a b c d e f g h (suc (suc (suc (suc (suc (suc (suc zero))))))) l =
 below-eight P a b c d e f g h (suc (suc (suc (suc (suc (suc (suc (suc s)))))))) l = absurd (omega arith)
 
 -- eight tests pass exactly if each does
-pub eight-tells : (t : ℕ → Bool) → eight t ≡ true → (s : ℕ) → s < 8 → t s ≡ true
+pub eight-tells : (t : ℕ → Bool) → eight t ≡ true → (s : ℕ) → s < stations → t s ≡ true
 eight-tells t e =
     let t6 = and-l (((((((t 0 && t 1) && t 2) && t 3) && t 4) && t 5) && t 6)) (t 7) e in
     let t5 = and-l ((((((t 0 && t 1) && t 2) && t 3) && t 4) && t 5)) (t 6) t6 in
@@ -34,13 +35,13 @@ eight-tells t e =
     (and-r (((((t 0 && t 1) && t 2) && t 3) && t 4) && t 5) (t 6) t6)
     (and-r ((((((t 0 && t 1) && t 2) && t 3) && t 4) && t 5) && t 6) (t 7) e)
 
-pub eight-of : (t : ℕ → Bool) → ((s : ℕ) → s < 8 → t s ≡ true) → eight t ≡ true
+pub eight-of : (t : ℕ → Bool) → ((s : ℕ) → s < stations → t s ≡ true) → eight t ≡ true
 eight-of t f =
     and-i (and-i (and-i (and-i (and-i (and-i (and-i (f 0 (omega arith)) (f 1 (omega arith))) (f 2 (omega arith))) (f 3 (omega arith))) (f 4 (omega arith))) (f 5 (omega arith))) (f 6 (omega arith)))
     (f 7 (omega arith))
 
 -- tests that are equal one by one
-pub eight-same : (t u : ℕ → Bool) → ((s : ℕ) → s < 8 → t s ≡ u s) → eight t ≡ eight u
+pub eight-same : (t u : ℕ → Bool) → ((s : ℕ) → s < stations → t s ≡ u s) → eight t ≡ eight u
 eight-same t u f =
     let a = f 0 (omega arith) in
     let b = f 1 (omega arith) in

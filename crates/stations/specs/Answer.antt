@@ -9,17 +9,65 @@ use Rattle.points.specs.Word.{pointAt}
 use Rattle.stations.specs.declared.answer.Answer.{Answer}
 use Rattle.stations.specs.declared.answer.Waiting.{Waiting}
 use Rattle.stations.specs.declared.answer.Waiting.the-variants.{Nothing, Given}
-use Rattle.words.specs.Layout.{atAnswer}
+use Rattle.words.specs.Layout.{mostCurve, atAnswer}
 use Rattle.words.specs.Words.{part, splice}
 use Rattle.words.specs.Part.{pointFrom, pointWords}
 use Rattle.stations.specs.Station.{hasStation, isWaiting, stateAt}
 
+-- ---- the codes of an answer
+
+-- a record was added
+abbrev pub codeAdded : ℕ
+codeAdded = 1
+
+-- the point is held already
+abbrev pub codeHeld : ℕ
+codeHeld = 2
+
+-- no place is left
+abbrev pub codeFull : ℕ
+codeFull = 3
+
+-- no change is left
+abbrev pub codeSpent : ℕ
+codeSpent = 4
+
+-- the record was removed
+abbrev pub codeRemoved : ℕ
+codeRemoved = 5
+
+-- the point is not held
+abbrev pub codeMissing : ℕ
+codeMissing = 6
+
+-- the point is held
+abbrev pub codeContained : ℕ
+codeContained = 7
+
+-- the nearest record
+abbrev pub codeNearest : ℕ
+codeNearest = 8
+
+-- no record has the grade
+abbrev pub codeNone : ℕ
+codeNone = 9
+
+-- the call was withdrawn
+abbrev pub codeWithdrawn : ℕ
+codeWithdrawn = 11
+
+-- there is such a code
+abbrev pub codeIn : ℕ → Bool
+codeIn code = leb codeAdded code && (leb code codeNone || eqb code codeWithdrawn)
+
+-- ---- answers
+
 -- the answer of nine words: code, point, curve, low and high word of the square
-abbrev pub answerOf : List ℕ → Answer
+unfoldable pub answerOf : List ℕ → Answer
 answerOf w = record { code = getD w 0 0; point = pointFrom w 1; curve = getD w 6 0; square = getD w 7 0 + 4294967296 * getD w 8 0 }
 
 -- its nine words
-abbrev pub answerWords : Answer → List ℕ
+unfoldable pub answerWords : Answer → List ℕ
 answerWords answer =
     answer .code ∷ pointWords (answer .point) (answer .curve ∷ answer .square % 4294967296 ∷ answer .square / 4294967296 ∷ [])
 
@@ -27,14 +75,10 @@ answerWords answer =
 abbrev pub noAnswer : Answer
 noAnswer = record { code = 0; point = pointAt 0 0 0 0 0; curve = 0; square = 0 }
 
--- there is such a code: 1 to 9, and 11 for a call that was withdrawn
-abbrev pub codeIn : ℕ → Bool
-codeIn code = leb 1 code && (leb code 9 || eqb code 11)
-
 -- every field of an answer is in range
 unfoldable pub answerSound : Answer → Bool
 answerSound answer =
-    ((codeIn (answer .code) && inRange (answer .point)) && leb (answer .curve) 999999) && leb (answer .square) 11015800001
+    ((codeIn (answer .code) && inRange (answer .point)) && leb (answer .curve) mostCurve) && leb (answer .square) 11015800001
 
 -- the answer of station s; of no code where there is no such station
 unfoldable pub answerAt : List ℕ → ℕ → Answer

@@ -8,18 +8,35 @@ use Rattle.points.specs.Point.{inRange}
 use Rattle.points.specs.Word.{pointAt}
 use Rattle.stations.specs.declared.call.Best.{Best}
 use Rattle.stations.specs.declared.call.Call.{Call}
-use Rattle.words.specs.Layout.{atCall, atBest}
+use Rattle.words.specs.Layout.{mostCurve, atCall, atBest}
 use Rattle.words.specs.Words.{part, splice}
 use Rattle.words.specs.Range.{curveIn}
 use Rattle.words.specs.Part.{pointFrom, pointWords}
 use Rattle.stations.specs.Station.{hasStation}
 
+-- the kinds of a call
+abbrev pub addKind : ℕ
+addKind = 1
+
+abbrev pub removeKind : ℕ
+removeKind = 2
+
+abbrev pub containsKind : ℕ
+containsKind = 3
+
+abbrev pub nearestKind : ℕ
+nearestKind = 4
+
+-- there is such a kind
+abbrev pub kindIn : ℕ → Bool
+kindIn kind = leb addKind kind && leb kind nearestKind
+
 -- the best record of six words: curve, which is 0 for none, and point
-abbrev pub bestOf : List ℕ → Best
+unfoldable pub bestOf : List ℕ → Best
 bestOf w = record { curve = getD w 0 0; point = pointFrom w 1 }
 
 -- its six words
-abbrev pub bestWords : Best → List ℕ
+unfoldable pub bestWords : Best → List ℕ
 bestWords best = best .curve ∷ pointWords (best .point) []
 
 -- no best record
@@ -28,14 +45,14 @@ noBest = record { curve = 0; point = pointAt 0 0 0 0 0 }
 
 -- no best, whatever its point, or a record in range
 unfoldable pub bestSound : Best → Bool
-bestSound best = eqb (best .curve) 0 || (leb (best .curve) 999999 && inRange (best .point))
+bestSound best = eqb (best .curve) 0 || (leb (best .curve) mostCurve && inRange (best .point))
 
 -- the call of eight words, kind, point, curve, as-of, with its best
-abbrev pub callOf : List ℕ → Best → Call
+unfoldable pub callOf : List ℕ → Best → Call
 callOf w best = record { kind = getD w 0 0; point = pointFrom w 1; curve = getD w 6 0; asof = getD w 7 0; best = best }
 
 -- its eight words
-abbrev pub callWords : Call → List ℕ
+unfoldable pub callWords : Call → List ℕ
 callWords call = call .kind ∷ pointWords (call .point) (call .curve ∷ call .asof ∷ [])
 
 -- a call of no kind
@@ -52,12 +69,12 @@ withBest best call = record { kind = call .kind; point = call .point; curve = ca
 
 -- "for an add, curve in range"; other kinds have none
 abbrev pub curveFor : ℕ → ℕ → Bool
-curveFor kind curve = cond (eqb kind 1) (curveIn curve) (eqb curve 0)
+curveFor kind curve = cond (eqb kind addKind) (curveIn curve) (eqb curve 0)
 
 -- every field of a call is in range, where so many changes were made since opening
 unfoldable pub callSound : Call → ℕ → Bool
 callSound call changes =
-    ((((leb 1 (call .kind) && leb (call .kind) 4) && inRange (call .point)) && curveFor (call .kind) (call .curve)) && leb (call .asof) changes) && bestSound (call .best)
+    (((kindIn (call .kind) && inRange (call .point)) && curveFor (call .kind) (call .curve)) && leb (call .asof) changes) && bestSound (call .best)
 
 -- the words with the best of station s written
 unfoldable pub putBest : List ℕ → ℕ → Best → List ℕ

@@ -1,86 +1,52 @@
 -- The common record: question 4, the ranges of its fields, and the places taken.
-use Prim.Native.Nat.{ℕ, _+_, _-_, _*_, min}
+use Prim.Native.Nat.{ℕ, zero, suc, _+_, _-_, _*_, min}
 use mathlib.Core.List.{List}
 use mathlib.Core.Bool.{Bool, true, false, cond, _&&_, _||_}
 use lib.ListN.{length}
 use lib.Dec.{eqb, leb, ltb}
 use Rattle.points.specs.Word.{NONE}
-use Rattle.stations.specs.declared.common.Opening.{Opening}
-use Rattle.stations.specs.declared.common.Opening.the-variants.{Refused, Opened}
-use Rattle.words.specs.Layout.{atMark, atPlaces, atLimit, atChanges, atHeld, atRoot, atHead, atTail, atRemovals, atCursor, atPhase, atSince, atMissed, wordsFor}
-use Rattle.words.specs.Words.{get}
+use Rattle.words.specs.Layout.{records, mostPlaces, mostLimit, wordsFor, atMark, atPlaces, atLimit}
+use Rattle.words.specs.Words.{get, put}
 use Rattle.words.specs.Range.{linkIn}
+use Rattle.stations.specs.declared.track.Track.{Track}
+use Rattle.stations.specs.Counts.{countsAt}
+use Rattle.stations.specs.Track.{trackAt}
+
+-- ---- question 4
 
 -- the mark that opening writes
 abbrev pub mark : ℕ
 mark = 1279683398
 
 -- places 1 to 4,096
-abbrev pub placesIn : ℕ → Bool
-placesIn places = leb 1 places && leb places 4096
+unfoldable pub placesIn : ℕ → Bool
+placesIn places = leb 1 places && leb places mostPlaces
 
 -- change limit 1 to 4,000,000,000
-abbrev pub limitIn : ℕ → Bool
-limitIn limit = leb 1 limit && leb limit 4000000000
+unfoldable pub limitIn : ℕ → Bool
+limitIn limit = leb 1 limit && leb limit mostLimit
+
+-- the first word, and the places and the change limit of the opening
+unfoldable pub markAt : List ℕ → ℕ
+markAt words = get words atMark
+
+unfoldable pub placesAt : List ℕ → ℕ
+placesAt words = get words atPlaces
+
+unfoldable pub limitAt : List ℕ → ℕ
+limitAt words = get words atLimit
 
 -- "are the mark that opening writes, places and limit in range, and length enough for them all there?"
 unfoldable pub openIn : ℕ → ℕ → ℕ → ℕ → Bool
 openIn first places limit size = ((eqb first mark && placesIn places) && limitIn limit) && leb (wordsFor places) size
 
--- question 4: places and limit of an opened slice, or the refusal
+-- what question 4 says of a slice: the refusal, or its places and limit
+pub data Opening : Type 0 where
+  Refused : Opening
+  Opened : ℕ → ℕ → Opening
+
 unfoldable pub openedIn : List ℕ → Opening
-openedIn words =
-    cond (openIn (get words atMark) (get words atPlaces) (get words atLimit) (length words)) (Opened (get words atPlaces) (get words atLimit)) Refused
-
--- counts, root, head and tail are in range
-unfoldable pub countsIn : List ℕ → ℕ → Bool
-countsIn words rows =
-    ((((leb (get words atChanges) (get words atLimit) && leb (get words atHeld) (get words atPlaces)) && leb (get words atRemovals) (get words atChanges)) && linkIn rows (get words atRoot)) && ltb (get words atHead) rows) && ltb (get words atTail) rows
-
--- a test passes for each of the eight stations
-abbrev pub eight : (ℕ → Bool) → Bool
-eight test = ((((((test 0 && test 1) && test 2) && test 3) && test 4) && test 5) && test 6) && test 7
-
--- the eight words from k on are links
-unfoldable pub linksIn : List ℕ → ℕ → ℕ → Bool
-linksIn words rows k = eight (λ s. linkIn rows (get words (k + s)))
-
--- the eight phases are 0 or 1
-unfoldable pub phasesIn : List ℕ → Bool
-phasesIn words = eight (λ s. leb (get words (atPhase s)) 1)
-
--- a since word: none, or at most the removals
-abbrev pub sinceIn : ℕ → ℕ → Bool
-sinceIn removals x = eqb x NONE || leb x removals
-
--- the eight since words are in range
-unfoldable pub sincesIn : List ℕ → ℕ → Bool
-sincesIn words removals = eight (λ s. sinceIn removals (get words (atSince s)))
-
--- every field of the common record is in range, for an index of so many rows
-unfoldable pub commonFields : List ℕ → ℕ → Bool
-commonFields words rows =
-    (((countsIn words rows && linksIn words rows (atCursor 0)) && phasesIn words) && sincesIn words (get words atRemovals)) && linksIn words rows (atMissed 0)
-
--- the same, and the record is there
-unfoldable pub commonSound : List ℕ → ℕ → Bool
-commonSound words rows = cond (leb 96 (length words)) (commonFields words rows) false
-
--- the least of a number and the four words from k on
-unfoldable pub leastFour : List ℕ → ℕ → ℕ → ℕ
-leastFour words k n = min (min (min (min n (get words k)) (get words (k + 1))) (get words (k + 2))) (get words (k + 3))
-
--- the least of the removals and the eight since words
-unfoldable pub leastSince : List ℕ → ℕ
-leastSince words = leastFour words (atSince 4) (leastFour words (atSince 0) (get words atRemovals))
-
--- the removals that an unfinished nearest still holds back
-unfoldable pub awaitingIn : List ℕ → ℕ
-awaitingIn words = get words atRemovals - leastSince words
-
--- places taken: the records held, and the removals that still hold their place
-unfoldable pub takenIn : List ℕ → ℕ
-takenIn words = get words atHeld + awaitingIn words
+openedIn words = cond (openIn (markAt words) (placesAt words) (limitAt words) (length words)) (Opened (placesAt words) (limitAt words)) Refused
 
 -- question 4, as a test
 abbrev pub isOpened : Opening → Bool
@@ -89,4 +55,68 @@ isOpened (Opened places limit) = true
 
 -- the rows of an opened slice, twice its places; none where the places are out of range
 unfoldable pub rowsIn : List ℕ → ℕ
-rowsIn words = cond (leb (get words atPlaces) 4096) (2 * get words atPlaces) 0
+rowsIn words = cond (leb (placesAt words) mostPlaces) (2 * placesAt words) 0
+
+-- ---- what opening writes of the records
+
+-- zero in the first n words
+unfoldable pub cleared : ℕ → List ℕ → List ℕ
+cleared zero words = words
+cleared (suc n) words = put (cleared n words) n 0
+
+-- zero in every word of the common record and of the stations
+unfoldable pub recordsCleared : List ℕ → List ℕ
+recordsCleared words = cleared records words
+
+-- mark, places and limit
+unfoldable pub putOpening : List ℕ → ℕ → ℕ → List ℕ
+putOpening words places limit = put (put (put words atMark mark) atPlaces places) atLimit limit
+
+-- ---- the ranges of the fields
+
+-- counts, root, head and tail are in range
+unfoldable pub countsIn : List ℕ → ℕ → Bool
+countsIn words rows =
+    ((((leb (countsAt words .changes) (limitAt words) && leb (countsAt words .held) (placesAt words))
+    && leb (countsAt words .removals) (countsAt words .changes))
+    && linkIn rows (countsAt words .root))
+    && ltb (countsAt words .head) rows)
+    && ltb (countsAt words .tail) rows
+
+-- a since word: none, or at most the removals
+unfoldable pub sinceIn : ℕ → ℕ → Bool
+sinceIn removals x = eqb x NONE || leb x removals
+
+-- a track: cursor and missed row are links, the phase 0 or 1
+unfoldable pub trackIn : ℕ → ℕ → Track → Bool
+trackIn rows removals track = ((linkIn rows (track .cursor) && leb (track .phase) 1) && sinceIn removals (track .since)) && linkIn rows (track .missed)
+
+-- a test passes for each of the eight stations
+abbrev pub eight : (ℕ → Bool) → Bool
+eight test = ((((((test 0 && test 1) && test 2) && test 3) && test 4) && test 5) && test 6) && test 7
+
+-- the eight tracks are in range
+unfoldable pub tracksIn : List ℕ → ℕ → ℕ → Bool
+tracksIn words rows removals = eight (λ s. trackIn rows removals (trackAt words s))
+
+-- the records are there, and every field of the common record is in range, for an index of so many rows
+unfoldable pub commonSound : List ℕ → ℕ → Bool
+commonSound words rows = cond (leb records (length words)) (countsIn words rows && tracksIn words rows (countsAt words .removals)) false
+
+-- ---- places taken
+
+-- the least of a number and the since words of four stations from s on
+unfoldable pub leastFour : List ℕ → ℕ → ℕ → ℕ
+leastFour words s n = min (min (min (min n (trackAt words s .since)) (trackAt words (s + 1) .since)) (trackAt words (s + 2) .since)) (trackAt words (s + 3) .since)
+
+-- the least of the removals and the eight since words
+unfoldable pub leastSince : List ℕ → ℕ
+leastSince words = leastFour words 4 (leastFour words 0 (countsAt words .removals))
+
+-- the removals that an unfinished nearest still holds back
+unfoldable pub awaitingIn : List ℕ → ℕ
+awaitingIn words = countsAt words .removals - leastSince words
+
+-- places taken: the records held, and the removals that still hold their place
+unfoldable pub takenIn : List ℕ → ℕ
+takenIn words = countsAt words .held + awaitingIn words

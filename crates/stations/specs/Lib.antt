@@ -1,5 +1,7 @@
-pub mod Common
+pub mod Counts
 pub mod Station
+pub mod Track
+pub mod Common
 pub mod Target
 pub mod Call
 pub mod Answer

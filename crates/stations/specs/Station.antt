@@ -1,4 +1,4 @@
--- The stations: their state, and their four words in the common record.
+-- The stations: which there are, and their states.
 use Prim.Native.Nat.{ℕ}
 use mathlib.Core.List.{List}
 use mathlib.Core.Bool.{Bool, cond, _&&_}
@@ -6,36 +6,43 @@ use lib.ListN.{length}
 use lib.Dec.{eqb, leb, ltb}
 use Rattle.points.specs.Word.{NONE}
 use Rattle.stations.specs.declared.station.State.{State}
-use Rattle.words.specs.Layout.{records, atCursor, atPhase, atSince, atMissed, atStation}
+use Rattle.words.specs.Layout.{stations, records, atStation}
 use Rattle.words.specs.Words.{get, put}
 
 -- the station is one of the eight, and the slice is long enough for their records
 unfoldable pub hasStation : List ℕ → ℕ → Bool
-hasStation words s = ltb s 8 && leb records (length words)
+hasStation words s = ltb s stations && leb records (length words)
 
--- the states of a station are 0 idle, 1 unfinished, 2 answer waiting; it is idle
+-- the states of a station: no call and no answer, an unfinished call, an answer that waits
+abbrev pub idle : State
+idle = record { word = 0 }
+
+abbrev pub unfinished : State
+unfinished = record { word = 1 }
+
+abbrev pub waiting : State
+waiting = record { word = 2 }
+
 abbrev pub isIdle : State → Bool
-isIdle state = eqb (state .word) 0
+isIdle state = eqb (state .word) (idle .word)
 
--- it has an unfinished call
 abbrev pub isUnfinished : State → Bool
-isUnfinished state = eqb (state .word) 1
+isUnfinished state = eqb (state .word) (unfinished .word)
 
--- an answer waits
 abbrev pub isWaiting : State → Bool
-isWaiting state = eqb (state .word) 2
+isWaiting state = eqb (state .word) (waiting .word)
 
 -- the state after a submission
 abbrev pub submitted : State → State
-submitted state = record { word = 1 }
+submitted state = unfinished
 
 -- the state after the step that answers
 abbrev pub answered : State → State
-answered state = record { word = 2 }
+answered state = waiting
 
 -- "Taking leaves the station idle"
-abbrev pub taken : State → State
-taken state = record { word = 0 }
+abbrev pub emptied : State → State
+emptied state = idle
 
 -- the state of station s; none of the three where there is no such station
 unfoldable pub stateAt : List ℕ → ℕ → State
@@ -44,15 +51,3 @@ stateAt words s = cond (hasStation words s) (record { word = get words (atStatio
 -- the words with that state written
 unfoldable pub putState : List ℕ → ℕ → State → List ℕ
 putState words s state = cond (hasStation words s) (put words (atStation s) (state .word)) words
-
--- the words with the cursor and the phase of station s written
-unfoldable pub putPlace : List ℕ → ℕ → ℕ → ℕ → List ℕ
-putPlace words s cursor phase = cond (hasStation words s) (put (put words (atCursor s) cursor) (atPhase s) phase) words
-
--- the words with the since word of station s written
-unfoldable pub putSince : List ℕ → ℕ → ℕ → List ℕ
-putSince words s removals = cond (hasStation words s) (put words (atSince s) removals) words
-
--- the words with the missed link of station s written
-unfoldable pub putMissed : List ℕ → ℕ → ℕ → List ℕ
-putMissed words s link = cond (hasStation words s) (put words (atMissed s) link) words

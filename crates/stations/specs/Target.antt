@@ -20,11 +20,11 @@ unfoldable pub pairOf : Point → ℕ
 pairOf p = cond (onAxis p 1 && onAxis p 3) (wordOf p 1 * moistures + wordOf p 3) NONE
 
 -- the target of four words
-abbrev pub targetOf : List ℕ → Point
+unfoldable pub targetOf : List ℕ → Point
 targetOf w = pointAt (getD w 3 0 / moistures) (getD w 0 0) (getD w 3 0 % moistures) (getD w 1 0) (getD w 2 0)
 
 -- its four words
-abbrev pub targetWords : Point → List ℕ
+unfoldable pub targetWords : Point → List ℕ
 targetWords p = wordOf p 2 ∷ wordOf p 4 ∷ wordOf p 5 ∷ pairOf p ∷ []
 
 -- the target of no station

@@ -1,9 +1,13 @@
 // The answer of a station, and the answer that waits there.
+use crate::station::has_station;
 use crate::station::read_state;
 use points::point::Point;
 use points::point::in_range;
 use points::word::point_at;
 use points::word::word;
+use words::layout::MOST_CURVE;
+use words::layout::RECORDS;
+use words::layout::STATIONS;
 use words::layout::at_answer;
 use words::part::point_from;
 use words::part::write_part;
@@ -11,6 +15,28 @@ ghost use mathlib.Core.Path.{_≡_};
 ghost use Prim.Native.Nat.{_+_, _*_, _/_, _%_};
 ghost use lib.ListN.{length};
 ghost use Rattle.stations.specs.Answer.{answerOf, answerWords, noAnswer, codeIn, answerSound, answerAt, putAnswer, waitingAt};
+
+// The codes of an answer: a record was added, the point is held already, no place is left, no change is left, the record was removed, the point is not
+// held, the point is held, the nearest record, no record has the grade, the call was withdrawn.
+pub const CODE_ADDED: u32 = 1;
+
+pub const CODE_HELD: u32 = 2;
+
+pub const CODE_FULL: u32 = 3;
+
+pub const CODE_SPENT: u32 = 4;
+
+pub const CODE_REMOVED: u32 = 5;
+
+pub const CODE_MISSING: u32 = 6;
+
+pub const CODE_CONTAINED: u32 = 7;
+
+pub const CODE_NEAREST: u32 = 8;
+
+pub const CODE_NONE: u32 = 9;
+
+pub const CODE_WITHDRAWN: u32 = 11;
 
 // An answer: code, point, curve, square.
 pub struct Answer {
@@ -91,13 +117,13 @@ fn no_answer() -> Answer
 }
 
 // The answer of a station; of no code where there is no such station.
-pub fn read_answer(words: &[u32], s: u32) -> Answer
+fn read_answer(words: &[u32], s: u32) -> Answer
     ensures { λ r. ⌜ r ≡ answerAt (now (words .entry)) s ⌝ }
 {
-    if 8 <= s {
+    if STATIONS <= s {
         return no_answer();
     }
-    if words.len() < 608 {
+    if words.len() < RECORDS {
         return no_answer();
     }
     let start = at_answer(s);
@@ -109,7 +135,7 @@ pub fn read_answer(words: &[u32], s: u32) -> Answer
 fn code_in(code: u32) -> bool
     ensures { λ r. ⌜ r ≡ codeIn code ⌝ }
 {
-    (1 <= code) & ((code <= 9) | (code == 11))
+    (CODE_ADDED <= code) & ((code <= CODE_NONE) | (code == CODE_WITHDRAWN))
 }
 
 // Whether every field of an answer is in range.
@@ -118,7 +144,7 @@ pub fn answer_sound(answer: Answer) -> bool
 {
     code_in(answer.code)
         & in_range(answer.point)
-        & (answer.curve <= 999999)
+        & (answer.curve <= MOST_CURVE)
         & (answer.square <= 11015800001)
 }
 
@@ -126,11 +152,9 @@ pub fn answer_sound(answer: Answer) -> bool
 pub fn write_answer(words: &mut [u32], s: u32, answer: Answer)
     ensures { λ _. ⌜ now (words .exit) ≡ putAnswer (now (words .entry)) s answer ⌝ }
 {
-    if s < 8 {
-        if 608 <= words.len() {
-            let from = answer_words(answer);
-            write_part(words, at_answer(s), &from[..]);
-        }
+    if has_station(words, s) {
+        let from = answer_words(answer);
+        write_part(words, at_answer(s), &from[..]);
     }
 }
 

@@ -1,8 +1,12 @@
 // The call of a station, with the best record of its search so far.
+use crate::station::has_station;
 use points::point::Point;
 use points::point::in_range;
 use points::word::point_at;
 use points::word::word;
+use words::layout::MOST_CURVE;
+use words::layout::RECORDS;
+use words::layout::STATIONS;
 use words::layout::at_best;
 use words::layout::at_call;
 use words::part::point_from;
@@ -10,7 +14,16 @@ use words::part::write_part;
 use words::word::curve_in;
 ghost use mathlib.Core.Path.{_≡_};
 ghost use lib.ListN.{length};
-ghost use Rattle.stations.specs.Call.{bestOf, bestWords, noBest, bestSound, callOf, callWords, noCall, callAt, curveFor, callSound, putBest, putAsked, putCall};
+ghost use Rattle.stations.specs.Call.{bestOf, bestWords, noBest, bestSound, callOf, callWords, noCall, callAt, kindIn, curveFor, callSound, putBest, putAsked, putCall};
+
+// The kinds of a call.
+pub const ADD_KIND: u32 = 1;
+
+pub const REMOVE_KIND: u32 = 2;
+
+pub const CONTAINS_KIND: u32 = 3;
+
+pub const NEAREST_KIND: u32 = 4;
 
 // The best record of a search so far; its curve is 0 where there is none.
 pub struct Best {
@@ -64,10 +77,10 @@ pub fn no_best() -> Best
 }
 
 // Whether there is no best, or one in range.
-pub fn best_sound(best: Best) -> bool
+fn best_sound(best: Best) -> bool
     ensures { λ r. ⌜ r ≡ bestSound best ⌝ }
 {
-    (best.curve == 0) | ((best.curve <= 999999) & in_range(best.point))
+    (best.curve == 0) | ((best.curve <= MOST_CURVE) & in_range(best.point))
 }
 
 // The call of eight words, with its best.
@@ -118,10 +131,10 @@ fn no_call() -> Call
 pub fn read_call(words: &[u32], s: u32) -> Call
     ensures { λ r. ⌜ r ≡ callAt (now (words .entry)) s ⌝ }
 {
-    if 8 <= s {
+    if STATIONS <= s {
         return no_call();
     }
-    if words.len() < 608 {
+    if words.len() < RECORDS {
         return no_call();
     }
     let start = at_call(s);
@@ -132,11 +145,18 @@ pub fn read_call(words: &[u32], s: u32) -> Call
     call_of(&words[start..end], best)
 }
 
+// Whether there is such a kind.
+pub fn kind_in(kind: u32) -> bool
+    ensures { λ r. ⌜ r ≡ kindIn kind ⌝ }
+{
+    (ADD_KIND <= kind) & (kind <= NEAREST_KIND)
+}
+
 // An add has a curve in range, any other kind none.
 fn curve_for(kind: u32, curve: u32) -> bool
     ensures { λ r. ⌜ r ≡ curveFor kind curve ⌝ }
 {
-    if kind == 1 {
+    if kind == ADD_KIND {
         curve_in(curve)
     } else {
         curve == 0
@@ -147,8 +167,7 @@ fn curve_for(kind: u32, curve: u32) -> bool
 pub fn call_sound(call: Call, changes: u32) -> bool
     ensures { λ r. ⌜ r ≡ callSound call changes ⌝ }
 {
-    (1 <= call.kind)
-        & (call.kind <= 4)
+    kind_in(call.kind)
         & in_range(call.point)
         & curve_for(call.kind, call.curve)
         & (call.asof <= changes)
@@ -159,11 +178,9 @@ pub fn call_sound(call: Call, changes: u32) -> bool
 pub fn write_best(words: &mut [u32], s: u32, best: Best)
     ensures { λ _. ⌜ now (words .exit) ≡ putBest (now (words .entry)) s best ⌝ }
 {
-    if s < 8 {
-        if 608 <= words.len() {
-            let from = best_words(best);
-            write_part(words, at_best(s), &from[..]);
-        }
+    if has_station(words, s) {
+        let from = best_words(best);
+        write_part(words, at_best(s), &from[..]);
     }
 }
 
@@ -171,11 +188,9 @@ pub fn write_best(words: &mut [u32], s: u32, best: Best)
 fn write_asked(words: &mut [u32], s: u32, call: Call)
     ensures { λ _. ⌜ now (words .exit) ≡ putAsked (now (words .entry)) s call ⌝ }
 {
-    if s < 8 {
-        if 608 <= words.len() {
-            let from = call_words(call);
-            write_part(words, at_call(s), &from[..]);
-        }
+    if has_station(words, s) {
+        let from = call_words(call);
+        write_part(words, at_call(s), &from[..]);
     }
 }
 

@@ -2,5 +2,7 @@
 pub mod answer;
 pub mod call;
 pub mod common;
+pub mod counts;
 pub mod station;
 pub mod target;
+pub mod track;

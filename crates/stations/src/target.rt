@@ -1,9 +1,12 @@
 // The target of a station's last search, in four words of the common record.
+use crate::station::has_station;
 use points::point::Point;
 use points::point::on_axis;
 use points::word::point_at;
 use points::word::word;
 use words::layout::NONE;
+use words::layout::RECORDS;
+use words::layout::STATIONS;
 use words::layout::at_target;
 use words::part::write_part;
 ghost use mathlib.Core.Path.{_≡_};
@@ -57,10 +60,10 @@ fn no_target() -> Point
 pub fn read_target(words: &[u32], s: u32) -> Point
     ensures { λ r. ⌜ r ≡ targetAt (now (words .entry)) s ⌝ }
 {
-    if 8 <= s {
+    if STATIONS <= s {
         return no_target();
     }
-    if words.len() < 608 {
+    if words.len() < RECORDS {
         return no_target();
     }
     let start = at_target(s);
@@ -72,10 +75,8 @@ pub fn read_target(words: &[u32], s: u32) -> Point
 pub fn write_target(words: &mut [u32], s: u32, p: Point)
     ensures { λ _. ⌜ now (words .exit) ≡ putTarget (now (words .entry)) s p ⌝ }
 {
-    if s < 8 {
-        if 608 <= words.len() {
-            let from = target_words(p);
-            write_part(words, at_target(s), &from[..]);
-        }
+    if has_station(words, s) {
+        let from = target_words(p);
+        write_part(words, at_target(s), &from[..]);
     }
 }

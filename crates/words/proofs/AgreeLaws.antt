@@ -10,7 +10,7 @@ use native.Mathlib.Decide.{ℕ-discrete, decLt}
 use borrow.Author.Tests.{ltb-true}
 use lib.Dec.{ltb}
 use lib.ListN.{length, getD}
-use Rattle.words.specs.Layout.{atStation}
+use Rattle.words.specs.Layout.{stations, stationSize, atStation, atRow}
 use Rattle.words.specs.Words.{get, put, part, splice}
 use Rattle.words.specs.Agree.{Off, Apart, Agree, Only, Region, inCommon, inStation, inRow, startOf, sizeOf, AgreeIn, OnlyIn}
 use Rattle.words.proofs.Splice.{part-same, length-splice, splice-before, splice-inside, splice-after}
@@ -108,29 +108,30 @@ cond-agree false false e f g = g
 
 -- two regions have no word in common
 pub regions-apart : (x y : Region) → ¬ (x ≡ y) → Apart (startOf x) (sizeOf x) (startOf y) (sizeOf y)
+unfolding startOf sizeOf atStation atRow
 regions-apart inCommon inCommon n k h l h′ l′ = n refl
 regions-apart inCommon (inStation t) n k h l h′ l′ = omega arith
 regions-apart inCommon (inRow t) n k h l h′ l′ = omega arith
 regions-apart (inStation s) inCommon n k h l h′ l′ = omega arith
-regions-apart (inStation s) (inStation t) n k h l h′ l′ = go (ltb s 8) (ltb t 8) l l′
+regions-apart (inStation s) (inStation t) n k h l h′ l′ = go (ltb s stations) (ltb t stations) l l′
   where
     other : ¬ (s ≡ t)
     other e = n (ap inStation e)
 
-    go : (p q : Bool) → k < atStation s + cond p 64 0 → k < atStation t + cond q 64 0 → ⊥
+    go : (p q : Bool) → k < atStation s + cond p stationSize 0 → k < atStation t + cond q stationSize 0 → ⊥
     go true true l l′ = omega (arith, other)
     go true false l l′ = omega arith
     go false q l l′ = omega arith
-regions-apart (inStation s) (inRow t) n k h l h′ l′ = go (ltb s 8) refl l
+regions-apart (inStation s) (inRow t) n k h l h′ l′ = go (ltb s stations) refl l
   where
-    go : (p : Bool) → ltb s 8 ≡ p → k < atStation s + cond p 64 0 → ⊥
-    go true e l = omega (arith, ltb-true s 8 e)
+    go : (p : Bool) → ltb s stations ≡ p → k < atStation s + cond p stationSize 0 → ⊥
+    go true e l = omega (arith, ltb-true s stations e)
     go false e l = omega arith
 regions-apart (inRow r) inCommon n k h l h′ l′ = omega arith
-regions-apart (inRow r) (inStation t) n k h l h′ l′ = go (ltb t 8) refl l′
+regions-apart (inRow r) (inStation t) n k h l h′ l′ = go (ltb t stations) refl l′
   where
-    go : (p : Bool) → ltb t 8 ≡ p → k < atStation t + cond p 64 0 → ⊥
-    go true e l′ = omega (arith, ltb-true t 8 e)
+    go : (p : Bool) → ltb t stations ≡ p → k < atStation t + cond p stationSize 0 → ⊥
+    go true e l′ = omega (arith, ltb-true t stations e)
     go false e l′ = omega arith
 regions-apart (inRow r) (inRow t) n k h l h′ l′ = omega (arith, other)
   where
@@ -161,6 +162,13 @@ station-station s t n e = n (cc)
 
 pub row-row : (q r : ℕ) → ¬ (q ≡ r) → ¬ (inRow q ≡ inRow r)
 row-row q r n e = n (cc)
+
+-- where nothing is written
+pub only-none : (w : List ℕ) (x : Region) → OnlyIn w w x
+only-none w x = only-refl w (startOf x) (sizeOf x)
+
+pub agree-none : (w : List ℕ) (x : Region) → AgreeIn w w x
+agree-none w x = agree-refl w (startOf x) (sizeOf x)
 
 -- what is written in one region is not seen in another
 pub elsewhere : {v w : List ℕ} (x y : Region) → OnlyIn v w x → ¬ (y ≡ x) → AgreeIn v w y

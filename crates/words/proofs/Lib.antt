@@ -3,4 +3,5 @@ pub mod Lent
 pub mod Splice
 pub mod WordLaws
 pub mod AgreeLaws
+pub mod BeyondLaws
 pub mod RangeLaws

@@ -8,6 +8,7 @@ use lib.Dec.{eqb, leb, ltb}
 use borrow.Author.Tests.{ltb-true, leb-true, eqb-true, lt-ltb, le-leb}
 use Rattle.points.specs.Word.{NONE}
 use Rattle.points.proofs.Tests.{and-l, and-r, and-i}
+use Rattle.words.specs.Layout.{mostCurve}
 use Rattle.words.specs.Range.{linkIn, curveIn}
 
 pub or-true : (a b : Bool) → (a || b) ≡ true → (a ≡ true) ⊎ (b ≡ true)
@@ -37,10 +38,10 @@ link-tells rows x e = go (or-true (eqb x NONE) (ltb x rows) e)
     go (inl f) = inl (eqb-true x NONE f)
     go (inr f) = inr (ltb-true x rows f)
 
-pub curve-in : (curve : ℕ) → 1 ≤ curve → curve ≤ 999999 → curveIn curve ≡ true
+pub curve-in : (curve : ℕ) → 1 ≤ curve → curve ≤ mostCurve → curveIn curve ≡ true
 unfolding curveIn
-curve-in curve h l = and-i (le-leb 1 curve h) (le-leb curve 999999 l)
+curve-in curve h l = and-i (le-leb 1 curve h) (le-leb curve mostCurve l)
 
-pub curve-tells : (curve : ℕ) → curveIn curve ≡ true → (1 ≤ curve) × (curve ≤ 999999)
+pub curve-tells : (curve : ℕ) → curveIn curve ≡ true → (1 ≤ curve) × (curve ≤ mostCurve)
 unfolding curveIn
-curve-tells curve e = (leb-true 1 curve (and-l (leb 1 curve) (leb curve 999999) e), leb-true curve 999999 (and-r (leb 1 curve) (leb curve 999999) e))
+curve-tells curve e = (leb-true 1 curve (and-l (leb 1 curve) (leb curve mostCurve) e), leb-true curve mostCurve (and-r (leb 1 curve) (leb curve mostCurve) e))

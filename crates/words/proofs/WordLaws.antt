@@ -2,10 +2,13 @@
 -- Assumes nothing.
 use mathlib.Core.Path.{_≡_}
 use mathlib.Core.List.{List}
-use Prim.Native.Nat.{ℕ, _≤_, _<_}
+use Prim.Native.Nat.{ℕ, suc, _≤_, _<_}
+use native.Mathlib.Numerals.{add-one}
+use borrow.Author.Tests.{lt-ltb}
 use lib.ListN.{length, length-set, List·getD-eq-default}
 use lib.Seq.{set-out, set-set, set-comm, set-getD, getD-set-same, getD-set-other, ext-getD}
-use Rattle.words.specs.Words.{get, put}
+use Rattle.points.specs.Word.{NONE}
+use Rattle.words.specs.Words.{get, put, more}
 
 pub get-outside : (w : List ℕ) (i : ℕ) → length w ≤ i → get w i ≡ 0
 unfolding get
@@ -39,7 +42,7 @@ pub put-put : (w : List ℕ) (i u v : ℕ) → put (put w i u) i v ≡ put w i v
 unfolding put
 put-put w i u v = set-set w i u v
 
--- writes of two words may change places
+-- writes of two words may be made in either order
 pub put-swap : (w : List ℕ) (i j u v : ℕ) → ¬ (i ≡ j) → put (put w i u) j v ≡ put (put w j v) i u
 unfolding put
 put-swap w i j u v n = set-comm w i j u v n
@@ -48,3 +51,8 @@ put-swap w i j u v n = set-comm w i j u v n
 pub words-same : (v w : List ℕ) → length v ≡ length w → ((k : ℕ) → k < length v → get v k ≡ get w k) → v ≡ w
 unfolding get
 words-same v w e h = ext-getD 0 v w e h
+
+-- one more, below the greatest word
+pub more-is : (x : ℕ) → x < NONE → more x ≡ suc x
+unfolding more
+more-is x l = rw (lt-ltb x NONE l) (add-one x)

@@ -6,7 +6,7 @@ use mathlib.Core.Bool.{cond}
 use Prim.Native.Nat.{ℕ, _+_, _≤_, _<_}
 use lib.Dec.{ltb}
 use lib.ListN.{length}
-use Rattle.words.specs.Layout.{atStation, atRow}
+use Rattle.words.specs.Layout.{stations, commonSize, stationSize, rowSize, atStation, atRow}
 use Rattle.words.specs.Words.{get}
 
 -- the word k is none of the n words from a on
@@ -34,16 +34,16 @@ pub data Region : Type 0 where
   inRow : ℕ → Region
 
 -- its first word
-abbrev pub startOf : Region → ℕ
+unfoldable pub startOf : Region → ℕ
 startOf inCommon = 0
 startOf (inStation s) = atStation s
 startOf (inRow r) = atRow r
 
 -- the number of its words: none for a station that is not one of the eight
-abbrev pub sizeOf : Region → ℕ
-sizeOf inCommon = 96
-sizeOf (inStation s) = cond (ltb s 8) 64 0
-sizeOf (inRow r) = 16
+unfoldable pub sizeOf : Region → ℕ
+sizeOf inCommon = commonSize
+sizeOf (inStation s) = cond (ltb s stations) stationSize 0
+sizeOf (inRow r) = rowSize
 
 -- two slices have one length and agree there
 abbrev pub AgreeIn : List ℕ → List ℕ → Region → Type 0
@@ -52,3 +52,8 @@ AgreeIn v w x = Agree v w (startOf x) (sizeOf x)
 -- v is w but for words there
 abbrev pub OnlyIn : List ℕ → List ℕ → Region → Type 0
 OnlyIn v w x = Only v w (startOf x) (sizeOf x)
+
+-- the words from n on are the same, and so is their number
+pub record Beyond (v w : List ℕ) (n : ℕ) : Type 0 where
+  pub lengths : length v ≡ length w
+  pub words : (k : ℕ) → n ≤ k → get v k ≡ get w k

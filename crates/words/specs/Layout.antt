@@ -1,98 +1,111 @@
--- Where each word of the slice stands: the common record in words 0 to 95, the record of station s in the 64 words from
--- 96 + 64 * s on, and row r in the 16 words from 608 + 16 * r on.
+-- Sizes, by name, and where each word of the slice stands: the common record in the first words, then the records of the eight stations, then the rows.
+-- Every offset is shut: only the crates `words`, `stations` and `rows` look at its number.
 use Prim.Native.Nat.{ℕ, _+_, _*_, _≤_}
 use mathlib.Core.List.{List}
 use lib.ListN.{length}
 
--- the common record: the mark that opening writes
-abbrev pub atMark : ℕ
-atMark = 0
+-- ---- sizes
 
--- the places of the opening
-abbrev pub atPlaces : ℕ
-atPlaces = 1
+-- the stations
+abbrev pub stations : ℕ
+stations = 8
 
--- its change limit
-abbrev pub atLimit : ℕ
-atLimit = 2
+-- the words of the common record, of a station's record, and of a row
+abbrev pub commonSize : ℕ
+commonSize = 96
 
--- the number of changes since opening
-abbrev pub atChanges : ℕ
-atChanges = 3
+abbrev pub stationSize : ℕ
+stationSize = 64
 
--- the number of records held
-abbrev pub atHeld : ℕ
-atHeld = 4
-
--- the link to the top of the tree
-abbrev pub atRoot : ℕ
-atRoot = 5
-
--- the first row of the queue of free rows
-abbrev pub atHead : ℕ
-atHead = 6
-
--- its last row
-abbrev pub atTail : ℕ
-atTail = 7
-
--- the number of removals since opening
-abbrev pub atRemovals : ℕ
-atRemovals = 8
-
--- the row of the tree where the call of station s stands
-abbrev pub atCursor : ℕ → ℕ
-atCursor s = 16 + s
-
--- the phase of its search: 0 down, 1 up
-abbrev pub atPhase : ℕ → ℕ
-atPhase s = 24 + s
-
--- the number of removals at the submission of its unfinished nearest
-abbrev pub atSince : ℕ → ℕ
-atSince s = 32 + s
-
--- the first row freed since that submission that its search has not looked at
-abbrev pub atMissed : ℕ → ℕ
-atMissed s = 40 + s
-
--- the four words of the target of its last search: weight, speed, draw, and grade and moisture in one
-abbrev pub atTarget : ℕ → ℕ
-atTarget s = 64 + 4 * s
-
--- the record of station s, whose first word is the state
-abbrev pub atStation : ℕ → ℕ
-atStation s = 96 + 64 * s
-
--- in it eight words of the call: kind, point, curve, as-of
-abbrev pub atCall : ℕ → ℕ
-atCall s = atStation s + 1
-
--- six words of the best record so far: curve, point
-abbrev pub atBest : ℕ → ℕ
-atBest s = atStation s + 11
-
--- and nine words of the answer: code, point, curve, low and high word of the square
-abbrev pub atAnswer : ℕ → ℕ
-atAnswer s = atStation s + 20
-
--- the row r
-abbrev pub atRow : ℕ → ℕ
-atRow r = 608 + 16 * r
+abbrev pub rowSize : ℕ
+rowSize = 16
 
 -- the words of the common record and of the stations, before the rows
 abbrev pub records : ℕ
-records = 608
+records = commonSize + stationSize * stations
+
+-- the places and the rows of the greatest index
+abbrev pub mostPlaces : ℕ
+mostPlaces = 4096
+
+abbrev pub mostRows : ℕ
+mostRows = 2 * mostPlaces
+
+-- the greatest change limit
+abbrev pub mostLimit : ℕ
+mostLimit = 4000000000
+
+-- the greatest curve number
+abbrev pub mostCurve : ℕ
+mostCurve = 999999
 
 -- the words of an index of so many places, which has two rows for each
 abbrev pub wordsFor : ℕ → ℕ
-wordsFor places = 32 * places + 608
+wordsFor places = 2 * rowSize * places + records
 
--- the rows of the greatest index
-abbrev pub mostRows : ℕ
-mostRows = 8192
+-- ---- the common record
+
+-- the mark that opening writes
+unfoldable pub atMark : ℕ
+atMark = 0
+
+-- the places of the opening
+unfoldable pub atPlaces : ℕ
+atPlaces = 1
+
+-- its change limit
+unfoldable pub atLimit : ℕ
+atLimit = 2
+
+-- six counts: the changes since opening, the records held, the root, head and tail, and the removals since opening
+unfoldable pub atCounts : ℕ
+atCounts = 3
+
+-- the row of the tree where the call of station s stands
+unfoldable pub atCursor : ℕ → ℕ
+atCursor s = 16 + s
+
+-- the phase of its search: 0 down, 1 up
+unfoldable pub atPhase : ℕ → ℕ
+atPhase s = 24 + s
+
+-- the number of removals at the submission of its unfinished nearest
+unfoldable pub atSince : ℕ → ℕ
+atSince s = 32 + s
+
+-- the first row freed since that submission that its search has not looked at
+unfoldable pub atMissed : ℕ → ℕ
+atMissed s = 40 + s
+
+-- the four words of the target of its last search: weight, speed, draw, and grade and moisture in one
+unfoldable pub atTarget : ℕ → ℕ
+atTarget s = 64 + 4 * s
+
+-- ---- a station's record
+
+-- the record of station s, whose first word is the state
+unfoldable pub atStation : ℕ → ℕ
+atStation s = commonSize + stationSize * s
+
+-- in it eight words of the call: kind, point, curve, as-of
+unfoldable pub atCall : ℕ → ℕ
+atCall s = atStation s + 1
+
+-- six words of the best record so far: curve, point
+unfoldable pub atBest : ℕ → ℕ
+atBest s = atStation s + 11
+
+-- and nine words of the answer: code, point, curve, low and high word of the square
+unfoldable pub atAnswer : ℕ → ℕ
+atAnswer s = atStation s + 20
+
+-- ---- the rows
+
+-- the row r
+unfoldable pub atRow : ℕ → ℕ
+atRow r = records + rowSize * r
 
 -- the slice holds the two records and so many rows, as an opened one does
-pub record Room (words : List ℕ) (rows : ℕ) : Type 0 where
+pub record Fits (words : List ℕ) (rows : ℕ) : Type 0 where
   pub most : rows ≤ mostRows
-  pub fits : atRow rows ≤ length words
+  pub long : atRow rows ≤ length words

@@ -3,3 +3,4 @@ pub mod Words
 pub mod Agree
 pub mod Range
 pub mod Part
+pub mod Refusal

@@ -10,7 +10,7 @@ use Rattle.points.specs.Word.{NONE}
 unfoldable pub get : List ℕ → ℕ → ℕ
 get words i = getD words i 0
 
--- the words with v in the place of word i
+-- the words with v for word i
 unfoldable pub put : List ℕ → ℕ → ℕ → List ℕ
 put words i v = set words i v
 
@@ -18,7 +18,7 @@ put words i v = set words i v
 abbrev pub part : List ℕ → ℕ → ℕ → List ℕ
 part words a n = take n (drop a words)
 
--- the words with others in the place of the n words from a on; what a slice holds after `&mut words[a..a + n]` was lent
+-- the words with others for the n words from a on; what a slice holds after `&mut words[a..a + n]` was lent
 abbrev pub splice : List ℕ → List ℕ → ℕ → ℕ → List ℕ
 splice words others a n = take a words ++ (others ++ drop n (drop a words))
 

@@ -1,18 +1,19 @@
 // Single words. Outside of the slice 0 is read, and nothing is written.
+use crate::layout::MOST_CURVE;
 use crate::layout::NONE;
 ghost use mathlib.Core.Path.{_≡_};
 ghost use mathlib.Core.Bool.{cond};
 ghost use Rattle.words.specs.Words.{get, put, more};
 ghost use Rattle.words.specs.Range.{linkIn, curveIn};
 
-// The word at a place.
+// The word at an offset.
 pub fn get(words: &[u32], at: usize) -> u32
     ensures { λ r. ⌜ r ≡ get (now (words .entry)) at ⌝ }
 {
     if at < words.len() { words[at] } else { 0 }
 }
 
-// Writes the word at a place.
+// Writes the word at an offset.
 pub fn put(words: &mut [u32], at: usize, v: u32)
     ensures { λ _. ⌜ now (words .exit) ≡ put (now (words .entry)) at v ⌝ }
 {
@@ -32,7 +33,7 @@ pub fn link_in(rows: u32, x: u32) -> bool
 pub fn curve_in(curve: u32) -> bool
     ensures { λ r. ⌜ r ≡ curveIn curve ⌝ }
 {
-    (1 <= curve) & (curve <= 999999)
+    (1 <= curve) & (curve <= MOST_CURVE)
 }
 
 // One of two words.

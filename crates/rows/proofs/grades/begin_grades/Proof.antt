@@ -2,18 +2,22 @@
 use borrow.Author.Needs.{needs}
 use Rattle.rows.proofs.grades.begin_grades.Statement.{statement}
 use Rattle.rows.proofs.grades.begin_grades.Tie as tie
-use mathlib.Core.Path.{ap, _∙_}
+use mathlib.Core.Path.{ap, _∙_, refl}
 use mathlib.Core.Bool.{not}
+use Prim.Native.Nat.{_+_}
+use native.Mathlib.Omega.{arith}
 use borrow.Author.Tests.{lt-ltb, le-ltb, le-leb, lt-leb}
-use Rattle.rows.specs.Grades.{markSide, beginGrades}
+use denote.Ref.{now}
+use lib.ListN.{length}
+use Rattle.words.specs.Layout.{rowSize, atRow}
+use Rattle.words.proofs.Lent.{part-put}
+use Rattle.rows.specs.Grades.{noGrades, markSide, beginGrades}
 
-mul-at : tie.Need-mul-at
-mul-at c = search needs
-
-add-at : tie.Need-add-at
-add-at c = search needs
+at-row-requires : tie.Need-at-row-requires
+at-row-requires c κs = search needs
 
 add-if2 : tie.Need-add-if2
+unfolding atRow
 add-if2 c = search needs
 
 add-write-part : tie.Need-add-write-part
@@ -35,19 +39,28 @@ same-length : tie.Need-same-length
 same-length c = search needs
 
 returns : tie.Need-returns
-unfolding beginGrades
+unfolding beginGrades noGrades
 returns c =
     let second = c .before .before in
     let first = second .before .before .before .before in
     let p = first .before .before .before .before in
     let t = p .before .before .before in
-    let s = t .before .before .before .args in
-    simp (lt-ltb _ _ (t .before .if1 .taken), le-leb _ _ (t .if2 .taken))
-    (second .mark-side2 .ensures ∙ ap (λ v. markSide v (s .r) (not (s .left)) (s .there)) (first .mark-side .ensures ∙ ap (λ v. markSide v (s .r) (s .left) (s .here)) (p .write-part .ensures)))
+    let a = t .before in
+    let s = a .before .before .before .args in
+    let at = a .at-row .ensures in
+    simp (lt-ltb _ _ (a .before .if1 .taken), le-leb (atRow (s .r) + rowSize) (length (now (s .words))) (omega (arith, t .if2 .taken)))
+    (second .mark-side2 .ensures
+    ∙ ap (λ v. markSide v (s .r) (not (s .left)) (s .there))
+    (first .mark-side .ensures
+    ∙ ap (λ v. markSide v (s .r) (s .left) (s .here))
+    (p .write-part .ensures ∙ part-put (now (s .words)) _ noGrades (atRow (s .r) + 8) _ 8 refl (ap (λ k. k + 8) at) refl (omega (arith, t .if2 .taken)))))
 
 returns-2 : tie.Need-returns-2
 unfolding beginGrades
-returns-2 c = simp (lt-ltb _ _ (c .before .if1 .taken), lt-leb _ _ (c .if2 .left))
+returns-2 c =
+    let a = c .before in
+    let s = a .before .before .before .args in
+    simp (lt-ltb _ _ (a .before .if1 .taken), lt-leb (atRow (s .r) + rowSize) (length (now (s .words))) (omega (arith, c .if2 .left, a .at-row .ensures)))
 
 returns-3 : tie.Need-returns-3
 unfolding beginGrades
@@ -57,8 +70,7 @@ pub begin-grades-spec : {M : Type 1} → statement M
 begin-grades-spec =
     tie.close
     (tie.spec
-    mul-at
-    add-at
+    at-row-requires
     add-if2
     add-write-part
     slice-aggregate-write-part

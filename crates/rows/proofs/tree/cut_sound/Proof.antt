@@ -2,7 +2,7 @@
 use borrow.Author.Needs.{needs}
 use Rattle.rows.proofs.tree.cut_sound.Statement.{statement}
 use Rattle.rows.proofs.tree.cut_sound.Tie as tie
-use Rattle.rows.specs.Row.{inRows}
+use Rattle.rows.specs.Row.{inRows, asCut}
 
 shared-slice-read-link-in : tie.Need-shared-slice-read-link-in
 shared-slice-read-link-in c = search needs
@@ -26,7 +26,7 @@ shared-slice-read-result-2 : tie.Need-shared-slice-read-result-2
 shared-slice-read-result-2 c = search needs
 
 returns : tie.Need-returns
-unfolding inRows
+unfolding inRows asCut
 returns c = cc
 
 pub cut-sound-spec : {M : Type 1} → statement M

@@ -2,7 +2,7 @@
 use borrow.Author.Needs.{needs}
 use Rattle.rows.proofs.tree.leaf_sound.Statement.{statement}
 use Rattle.rows.proofs.tree.leaf_sound.Tie as tie
-use Rattle.rows.specs.Row.{inRows}
+use Rattle.rows.specs.Row.{inRows, asLeaf}
 use Rattle.words.specs.Part.{pointFrom}
 
 shared-slice-read-link-in : tie.Need-shared-slice-read-link-in
@@ -36,7 +36,7 @@ curve-in-requires : tie.Need-curve-in-requires
 curve-in-requires c κs = search needs
 
 returns : tie.Need-returns
-unfolding inRows pointFrom
+unfolding inRows pointFrom asLeaf
 returns c = cc
 
 pub leaf-sound-spec : {M : Type 1} → statement M

@@ -2,21 +2,22 @@
 use borrow.Author.Needs.{needs}
 use Rattle.rows.proofs.tree.read_tree.Statement.{statement}
 use Rattle.rows.proofs.tree.read_tree.Tie as tie
-use mathlib.Core.Path.{refl, ap, _∙_}
+use mathlib.Core.Path.{ap, _∙_}
+use Prim.Native.Nat.{_+_}
+use native.Mathlib.Omega.{arith}
 use borrow.Author.Tests.{lt-ltb, le-ltb, le-leb, lt-leb}
 use denote.Ref.{now}
+use lib.ListN.{length}
+use Rattle.words.specs.Layout.{rowSize, atRow}
 use Rattle.words.proofs.Lent.{part-lent}
-use Rattle.words.specs.Layout.{atRow}
 use Rattle.rows.specs.Row.{checkedRow, rowOf, rowAt}
 use Rattle.rows.specs.Tree.{treeRow}
 
-mul-start : tie.Need-mul-start
-mul-start c = search needs
-
-add-start : tie.Need-add-start
-add-start c = search needs
+at-row-requires : tie.Need-at-row-requires
+at-row-requires c κs = search needs
 
 add-end : tie.Need-add-end
+unfolding atRow
 add-end c = search needs
 
 mul-tree-of : tie.Need-mul-tree-of
@@ -38,13 +39,17 @@ returns : tie.Need-returns
 unfolding rowAt
 returns c =
     let t = c .before .before in
-    let s = t .before .before .before .args in
-    simp (lt-ltb _ _ (t .before .if1 .taken), le-leb _ _ (t .if2 .taken))
-    (c .tree-of .ensures ∙ ap (λ w. treeRow (checkedRow (s .rows) (rowOf w))) (part-lent (now (s .words)) (atRow (s .r)) (atRow (s .r)) 16 refl))
+    let a = t .before in
+    let s = a .before .before .before .args in
+    simp (lt-ltb _ _ (a .before .if1 .taken), le-leb (atRow (s .r) + rowSize) (length (now (s .words))) (omega (arith, t .if2 .taken, a .at-row .ensures)))
+    (c .tree-of .ensures ∙ ap (λ w. treeRow (checkedRow (s .rows) (rowOf w))) (part-lent (now (s .words)) (atRow (s .r)) _ rowSize (a .at-row .ensures)))
 
 returns-2 : tie.Need-returns-2
 unfolding rowAt
-returns-2 c = simp (lt-ltb _ _ (c .before .if1 .taken), lt-leb _ _ (c .if2 .left))
+returns-2 c =
+    let a = c .before in
+    let s = a .before .before .before .args in
+    simp (lt-ltb _ _ (a .before .if1 .taken), lt-leb (atRow (s .r) + rowSize) (length (now (s .words))) (omega (arith, c .if2 .left, a .at-row .ensures)))
 
 returns-3 : tie.Need-returns-3
 unfolding rowAt
@@ -54,8 +59,7 @@ pub read-tree-spec : {M : Type 1} → statement M
 read-tree-spec =
     tie.close
     (tie.spec
-    mul-start
-    add-start
+    at-row-requires
     add-end
     mul-tree-of
     sub-tree-of

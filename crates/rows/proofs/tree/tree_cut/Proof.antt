@@ -3,13 +3,14 @@ use borrow.Author.Needs.{needs}
 use Rattle.rows.proofs.tree.tree_cut.Statement.{statement}
 use Rattle.rows.proofs.tree.tree_cut.Tie as tie
 use mathlib.Core.Path.{sym, _∙_}
-use Rattle.rows.specs.Row.{checkedRow}
+use Rattle.rows.specs.Row.{checkedRow, asCut}
 use Rattle.rows.proofs.TreeLaws.{cut-tells}
 
 cut-sound-requires : tie.Need-cut-sound-requires
 cut-sound-requires c κs = search needs
 
 as-sound-cut-requires : tie.Need-as-sound-cut-requires
+unfolding asCut
 as-sound-cut-requires c κs = (search needs, cut-tells _ _ _ _ _ (sym (c .before .cut-sound .ensures) ∙ c .if1 .taken))
 
 returns : tie.Need-returns

@@ -2,6 +2,7 @@
 use borrow.Author.Needs.{needs}
 use Rattle.stations.proofs.answer.answer_of.Statement.{statement}
 use Rattle.stations.proofs.answer.answer_of.Tie as tie
+use Rattle.stations.specs.Answer.{answerOf}
 
 shared-slice-read-t3 : tie.Need-shared-slice-read-t3
 shared-slice-read-t3 c = search needs
@@ -22,6 +23,7 @@ joined-requires : tie.Need-joined-requires
 joined-requires c κs = search needs
 
 returns : tie.Need-returns
+unfolding answerOf
 returns c = cc
 
 pub answer-of-spec : {M : Type 1} → statement M

@@ -2,6 +2,8 @@
 use borrow.Author.Needs.{needs}
 use Rattle.stations.proofs.answer.answer_words.Statement.{statement}
 use Rattle.stations.proofs.answer.answer_words.Tie as tie
+use Rattle.stations.specs.Answer.{answerWords}
+use Rattle.words.specs.Part.{pointWords}
 
 word-requires : tie.Need-word-requires
 word-requires c κs = search needs
@@ -25,6 +27,7 @@ high-word-requires : tie.Need-high-word-requires
 high-word-requires c κs = search needs
 
 returns : tie.Need-returns
+unfolding answerWords pointWords
 returns c = cc
 
 pub answer-words-spec : {M : Type 1} → statement M

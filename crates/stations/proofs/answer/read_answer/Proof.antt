@@ -3,7 +3,7 @@ use borrow.Author.Needs.{needs}
 use Rattle.stations.proofs.answer.read_answer.Statement.{statement}
 use Rattle.stations.proofs.answer.read_answer.Tie as tie
 use mathlib.Core.Path.{ap, _∙_}
-use Rattle.words.specs.Layout.{atAnswer}
+use Rattle.words.specs.Layout.{atAnswer, atStation}
 use Rattle.stations.specs.Station.{hasStation}
 use Rattle.stations.specs.Answer.{answerOf, answerAt}
 use borrow.Author.Tests.{lt-ltb, le-ltb, le-leb, lt-leb}
@@ -28,9 +28,11 @@ at-answer-requires : tie.Need-at-answer-requires
 at-answer-requires c κs = search needs
 
 add-end : tie.Need-add-end
+unfolding atAnswer atStation
 add-end c = search needs
 
 mul-answer-of : tie.Need-mul-answer-of
+unfolding atAnswer atStation
 mul-answer-of c = search needs
 
 sub-answer-of : tie.Need-sub-answer-of
@@ -40,6 +42,7 @@ part-answer-of-start : tie.Need-part-answer-of-start
 part-answer-of-start c = search needs
 
 part-answer-of-end : tie.Need-part-answer-of-end
+unfolding atAnswer atStation
 part-answer-of-end c = search needs
 
 answer-of-requires : tie.Need-answer-of-requires

@@ -2,6 +2,8 @@
 use borrow.Author.Needs.{needs}
 use Rattle.stations.proofs.call.best_words.Statement.{statement}
 use Rattle.stations.proofs.call.best_words.Tie as tie
+use Rattle.stations.specs.Call.{bestWords}
+use Rattle.words.specs.Part.{pointWords}
 
 word-requires : tie.Need-word-requires
 word-requires c κs = search needs
@@ -19,6 +21,7 @@ word-requires-5 : tie.Need-word-requires-5
 word-requires-5 c κs = search needs
 
 returns : tie.Need-returns
+unfolding bestWords pointWords
 returns c = cc
 
 pub best-words-spec : {M : Type 1} → statement M

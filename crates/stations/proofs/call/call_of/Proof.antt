@@ -2,6 +2,7 @@
 use borrow.Author.Needs.{needs}
 use Rattle.stations.proofs.call.call_of.Statement.{statement}
 use Rattle.stations.proofs.call.call_of.Tie as tie
+use Rattle.stations.specs.Call.{callOf}
 
 shared-slice-read-t4 : tie.Need-shared-slice-read-t4
 shared-slice-read-t4 c = search needs
@@ -16,6 +17,7 @@ shared-slice-read-t9 : tie.Need-shared-slice-read-t9
 shared-slice-read-t9 c = search needs
 
 returns : tie.Need-returns
+unfolding callOf
 returns c = cc
 
 pub call-of-spec : {M : Type 1} → statement M

@@ -4,6 +4,9 @@ use Rattle.stations.proofs.call.call_sound.Statement.{statement}
 use Rattle.stations.proofs.call.call_sound.Tie as tie
 use Rattle.stations.specs.Call.{callSound}
 
+kind-in-requires : tie.Need-kind-in-requires
+kind-in-requires c κs = search needs
+
 in-range-requires : tie.Need-in-range-requires
 in-range-requires c κs = search needs
 
@@ -19,4 +22,5 @@ returns c = cc
 
 pub call-sound-spec : {M : Type 1} → statement M
 call-sound-spec =
-    tie.close (tie.spec in-range-requires curve-for-requires best-sound-requires returns)
+    tie.close
+    (tie.spec kind-in-requires in-range-requires curve-for-requires best-sound-requires returns)

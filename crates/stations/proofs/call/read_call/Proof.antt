@@ -3,7 +3,7 @@ use borrow.Author.Needs.{needs}
 use Rattle.stations.proofs.call.read_call.Statement.{statement}
 use Rattle.stations.proofs.call.read_call.Tie as tie
 use mathlib.Core.Path.{ap, ap₂, _∙_}
-use Rattle.words.specs.Layout.{atCall, atBest}
+use Rattle.words.specs.Layout.{atCall, atBest, atStation}
 use Rattle.stations.specs.Station.{hasStation}
 use Rattle.stations.specs.Call.{callOf, bestOf, callAt}
 use borrow.Author.Tests.{lt-ltb, le-ltb, le-leb, lt-leb}
@@ -28,15 +28,18 @@ at-call-requires : tie.Need-at-call-requires
 at-call-requires c κs = search needs
 
 add-end : tie.Need-add-end
+unfolding atCall atStation
 add-end c = search needs
 
 at-best-requires : tie.Need-at-best-requires
 at-best-requires c κs = search needs
 
 add-last : tie.Need-add-last
+unfolding atBest atStation
 add-last c = search needs
 
 mul-best-of : tie.Need-mul-best-of
+unfolding atBest atStation
 mul-best-of c = search needs
 
 sub-best-of : tie.Need-sub-best-of
@@ -46,12 +49,14 @@ part-best-of-start : tie.Need-part-best-of-start
 part-best-of-start c = search needs
 
 part-best-of-end : tie.Need-part-best-of-end
+unfolding atBest atStation
 part-best-of-end c = search needs
 
 best-of-requires : tie.Need-best-of-requires
 best-of-requires c κs = search needs
 
 mul-call-of : tie.Need-mul-call-of
+unfolding atCall atStation
 mul-call-of c = search needs
 
 sub-call-of : tie.Need-sub-call-of
@@ -61,6 +66,7 @@ part-call-of-start : tie.Need-part-call-of-start
 part-call-of-start c = search needs
 
 part-call-of-end : tie.Need-part-call-of-end
+unfolding atCall atStation
 part-call-of-end c = search needs
 
 call-of-requires : tie.Need-call-of-requires

@@ -2,13 +2,14 @@
 use borrow.Author.Needs.{needs}
 use Rattle.stations.proofs.call.write_best.Statement.{statement}
 use Rattle.stations.proofs.call.write_best.Tie as tie
-use mathlib.Core.Path.{refl, _∙_}
-use borrow.Author.Tests.{lt-ltb, le-ltb, le-leb, lt-leb}
-use denote.Ref.{now}
-use Rattle.words.proofs.Lent.{splice-same}
+use mathlib.Core.Path.{refl, sym, _∙_}
 use Rattle.words.specs.Layout.{atBest}
-use Rattle.stations.specs.Station.{hasStation}
+use Rattle.words.specs.Part.{pointWords}
 use Rattle.stations.specs.Call.{bestWords, putBest}
+use Rattle.stations.proofs.StationLaws.{best-fits, station-part}
+
+has-station-requires : tie.Need-has-station-requires
+has-station-requires c κs = search needs
 
 best-words-requires : tie.Need-best-words-requires
 best-words-requires c κs = search needs
@@ -26,33 +27,31 @@ same-length : tie.Need-same-length
 same-length c = search needs
 
 returns : tie.Need-returns
-unfolding putBest hasStation
+unfolding putBest bestWords pointWords
 returns c =
     let p = c .before .before in
     let a = p .before .before in
     let b = a .before .before in
     let t = b .before in
-    let s = t .before .before .before .args in
-    simp (lt-ltb _ _ (t .before .if1 .taken), le-leb _ _ (t .if2 .taken))
-    (p .write-part .ensures ∙ splice-same (now (s .words)) _ (bestWords (s .best)) (atBest (s .s)) _ 6 (b .best-words .ensures) (a .at-best .ensures) refl)
+    p .write-part .ensures ∙ station-part _ (atBest _) 6 (sym (t .before .has-station .ensures) ∙ t .if1 .taken) (b .best-words .ensures) (a .at-best .ensures) refl best-fits
+
+same-length-2 : tie.Need-same-length-2
+same-length-2 c = search needs
 
 returns-2 : tie.Need-returns-2
-unfolding putBest hasStation
-returns-2 c = simp (lt-ltb _ _ (c .before .if1 .taken), lt-leb _ _ (c .if2 .left))
-
-returns-3 : tie.Need-returns-3
-unfolding putBest hasStation
-returns-3 c = simp (le-ltb _ _ (c .if1 .left))
+unfolding putBest
+returns-2 c = rw (sym (c .before .has-station .ensures) ∙ c .if1 .left)
 
 pub write-best-spec : {M : Type 1} → statement M
 write-best-spec =
     tie.close
     (tie.spec
+    has-station-requires
     best-words-requires
     at-best-requires
     slice-aggregate-write-part
     write-part-requires
     same-length
     returns
-    returns-2
-    returns-3)
+    same-length-2
+    returns-2)

@@ -4,8 +4,8 @@ use Rattle.stations.proofs.common.least_since.Statement.{statement}
 use Rattle.stations.proofs.common.least_since.Tie as tie
 use Rattle.stations.specs.Common.{leastSince}
 
-get-requires : tie.Need-get-requires
-get-requires c κs = search needs
+read-counts-requires : tie.Need-read-counts-requires
+read-counts-requires c κs = search needs
 
 least-four-requires : tie.Need-least-four-requires
 least-four-requires c κs = search needs
@@ -19,4 +19,4 @@ returns c = cc
 
 pub least-since-spec : {M : Type 1} → statement M
 least-since-spec =
-    tie.close (tie.spec get-requires least-four-requires least-four-requires-2 returns)
+    tie.close (tie.spec read-counts-requires least-four-requires least-four-requires-2 returns)

@@ -6,19 +6,19 @@ use borrow.Author.Tests.{le-leb, lt-leb}
 use mathlib.Core.Path.{sym}
 use Rattle.stations.specs.Common.{rowsIn}
 
-get-requires : tie.Need-get-requires
-get-requires c κs = search needs
+read-places-requires : tie.Need-read-places-requires
+read-places-requires c κs = search needs
 
 mul-result : tie.Need-mul-result
 mul-result c = search needs
 
 returns : tie.Need-returns
 unfolding rowsIn
-returns c = simp (sym (c .before .get .ensures), le-leb _ _ (c .if1 .taken))
+returns c = simp (sym (c .before .read-places .ensures), le-leb _ _ (c .if1 .taken))
 
 returns-2 : tie.Need-returns-2
 unfolding rowsIn
-returns-2 c = simp (sym (c .before .get .ensures), lt-leb _ _ (c .if1 .left))
+returns-2 c = simp (sym (c .before .read-places .ensures), lt-leb _ _ (c .if1 .left))
 
 pub rows-in-spec : {M : Type 1} → statement M
-rows-in-spec = tie.close (tie.spec get-requires mul-result returns returns-2)
+rows-in-spec = tie.close (tie.spec read-places-requires mul-result returns returns-2)

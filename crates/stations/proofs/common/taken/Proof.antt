@@ -4,8 +4,8 @@ use Rattle.stations.proofs.common.taken.Statement.{statement}
 use Rattle.stations.proofs.common.taken.Tie as tie
 use Rattle.stations.specs.Common.{takenIn}
 
-get-requires : tie.Need-get-requires
-get-requires c κs = search needs
+read-counts-requires : tie.Need-read-counts-requires
+read-counts-requires c κs = search needs
 
 cast-result : tie.Need-cast-result
 cast-result c = search needs
@@ -26,4 +26,4 @@ returns c = cc
 pub taken-spec : {M : Type 1} → statement M
 taken-spec =
     tie.close
-    (tie.spec get-requires cast-result awaiting-requires cast-result-2 add-result returns)
+    (tie.spec read-counts-requires cast-result awaiting-requires cast-result-2 add-result returns)

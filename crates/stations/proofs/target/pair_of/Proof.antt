@@ -2,9 +2,9 @@
 use borrow.Author.Needs.{needs}
 use Rattle.stations.proofs.target.pair_of.Statement.{statement}
 use Rattle.stations.proofs.target.pair_of.Tie as tie
-use Prim.Native.Nat.{ℕ, _≤_, _<_}
+use Prim.Native.Nat.{_≤_, _<_}
 use mathlib.Core.Path.{_≡_, _∙_}
-use mathlib.Core.Bool.{true, _&&_}
+use mathlib.Core.Bool.{_&&_}
 use native.Mathlib.Omega.{arith}
 use Rattle.points.specs.declared.point.Point.{Point}
 use Rattle.points.specs.Point.{onAxis}

@@ -28,9 +28,11 @@ at-target-requires : tie.Need-at-target-requires
 at-target-requires c κs = search needs
 
 add-end : tie.Need-add-end
+unfolding atTarget
 add-end c = search needs
 
 mul-target-of : tie.Need-mul-target-of
+unfolding atTarget
 mul-target-of c = search needs
 
 sub-target-of : tie.Need-sub-target-of
@@ -40,6 +42,7 @@ part-target-of-start : tie.Need-part-target-of-start
 part-target-of-start c = search needs
 
 part-target-of-end : tie.Need-part-target-of-end
+unfolding atTarget
 part-target-of-end c = search needs
 
 target-of-requires : tie.Need-target-of-requires

@@ -2,6 +2,7 @@
 use borrow.Author.Needs.{needs}
 use Rattle.stations.proofs.target.target_words.Statement.{statement}
 use Rattle.stations.proofs.target.target_words.Tie as tie
+use Rattle.stations.specs.Target.{targetWords}
 
 word-requires : tie.Need-word-requires
 word-requires c κs = search needs
@@ -16,6 +17,7 @@ pair-of-requires : tie.Need-pair-of-requires
 pair-of-requires c κs = search needs
 
 returns : tie.Need-returns
+unfolding targetWords
 returns c = cc
 
 pub target-words-spec : {M : Type 1} → statement M

@@ -2,13 +2,13 @@
 use borrow.Author.Needs.{needs}
 use Rattle.stations.proofs.target.write_target.Statement.{statement}
 use Rattle.stations.proofs.target.write_target.Tie as tie
-use mathlib.Core.Path.{refl, _∙_}
-use borrow.Author.Tests.{lt-ltb, le-ltb, le-leb, lt-leb}
-use denote.Ref.{now}
-use Rattle.words.proofs.Lent.{splice-same}
+use mathlib.Core.Path.{refl, sym, _∙_}
 use Rattle.words.specs.Layout.{atTarget}
-use Rattle.stations.specs.Station.{hasStation}
 use Rattle.stations.specs.Target.{targetWords, putTarget}
+use Rattle.stations.proofs.StationLaws.{target-fits, station-part}
+
+has-station-requires : tie.Need-has-station-requires
+has-station-requires c κs = search needs
 
 target-words-requires : tie.Need-target-words-requires
 target-words-requires c κs = search needs
@@ -26,33 +26,31 @@ same-length : tie.Need-same-length
 same-length c = search needs
 
 returns : tie.Need-returns
-unfolding putTarget hasStation
+unfolding putTarget targetWords
 returns c =
     let p = c .before .before in
     let a = p .before .before in
     let b = a .before .before in
     let t = b .before in
-    let s = t .before .before .before .args in
-    simp (lt-ltb _ _ (t .before .if1 .taken), le-leb _ _ (t .if2 .taken))
-    (p .write-part .ensures ∙ splice-same (now (s .words)) _ (targetWords (s .p)) (atTarget (s .s)) _ 4 (b .target-words .ensures) (a .at-target .ensures) refl)
+    p .write-part .ensures ∙ station-part _ (atTarget _) 4 (sym (t .before .has-station .ensures) ∙ t .if1 .taken) (b .target-words .ensures) (a .at-target .ensures) refl target-fits
+
+same-length-2 : tie.Need-same-length-2
+same-length-2 c = search needs
 
 returns-2 : tie.Need-returns-2
-unfolding putTarget hasStation
-returns-2 c = simp (lt-ltb _ _ (c .before .if1 .taken), lt-leb _ _ (c .if2 .left))
-
-returns-3 : tie.Need-returns-3
-unfolding putTarget hasStation
-returns-3 c = simp (le-ltb _ _ (c .if1 .left))
+unfolding putTarget
+returns-2 c = rw (sym (c .before .has-station .ensures) ∙ c .if1 .left)
 
 pub write-target-spec : {M : Type 1} → statement M
 write-target-spec =
     tie.close
     (tie.spec
+    has-station-requires
     target-words-requires
     at-target-requires
     slice-aggregate-write-part
     write-part-requires
     same-length
     returns
-    returns-2
-    returns-3)
+    same-length-2
+    returns-2)

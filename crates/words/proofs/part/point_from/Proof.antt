@@ -2,74 +2,55 @@
 use borrow.Author.Needs.{needs}
 use Rattle.words.proofs.part.point_from.Statement.{statement}
 use Rattle.words.proofs.part.point_from.Tie as tie
+use Rattle.words.specs.Words.{get}
 use Rattle.words.specs.Part.{pointFrom}
 
-mul-point-at : tie.Need-mul-point-at
-mul-point-at c = search needs
+get-requires : tie.Need-get-requires
+get-requires c κs = search needs
 
-shared-slice-read-point-at : tie.Need-shared-slice-read-point-at
-shared-slice-read-point-at c = search needs
+add-get : tie.Need-add-get
+add-get c = search needs
 
-add-point-at : tie.Need-add-point-at
-add-point-at c = search needs
+get-requires-2 : tie.Need-get-requires-2
+get-requires-2 c κs = search needs
 
-mul-point-at-2 : tie.Need-mul-point-at-2
-mul-point-at-2 c = search needs
+add-get-2 : tie.Need-add-get-2
+add-get-2 c = search needs
 
-shared-slice-read-point-at-2 : tie.Need-shared-slice-read-point-at-2
-shared-slice-read-point-at-2 c = search needs
+get-requires-3 : tie.Need-get-requires-3
+get-requires-3 c κs = search needs
 
-add-point-at-2 : tie.Need-add-point-at-2
-add-point-at-2 c = search needs
+add-get-3 : tie.Need-add-get-3
+add-get-3 c = search needs
 
-mul-point-at-3 : tie.Need-mul-point-at-3
-mul-point-at-3 c = search needs
+get-requires-4 : tie.Need-get-requires-4
+get-requires-4 c κs = search needs
 
-shared-slice-read-point-at-3 : tie.Need-shared-slice-read-point-at-3
-shared-slice-read-point-at-3 c = search needs
+add-get-4 : tie.Need-add-get-4
+add-get-4 c = search needs
 
-add-point-at-3 : tie.Need-add-point-at-3
-add-point-at-3 c = search needs
-
-mul-point-at-4 : tie.Need-mul-point-at-4
-mul-point-at-4 c = search needs
-
-shared-slice-read-point-at-4 : tie.Need-shared-slice-read-point-at-4
-shared-slice-read-point-at-4 c = search needs
-
-add-point-at-4 : tie.Need-add-point-at-4
-add-point-at-4 c = search needs
-
-mul-point-at-5 : tie.Need-mul-point-at-5
-mul-point-at-5 c = search needs
-
-shared-slice-read-point-at-5 : tie.Need-shared-slice-read-point-at-5
-shared-slice-read-point-at-5 c = search needs
+get-requires-5 : tie.Need-get-requires-5
+get-requires-5 c κs = search needs
 
 point-at-requires : tie.Need-point-at-requires
 point-at-requires c κs = search needs
 
 returns : tie.Need-returns
-unfolding pointFrom
-returns c = c .point-at .ensures
+unfolding pointFrom get
+returns c = cc
 
 pub point-from-spec : {M : Type 1} → statement M
 point-from-spec =
     tie.close
     (tie.spec
-    mul-point-at
-    shared-slice-read-point-at
-    add-point-at
-    mul-point-at-2
-    shared-slice-read-point-at-2
-    add-point-at-2
-    mul-point-at-3
-    shared-slice-read-point-at-3
-    add-point-at-3
-    mul-point-at-4
-    shared-slice-read-point-at-4
-    add-point-at-4
-    mul-point-at-5
-    shared-slice-read-point-at-5
+    get-requires
+    add-get
+    get-requires-2
+    add-get-2
+    get-requires-3
+    add-get-3
+    get-requires-4
+    add-get-4
+    get-requires-5
     point-at-requires
     returns)

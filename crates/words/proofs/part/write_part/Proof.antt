@@ -2,9 +2,14 @@
 use borrow.Author.Needs.{needs}
 use Rattle.words.proofs.part.write_part.Statement.{statement}
 use Rattle.words.proofs.part.write_part.Tie as tie
+use mathlib.Core.Path.{sym, _∙_}
+use native.Mathlib.Omega.{arith}
 use lib.ListN.{length}
 use denote.Ref.{now}
-use Rattle.words.proofs.Lent.{splice-lent}
+use Rattle.words.proofs.Lent.{splice-lent, part-fits, part-past}
+
+sub-if2 : tie.Need-sub-if2
+sub-if2 c = search needs
 
 add-end : tie.Need-add-end
 add-end c = search needs
@@ -29,13 +34,21 @@ same-length c = search needs
 
 returns : tie.Need-returns
 returns c =
-    let s = c .before .before .before .before .before .before .args in
-    splice-lent (now (s .words)) _ (now (s .from)) (s .at) (length (now (s .from))) (c .before .before .copy .ensures)
+    let t = c .before .before .before .before .before .before in
+    let s = t .before .before .args in
+    splice-lent (now (s .words)) _ (now (s .from)) (s .at) (length (now (s .from))) (c .before .before .copy .ensures) ∙ sym (part-fits (now (s .words)) (now (s .from)) (s .at) (omega arith))
+
+returns-2 : tie.Need-returns-2
+returns-2 c = let s = c .before .before .before .before .args in sym (part-past (now (s .words)) (now (s .from)) (s .at) (omega arith))
+
+returns-3 : tie.Need-returns-3
+returns-3 c = let s = c .before .before .before .args in sym (part-past (now (s .words)) (now (s .from)) (s .at) (omega arith))
 
 pub write-part-spec : {M : Type 1} → statement M
 write-part-spec =
     tie.close
     (tie.spec
+    sub-if2
     add-end
     mul-copy
     sub-copy
@@ -43,4 +56,6 @@ write-part-spec =
     part-copy-end
     copy-requires
     same-length
-    returns)
+    returns
+    returns-2
+    returns-3)

@@ -1,0 +1,76 @@
+-- The common record has four parts: what opening writes, the counts, the tracks and the targets of the stations. What is written in one of them is
+-- not seen in another.
+-- Assumes nothing.
+use mathlib.Core.Path.{_≡_}
+use mathlib.Core.List.{List}
+use Prim.Native.Nat.{ℕ}
+use native.Mathlib.Omega.{arith}
+use Rattle.points.specs.declared.point.Point.{Point}
+use Rattle.words.specs.Layout.{atCounts, atCursor, atTarget}
+use Rattle.words.proofs.AgreeLaws.{only-apart}
+use Rattle.stations.specs.declared.counts.Counts.{Counts}
+use Rattle.stations.specs.declared.track.Track.{Track}
+use Rattle.stations.specs.Counts.{countsAt, putCounts}
+use Rattle.stations.specs.Track.{trackAt, putTrack}
+use Rattle.stations.specs.Target.{targetAt, putTarget}
+use Rattle.stations.specs.Common.{openedIn, putOpening}
+use Rattle.stations.proofs.OpeningLaws.{opened-first, putOpening-words}
+use Rattle.stations.proofs.CountLaws.{counts-words, putCounts-words}
+use Rattle.stations.proofs.TrackLaws.{track-words, putTrack-words}
+use Rattle.stations.proofs.TargetLaws.{target-words, putTarget-words}
+
+-- ---- what opening writes
+module _ (w : List ℕ) (places limit : ℕ) where
+  pub counts-putOpening : countsAt (putOpening w places limit) ≡ countsAt w
+  unfolding atCounts
+  counts-putOpening = counts-words (only-apart (putOpening-words w places limit) atCounts 6 (λ k h l h′ l′. omega arith))
+
+  pub track-putOpening : (u : ℕ) → trackAt (putOpening w places limit) u ≡ trackAt w u
+  unfolding atCursor
+  track-putOpening u = track-words u (only-apart (putOpening-words w places limit) (atCursor 0) 32 (λ k h l h′ l′. omega arith))
+
+  pub target-putOpening : (u : ℕ) → targetAt (putOpening w places limit) u ≡ targetAt w u
+  unfolding atTarget
+  target-putOpening u = target-words u (only-apart (putOpening-words w places limit) (atTarget 0) 32 (λ k h l h′ l′. omega arith))
+
+-- ---- the counts
+module _ (w : List ℕ) (counts : Counts) where
+  pub opened-putCounts : openedIn (putCounts w counts) ≡ openedIn w
+  unfolding atCounts
+  opened-putCounts = opened-first (only-apart (putCounts-words w counts) 0 3 (λ k h l h′ l′. omega arith))
+
+  pub track-putCounts : (u : ℕ) → trackAt (putCounts w counts) u ≡ trackAt w u
+  unfolding atCounts atCursor
+  track-putCounts u = track-words u (only-apart (putCounts-words w counts) (atCursor 0) 32 (λ k h l h′ l′. omega arith))
+
+  pub target-putCounts : (u : ℕ) → targetAt (putCounts w counts) u ≡ targetAt w u
+  unfolding atCounts atTarget
+  target-putCounts u = target-words u (only-apart (putCounts-words w counts) (atTarget 0) 32 (λ k h l h′ l′. omega arith))
+
+-- ---- a track
+module _ (w : List ℕ) (s : ℕ) (track : Track) where
+  pub opened-putTrack : openedIn (putTrack w s track) ≡ openedIn w
+  unfolding atCursor
+  opened-putTrack = opened-first (only-apart (putTrack-words w s track) 0 3 (λ k h l h′ l′. omega arith))
+
+  pub counts-putTrack : countsAt (putTrack w s track) ≡ countsAt w
+  unfolding atCounts atCursor
+  counts-putTrack = counts-words (only-apart (putTrack-words w s track) atCounts 6 (λ k h l h′ l′. omega arith))
+
+  pub target-putTrack : (u : ℕ) → targetAt (putTrack w s track) u ≡ targetAt w u
+  unfolding atCursor atTarget
+  target-putTrack u = target-words u (only-apart (putTrack-words w s track) (atTarget 0) 32 (λ k h l h′ l′. omega arith))
+
+-- ---- a target
+module _ (w : List ℕ) (s : ℕ) (p : Point) where
+  pub opened-putTarget : openedIn (putTarget w s p) ≡ openedIn w
+  unfolding atTarget
+  opened-putTarget = opened-first (only-apart (putTarget-words w s p) 0 3 (λ k h l h′ l′. omega arith))
+
+  pub counts-putTarget : countsAt (putTarget w s p) ≡ countsAt w
+  unfolding atCounts atTarget
+  counts-putTarget = counts-words (only-apart (putTarget-words w s p) atCounts 6 (λ k h l h′ l′. omega arith))
+
+  pub track-putTarget : (u : ℕ) → trackAt (putTarget w s p) u ≡ trackAt w u
+  unfolding atCursor atTarget
+  track-putTarget u = track-words u (only-apart (putTarget-words w s p) (atCursor 0) 32 (λ k h l h′ l′. omega arith))

@@ -1,0 +1,85 @@
+-- What opening writes of the records: zero in every word of them, so that every station is idle (`state-cleared`), and mark, places and limit, so that the
+-- slice is opened (`opened-begun`). The words beyond the records stay.
+-- Assumes nothing.
+use mathlib.Core.Path.{_≡_, _∙_}
+use mathlib.Core.Bool.{true}
+use mathlib.Core.List.{List}
+use Prim.Native.Nat.{ℕ, zero, suc, _≤_, _<_}
+use native.Mathlib.Omega.{arith}
+use native.Mathlib.Decide.{ℕ-discrete}
+use lib.ListN.{length}
+use Rattle.words.specs.Layout.{stations, records, wordsFor, atMark, atPlaces, atLimit, atStation}
+use Rattle.words.specs.Words.{get, put}
+use Rattle.words.specs.Agree.{inCommon, inStation, Beyond}
+use Rattle.words.proofs.WordLaws.{length-put, get-put-same, get-put-other}
+use Rattle.words.proofs.AgreeLaws.{elsewhere, station-common}
+use Rattle.words.proofs.BeyondLaws.{beyond-refl, beyond-common}
+use Rattle.stations.specs.Station.{idle, stateAt}
+use Rattle.stations.specs.Common.{mark, placesIn, limitIn, markAt, placesAt, limitAt, Opened, openedIn, cleared, recordsCleared, putOpening}
+use Rattle.stations.proofs.StationLaws.{there-of}
+use Rattle.stations.proofs.OpeningLaws.{places-tells, limit-tells, opened-of, putOpening-only, length-putOpening}
+use Rattle.stations.proofs.RecordLaws.{stateAt-is, stateAt-agree}
+
+-- ---- zero in the first words
+
+first-beyond : (m : ℕ) (w : List ℕ) (n : ℕ) → m ≤ n → Beyond (cleared m w) w n
+unfolding cleared
+first-beyond zero w n h = beyond-refl w n
+first-beyond (suc m) w n h =
+    let b = first-beyond m w n (omega arith) in
+    record { lengths = length-put (cleared m w) m 0 ∙ b .lengths; words = λ k l. get-put-other (cleared m w) m k 0 (λ e. omega arith) ∙ b .words k l }
+
+first-zero : (m : ℕ) (w : List ℕ) → m ≤ length w → (k : ℕ) → k < m → get (cleared m w) k ≡ 0
+unfolding cleared
+first-zero zero w h k l = absurd (omega arith)
+first-zero (suc m) w h k l = go (ℕ-discrete k m) (λ below. first-zero m w (omega arith) k below)
+  where
+    go : Dec (k ≡ m) → (k < m → get (cleared m w) k ≡ 0) → get (put (cleared m w) m 0) k ≡ 0
+    go (yes e) f = rw e (get-put-same (cleared m w) m 0 (omega (arith, first-beyond m w m (omega arith) .lengths)))
+    go (no d) f = get-put-other (cleared m w) m k 0 d ∙ f (omega arith)
+
+-- ---- the records cleared
+module _ (w : List ℕ) where
+  pub cleared-beyond : {n : ℕ} → records ≤ n → Beyond (recordsCleared w) w n
+  unfolding recordsCleared
+  cleared-beyond {n} h = first-beyond records w n h
+
+  pub length-cleared : length (recordsCleared w) ≡ length w
+  length-cleared = cleared-beyond {n = records} (omega arith) .lengths
+
+  -- every station is idle
+  pub state-cleared : records ≤ length w → (s : ℕ) → s < stations → stateAt (recordsCleared w) s ≡ idle
+  unfolding recordsCleared atStation
+  state-cleared h s l =
+      stateAt-is (recordsCleared w) s (there-of (recordsCleared w) s (record { station = l; long = omega (arith, length-cleared) }))
+      ∙ (λ i. record { word = first-zero records w h (atStation s) (omega arith) i })
+
+-- ---- mark, places and limit
+module _ (w : List ℕ) (places limit : ℕ) where
+  pub opening-beyond : {n : ℕ} → records ≤ n → Beyond (putOpening w places limit) w n
+  opening-beyond h = beyond-common (putOpening-only w places limit) h
+
+  -- the stations' records stay
+  pub state-putOpening : (s : ℕ) → stateAt (putOpening w places limit) s ≡ stateAt w s
+  state-putOpening s = stateAt-agree s (elsewhere inCommon (inStation s) (putOpening-only w places limit) (station-common s))
+
+  -- and the slice is opened
+  pub opened-begun : placesIn places ≡ true → limitIn limit ≡ true → wordsFor places ≤ length w → openedIn (putOpening w places limit) ≡ Opened places limit
+  unfolding putOpening markAt placesAt limitAt atMark atPlaces atLimit
+  opened-begun p l h =
+      opened-of (putOpening w places limit) places limit (record {
+        first = get-put-other two atLimit atMark limit (λ e. omega arith) ∙ get-put-other one atPlaces atMark places (λ e. omega arith) ∙ get-put-same w atMark mark (omega arith);
+        places-word = get-put-other two atLimit atPlaces limit (λ e. omega arith) ∙ get-put-same one atPlaces places (omega (arith, length-put w atMark mark));
+        limit-word = get-put-same two atLimit limit (omega (arith, length-put one atPlaces places, length-put w atMark mark));
+        places-least = places-tells places p .0;
+        places-most = places-tells places p .1;
+        limit-least = limit-tells limit l .0;
+        limit-most = limit-tells limit l .1;
+        long = omega (arith, length-putOpening w places limit);
+      })
+    where
+      one : List ℕ
+      one = put w atMark mark
+
+      two : List ℕ
+      two = put one atPlaces places
