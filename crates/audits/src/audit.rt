@@ -4,7 +4,7 @@ use crate::tree::tree;
 use crate::whole::all_rows;
 use calls::audit::Verdict;
 use stations::common::is_opened;
-use stations::common::opened;
+use words::refusal::NOT_OPENED;
 ghost use mathlib.Core.Path.{_≡_};
 ghost use Rattle.calls.specs.Audit.{verdictOf};
 
@@ -12,14 +12,14 @@ ghost use Rattle.calls.specs.Audit.{verdictOf};
 pub fn audit(words: &[u32]) -> Verdict
     ensures { λ r. ⌜ r ≡ verdictOf (now (words .entry)) ⌝ }
 {
-    if is_opened(opened(words)) {
+    if is_opened(words) {
         Verdict {
             number: 0,
             sound: all_rows(words, tree(words), queue(words)),
         }
     } else {
         Verdict {
-            number: 4,
+            number: NOT_OPENED,
             sound: false,
         }
     }

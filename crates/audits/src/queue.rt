@@ -1,48 +1,47 @@
 // The queue of an audit, walked from its head: free rows, and then the removals that await release, in order.
 use crate::sum::plus;
-use calls::queue::Line;
+use calls::queue::Queued;
 use rows::row::Row;
 use rows::row::read_row;
 use stations::common::least_since;
 use stations::common::rows_in;
-use words::layout::AT_HEAD;
+use stations::counts::read_counts;
 use words::layout::NONE;
-use words::word::get;
 ghost use mathlib.Core.Path.{_≡_};
 ghost use Prim.Native.Nat.{_+_};
 ghost use lib.Dec.{eqb};
-ghost use Rattle.calls.specs.Queue.{passed, broken, noLonger, passSpare, passRemoved, passRow, walkQueue, lineAtHead, queueIn};
+ghost use Rattle.calls.specs.Queue.{passed, broken, noLonger, passSpare, passRemoved, passRow, walkQueue, queuedAtHead, queueIn};
 
 // A free row is passed.
-fn passed(l: Line, sound: bool, next: u32, number: u32, fresh: bool) -> Line
-    ensures { λ r. ⌜ r ≡ passed l sound next number fresh ⌝ }
+fn passed(l: Queued, sound: bool, next: u32, number: u32, half: bool) -> Queued
+    ensures { λ r. ⌜ r ≡ passed l sound next number half ⌝ }
 {
-    Line {
+    Queued {
         sound: l.sound & sound,
         at: next,
         last: l.at,
         rows: plus(1, l.rows),
         number: number,
-        fresh: fresh,
+        half: half,
     }
 }
 
 // No free row: the queue is broken here.
-fn broken(l: Line) -> Line
+fn broken(l: Queued) -> Queued
     ensures { λ r. ⌜ r ≡ broken l ⌝ }
 {
-    Line {
+    Queued {
         sound: false,
         at: NONE,
         last: l.last,
         rows: l.rows,
         number: l.number,
-        fresh: l.fresh,
+        half: l.half,
     }
 }
 
 // Whether a row's removal is no longer awaited, and no awaited one was passed.
-fn no_longer(released: u32, l: Line, freed: u32) -> bool
+fn no_longer(released: u32, l: Queued, freed: u32) -> bool
     ensures { λ r. ⌜ r ≡ noLonger released l freed ⌝ }
 {
     (freed <= released) & (l.number == released)
@@ -56,7 +55,7 @@ fn follows(freed: u32, number: u32) -> bool
 }
 
 // A removed record is passed.
-fn pass_removed(released: u32, l: Line, next: u32, freed: u32) -> Line
+fn pass_removed(released: u32, l: Queued, next: u32, freed: u32) -> Queued
     ensures { λ r. ⌜ r ≡ passRemoved released l next freed ⌝ }
 {
     if no_longer(released, l, freed) {
@@ -67,15 +66,15 @@ fn pass_removed(released: u32, l: Line, next: u32, freed: u32) -> Line
 }
 
 // A spare row is passed.
-fn pass_spare(released: u32, l: Line, next: u32, freed: u32) -> Line
+fn pass_spare(released: u32, l: Queued, next: u32, freed: u32) -> Queued
     ensures { λ r. ⌜ r ≡ passSpare released l next freed ⌝ }
 {
-    let sound = no_longer(released, l, freed) | ((freed == l.number) & l.fresh);
+    let sound = no_longer(released, l, freed) | ((freed == l.number) & l.half);
     passed(l, sound, next, l.number, false)
 }
 
 // A row of the queue is passed.
-fn pass_row(released: u32, l: Line, row: Row) -> Line
+fn pass_row(released: u32, l: Queued, row: Row) -> Queued
     ensures { λ r. ⌜ r ≡ passRow released l row ⌝ }
 {
     match row {
@@ -88,7 +87,7 @@ fn pass_row(released: u32, l: Line, row: Row) -> Line
 }
 
 // So many rows on, or to the end.
-fn walk_queue(words: &[u32], rows: u32, released: u32, n: u32, l: Line) -> Line
+fn walk_queue(words: &[u32], rows: u32, released: u32, n: u32, l: Queued) -> Queued
     ensures { λ r. ⌜ r ≡ walkQueue (now (words .entry)) rows released n l ⌝ }
 {
     let mut line = l;
@@ -101,24 +100,24 @@ fn walk_queue(words: &[u32], rows: u32, released: u32, n: u32, l: Line) -> Line
 }
 
 // At the head of the queue, before its first row.
-fn line_at_head(words: &[u32]) -> Line
-    ensures { λ r. ⌜ r ≡ lineAtHead (now (words .entry)) ⌝ }
+fn queued_at_head(words: &[u32]) -> Queued
+    ensures { λ r. ⌜ r ≡ queuedAtHead (now (words .entry)) ⌝ }
 {
-    Line {
+    Queued {
         sound: true,
-        at: get(words, AT_HEAD),
+        at: read_counts(words).head,
         last: NONE,
         rows: 0,
         number: least_since(words),
-        fresh: false,
+        half: false,
     }
 }
 
 // The whole queue.
-pub fn queue(words: &[u32]) -> Line
+pub fn queue(words: &[u32]) -> Queued
     ensures { λ r. ⌜ r ≡ queueIn (now (words .entry)) ⌝ }
 {
     let rows = rows_in(words);
-    let start = line_at_head(words);
+    let start = queued_at_head(words);
     walk_queue(words, rows, start.number, rows, start)
 }

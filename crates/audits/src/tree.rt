@@ -5,9 +5,8 @@ use calls::tree::Count;
 use rows::row::Row;
 use rows::row::read_row;
 use stations::common::rows_in;
-use words::layout::AT_ROOT;
+use stations::counts::read_counts;
 use words::layout::NONE;
-use words::word::get;
 ghost use mathlib.Core.Path.{_≡_};
 ghost use Rattle.rows.specs.Row.{rowAt};
 ghost use Rattle.calls.specs.Tree.{linksUp, forks, rowCount, added, counted, scan, rootSound, treeOf, treeIn};
@@ -120,7 +119,7 @@ fn tree_of(c: Count, sound: bool) -> Count
 pub fn tree(words: &[u32]) -> Count
     ensures { λ r. ⌜ r ≡ treeIn (now (words .entry)) ⌝ }
 {
-    let root = get(words, AT_ROOT);
+    let root = read_counts(words).root;
     let rows = rows_in(words);
     tree_of(scan(words, rows, root), root_sound(words, rows, root))
 }

@@ -1,13 +1,13 @@
 // The calls for programs in C, as the benchmark makes them: a slice is lent as its first word and its length.
 use audits::audit::audit;
 use audits::report::read_report;
-use calls::take::Taking;
 use openings::open::open;
 use points::point::Point;
 use steps::run::run;
 use steps::step::step;
 use steps::withdraw::withdraw;
 use submissions::submit::submit;
+use submissions::take::number_of;
 use submissions::take::take;
 ghost use mathlib.Core.Path.{_≡_};
 ghost use Rattle.calls.specs.Reply.{replied};
@@ -67,16 +67,6 @@ pub extern "C" fn index_run(words: &mut [u32], s: u32) -> u32
     ensures { λ r. ⌜ replied r (now (words .exit)) ≡ runOf (now (words .entry)) s ⌝ }
 {
     run(words, s)
-}
-
-// The number of a taking.
-fn number_of(taking: Taking) -> u32
-    ensures { λ r. ⌜ r ≡ numberOf taking ⌝ }
-{
-    match taking {
-        Taking::Refused(number) => number,
-        Taking::Given(_) => 0,
-    }
 }
 
 // A taking by station s. Its answer stays in the words of the station's record.

@@ -1,4 +1,3 @@
-pub mod UnseenLaws
 pub mod SearchLaws
 pub mod TourLaws
 pub mod UnlinkLaws
@@ -8,3 +7,4 @@ pub mod TreeLaws
 pub mod QueueLaws
 pub mod Questions
 pub mod SubmitLaws
+pub mod UnseenLaws

@@ -8,10 +8,10 @@ use Rattle.points.specs.declared.point.Point.{Point}
 use Rattle.points.specs.Point.{inRange}
 use Rattle.stations.specs.Common.{openedIn, isOpened, rowsIn}
 use Rattle.stations.specs.Station.{isIdle, isUnfinished, stateAt}
-use Rattle.stations.specs.Call.{callAt}
+use Rattle.stations.specs.Call.{callAt, kindIn}
 use Rattle.calls.specs.Reply.{Reply, replied, done, ask, refused, pickReply}
 use Rattle.calls.specs.Step.{recordsSound, fieldsSound, firstFailed, askUnfinished}
-use Rattle.calls.specs.Submit.{kindIn, curveFits, callQuestion, submitQuestion, submittedWords, submitOf}
+use Rattle.calls.specs.Submit.{curveFits, callQuestion, submitQuestion, submittedWords, submitOf}
 
 -- no question failed and the call leaves the words after, or one did and it leaves those before
 abbrev pub settled : ℕ → List ℕ → List ℕ → Reply

@@ -9,22 +9,22 @@ use native.Mathlib.Omega.{arith}
 use lib.Dec.{eqb}
 use Rattle.points.specs.Word.{NONE}
 use Rattle.rows.specs.Row.{rowAt}
-use Rattle.calls.specs.declared.queue.Line.{Line}
+use Rattle.calls.specs.declared.queue.Queued.{Queued}
 use Rattle.calls.specs.Queue.{passRow, walkQueue}
 
-walk-stays : (w : List ℕ) (rows released n : ℕ) (l : Line) → eqb (l .at) NONE ≡ true → l ≡ walkQueue w rows released n l
+walk-stays : (w : List ℕ) (rows released n : ℕ) (l : Queued) → eqb (l .at) NONE ≡ true → l ≡ walkQueue w rows released n l
 unfolding walkQueue
 walk-stays w rows released zero l e = refl
 walk-stays w rows released (suc n) l e = rw e (walk-stays w rows released n l e)
 
 -- no row is left, or the queue has ended
-pub walk-end : (w : List ℕ) (rows released n : ℕ) (l : Line) → (n ≡ 0) ⊎ (eqb (l .at) NONE ≡ true) → l ≡ walkQueue w rows released n l
+pub walk-end : (w : List ℕ) (rows released n : ℕ) (l : Queued) → (n ≡ 0) ⊎ (eqb (l .at) NONE ≡ true) → l ≡ walkQueue w rows released n l
 unfolding walkQueue
 walk-end w rows released n l (inl e) = rw e
 walk-end w rows released n l (inr e) = walk-stays w rows released n l e
 
 -- one row on
-pub walk-on : (w : List ℕ) (rows released n : ℕ) (l m : Line)
+pub walk-on : (w : List ℕ) (rows released n : ℕ) (l m : Queued)
     → 0 < n
     → eqb (l .at) NONE ≡ false
     → m ≡ passRow released l (rowAt w rows (l .at))

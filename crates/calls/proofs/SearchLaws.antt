@@ -16,8 +16,10 @@ use Rattle.stations.specs.declared.call.Best.{Best}
 use Rattle.stations.specs.declared.call.Call.{Call}
 use Rattle.rows.specs.Row.{rowAt}
 use Rattle.rows.specs.Grades.{admits}
-use Rattle.calls.specs.declared.search.Progress.{Progress}
-use Rattle.calls.specs.Search.{considered, onward, look, tour}
+use Rattle.calls.specs.declared.progress.Progress.{Progress}
+use Rattle.calls.specs.Tour.{tour}
+use Rattle.calls.specs.Look.{look}
+use Rattle.calls.specs.Progress.{considered, onward}
 
 -- a record that was added after the submission is not taken
 pub considered-younger : (call : Call) (best : Best) (added : ℕ) (point : Point) (curve : ℕ) → call .asof < added

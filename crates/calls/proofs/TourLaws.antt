@@ -18,11 +18,12 @@ use Rattle.rows.specs.Tree.{treeRow}
 use Rattle.rows.specs.Grades.{admits}
 use Rattle.rows.proofs.RowLaws.{rowAt-outside}
 use Rattle.rows.proofs.CutLaws.{cut-child}
-use Rattle.calls.specs.declared.search.Progress.{Progress}
-use Rattle.calls.specs.declared.tour.Reached.{Reached}
+use Rattle.calls.specs.declared.progress.Progress.{Progress}
+use Rattle.calls.specs.declared.reached.Reached.{Reached}
 use Rattle.calls.specs.Link.{parentOf, isTree}
-use Rattle.calls.specs.Search.{pickProgress, onward, unsound, considered, farShut, downCut, tourDown, aboveCut, tourAbove, tourUp, tour, toured}
-use Rattle.calls.specs.Tour.{aboveOf, standing, reachedAt, pickReached, goTo, goUp, refused, visitSides, visitRow, moveTo, moved}
+use Rattle.calls.specs.Tour.{farShut, downCut, tourDown, aboveCut, tourAbove, tourUp, tour, toured}
+use Rattle.calls.specs.Progress.{pickProgress, onward, strayed, considered}
+use Rattle.calls.specs.Reached.{aboveOf, reaching, reachedAt, pickReached, goTo, goUp, refused, visitSides, visitRow, moveTo, moved}
 
 module _ (words : List ℕ) (rows slot : ℕ) (call : Call) (p : Progress) where
   -- what the three ways of going on come to
@@ -30,13 +31,13 @@ module _ (words : List ℕ) (rows slot : ℕ) (call : Call) (p : Progress) where
   unfolding aboveOf
   to-is child = refl
 
-  up-is : (x parent : ℕ) (best : Best) → parentOf (rowAt words rows x) ≡ parent → standing (onward p x 1 best) parent ≡ reachedAt words rows (onward p x 1 best)
+  up-is : (x parent : ℕ) (best : Best) → parentOf (rowAt words rows x) ≡ parent → reaching (onward p x 1 best) parent ≡ reachedAt words rows (onward p x 1 best)
   unfolding aboveOf
   up-is x parent best e = λ i. record { above = sym e i; progress = onward p x 1 best }
 
-  refused-is : (above : ℕ) → above ≡ aboveOf words rows p → refused p above ≡ reachedAt words rows (unsound p)
+  refused-is : (above : ℕ) → above ≡ aboveOf words rows p → refused p above ≡ reachedAt words rows (strayed p)
   unfolding aboveOf
-  refused-is above e = λ i. record { above = e i; progress = unsound p }
+  refused-is above e = λ i. record { above = e i; progress = strayed p }
 
   up-above : eqb (p .phase) 0 ≡ false → aboveOf words rows p ≡ parentOf (rowAt words rows (p .cursor))
   unfolding aboveOf
@@ -68,7 +69,7 @@ module _ (words : List ℕ) (rows slot : ℕ) (call : Call) (p : Progress) where
     sides-up : (far : ℕ) (n s f : Bool)
         → pickReached n (pickReached s (goUp p x parent) (goTo p far)) (pickReached f (goUp p x parent) (refused p above))
         ≡ reachedAt words rows
-        (pickProgress n (pickProgress s (onward p x 1 (p .best)) (onward p far 0 (p .best))) (pickProgress f (onward p x 1 (p .best)) (unsound p)))
+        (pickProgress n (pickProgress s (onward p x 1 (p .best)) (onward p far 0 (p .best))) (pickProgress f (onward p x 1 (p .best)) (strayed p)))
     sides-up far true true f = up-is x parent (p .best) (ap parentOf reads)
     sides-up far true false f = to-is far
     sides-up far false s true = up-is x parent (p .best) (ap parentOf reads)

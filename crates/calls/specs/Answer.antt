@@ -2,9 +2,9 @@
 use Prim.Native.Nat.{ℕ}
 use mathlib.Core.List.{List}
 use Rattle.points.specs.declared.point.Point.{Point}
-use Rattle.points.specs.Word.{NONE}
 use Rattle.stations.specs.declared.answer.Answer.{Answer}
-use Rattle.stations.specs.Station.{answered, stateAt, putState, putPlace, putSince, putMissed}
+use Rattle.stations.specs.Station.{answered, stateAt, putState}
+use Rattle.stations.specs.Track.{nowhere, putTrack}
 use Rattle.stations.specs.Answer.{putAnswer}
 
 -- an answer by its four parts
@@ -13,7 +13,7 @@ answer code point curve square = record { code = code; point = point; curve = cu
 
 -- the call of station s stands nowhere
 unfoldable pub letGo : List ℕ → ℕ → List ℕ
-letGo words s = putMissed (putSince (putPlace words s NONE 0) s NONE) s NONE
+letGo words s = putTrack words s nowhere
 
 -- the answer waits at station s
 unfoldable pub answeredWords : List ℕ → ℕ → Answer → List ℕ

@@ -5,6 +5,7 @@
 use Prim.Native.Nat.{ℕ}
 use mathlib.Core.Bool.{Bool, false, cond}
 use mathlib.Core.List.{List}
+use Rattle.words.specs.Refusal.{notOpened}
 use Rattle.stations.specs.Common.{openedIn, isOpened}
 use Rattle.calls.specs.Tree.{treeIn}
 use Rattle.calls.specs.Queue.{queueIn}
@@ -17,4 +18,4 @@ auditOf words = cond (isOpened (openedIn words)) (allRows words (treeIn words) (
 
 -- question 4, with its number or 0, and whether the audit says yes
 unfoldable pub verdictOf : List ℕ → Verdict
-verdictOf words = record { number = cond (isOpened (openedIn words)) 0 4; sound = auditOf words }
+verdictOf words = record { number = cond (isOpened (openedIn words)) 0 notOpened; sound = auditOf words }

@@ -1,11 +1,10 @@
 -- The records held: "those on the leaves linked from the root".
 use Prim.Native.Nat.{ℕ, zero, suc}
 use mathlib.Core.List.{List, [], _∷_, _++_}
+use Rattle.stations.specs.Counts.{countsAt}
 use Rattle.points.specs.declared.point.Point.{Point}
 use Rattle.rows.specs.declared.row.Row.{Row}
 use Rattle.rows.specs.declared.row.Row.the-variants.{Bad, Spare, Removed, Leaf, Cut}
-use Rattle.words.specs.Layout.{atRoot}
-use Rattle.words.specs.Words.{get}
 use Rattle.rows.specs.Row.{rowAt}
 use Rattle.stations.specs.Common.{rowsIn}
 
@@ -29,4 +28,4 @@ heldBelow words rows (suc n) r = recordsOf (rowAt words rows r) (λ child. heldB
 
 -- the records held; no way down is longer than the rows are many
 unfoldable pub heldIn : List ℕ → List Held
-heldIn words = heldBelow words (rowsIn words) (rowsIn words) (get words atRoot)
+heldIn words = heldBelow words (rowsIn words) (rowsIn words) (countsAt words .root)

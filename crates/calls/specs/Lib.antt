@@ -1,8 +1,11 @@
 pub mod Link
 pub mod Reply
 pub mod Answer
-pub mod Search
+pub mod Progress
+pub mod Look
 pub mod Tour
+pub mod Reached
+pub mod Search
 pub mod Insert
 pub mod Unlink
 pub mod Walk

@@ -6,11 +6,9 @@ use mathlib.Core.List.{List}
 use lib.Dec.{eqb}
 use Rattle.stations.specs.declared.answer.Waiting.{Waiting}
 use Rattle.stations.specs.declared.answer.Waiting.the-variants.{Nothing, Given}
-use Rattle.words.specs.Layout.{atPlaces}
-use Rattle.words.specs.Words.{get}
-use Rattle.stations.specs.Common.{openedIn, isOpened}
+use Rattle.stations.specs.Common.{openedIn, isOpened, placesAt}
 use Rattle.stations.specs.Answer.{waitingAt}
-use Rattle.calls.specs.Reply.{Reply, done, pickReply}
+use Rattle.calls.specs.Reply.{Reply, done}
 use Rattle.calls.specs.Step.{stepOf}
 
 -- an answer waits
@@ -29,7 +27,7 @@ runFor (suc n) words s = elim (goesOn s (stepOf words s)) [ true ↦ runFor n (s
 
 -- the most steps of a run; one where the slice is not opened, which is refused
 unfoldable pub mostSteps : List ℕ → ℕ
-mostSteps words = cond (isOpened (openedIn words)) (16 * get words atPlaces + 64) 1
+mostSteps words = cond (isOpened (openedIn words)) (16 * placesAt words + 64) 1
 
 unfoldable pub runOf : List ℕ → ℕ → Reply
 runOf words s = runFor (mostSteps words) words s

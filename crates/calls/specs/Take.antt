@@ -3,27 +3,28 @@ use Prim.Native.Nat.{ℕ}
 use mathlib.Core.Bool.{Bool, true, false, cond}
 use mathlib.Core.List.{List}
 use lib.Dec.{ltb}
-use Rattle.stations.specs.declared.answer.Answer.{Answer}
+use Rattle.words.specs.Layout.{stations}
+use Rattle.words.specs.Refusal.{nothingWaits, noStation, notOpened}
 use Rattle.stations.specs.declared.answer.Waiting.{Waiting}
 use Rattle.stations.specs.declared.answer.Waiting.the-variants.{Nothing, Given}
 use Rattle.stations.specs.Common.{openedIn, isOpened}
-use Rattle.stations.specs.Station.{taken, stateAt, putState}
+use Rattle.stations.specs.Station.{emptied, stateAt, putState}
 use Rattle.stations.specs.Answer.{waitingAt}
 use Rattle.calls.specs.declared.take.Taking.{Taking}
 use Rattle.calls.specs.declared.take.Taking.the-variants.{Refused as Refusal, Given as Taken}
 
 -- what a taking by a station with this waiting gives
 abbrev pub takingOf : Waiting → Taking
-takingOf Nothing = Refusal 12
+takingOf Nothing = Refusal nothingWaits
 takingOf (Given a) = Taken a
 
 -- question 5, then 12
 abbrev pub stationTaking : List ℕ → ℕ → Taking
-stationTaking words s = cond (ltb s 8) (takingOf (waitingAt words s)) (Refusal 5)
+stationTaking words s = cond (ltb s stations) (takingOf (waitingAt words s)) (Refusal noStation)
 
 -- the first question that fails, or the answer
 unfoldable pub takeOf : List ℕ → ℕ → Taking
-takeOf words s = cond (isOpened (openedIn words)) (stationTaking words s) (Refusal 4)
+takeOf words s = cond (isOpened (openedIn words)) (stationTaking words s) (Refusal notOpened)
 
 -- document 01's number of a taking
 abbrev pub numberOf : Taking → ℕ
@@ -31,9 +32,9 @@ numberOf (Refusal number) = number
 numberOf (Taken a) = 0
 
 -- "Taking leaves the station idle"; a refusal leaves every word
-abbrev pub takenWords : List ℕ → ℕ → Taking → List ℕ
-takenWords words s (Refusal number) = words
-takenWords words s (Taken a) = putState words s (taken (stateAt words s))
+abbrev pub emptiedWords : List ℕ → ℕ → Taking → List ℕ
+emptiedWords words s (Refusal number) = words
+emptiedWords words s (Taken a) = putState words s (emptied (stateAt words s))
 
 unfoldable pub takeWords : List ℕ → ℕ → List ℕ
-takeWords words s = takenWords words s (takeOf words s)
+takeWords words s = emptiedWords words s (takeOf words s)

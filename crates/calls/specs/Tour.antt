@@ -1,96 +1,80 @@
--- How a step goes from row to row with one reading for each: it keeps the parent link of the row where it stands on its way up. The moves are those of
--- `tour` (`moved-is` of `proofs/TourLaws`).
-use Prim.Native.Nat.{ℕ}
-use mathlib.Core.Bool.{Bool, true, false, cond, not, _&&_, _||_}
+-- The moves of a search through the tree: down to the near child of a cut, over to the far one, and up again.
+use Prim.Native.Nat.{ℕ, zero, suc}
+use mathlib.Core.Bool.{Bool, true, cond, not}
 use mathlib.Core.List.{List}
 use lib.Dec.{eqb}
 use Rattle.points.specs.declared.point.Point.{Point}
 use Rattle.points.specs.declared.cut.Cut.{Cut as PointCut}
+use Rattle.points.specs.Square.{squareOf}
 use Rattle.points.specs.Cut.{goesLeft}
+use Rattle.points.specs.Choice.{excluded, noSquare}
 use Rattle.points.specs.Word.{NONE}
 use Rattle.rows.specs.declared.row.Row.{Row}
 use Rattle.rows.specs.declared.row.Row.the-variants.{Bad, Spare, Removed, Leaf, Cut}
+use Rattle.stations.specs.declared.call.Best.{Best}
 use Rattle.stations.specs.declared.call.Call.{Call}
 use Rattle.rows.specs.Row.{rowAt}
-use Rattle.rows.specs.Tree.{treeRow, childAt}
 use Rattle.rows.specs.Grades.{admits}
-use Rattle.calls.specs.declared.search.Progress.{Progress}
-use Rattle.calls.specs.declared.tour.Reached.{Reached}
+use Rattle.calls.specs.declared.progress.Progress.{Progress}
 use Rattle.calls.specs.Link.{parentOf, isTree}
-use Rattle.calls.specs.Search.{onward, unsound, considered, farShut}
+use Rattle.calls.specs.Progress.{pickProgress, considered, onward, strayed}
 
--- the parent link of the row where a search stands on its way up; none on its way down
-unfoldable pub aboveOf : List ℕ → ℕ → Progress → ℕ
-aboveOf words rows p = cond (eqb (p .phase) 0) NONE (parentOf (rowAt words rows (p .cursor)))
+-- the best square; while there is no best, that which only a cut on axis 1 excludes
+abbrev pub bestSquare : Point → Best → ℕ
+bestSquare target best = cond (eqb (best .curve) 0) noSquare (squareOf target (best .point))
 
--- a progress with a link, and with that one
-abbrev pub standing : Progress → ℕ → Reached
-standing p above = record { above = above; progress = p }
+-- the far side of the cut in row x is shut: the target's slot is not among its grades, or it is excluded
+abbrev pub farShut : List ℕ → ℕ → Call → Best → ℕ → PointCut → Bool → Bool
+farShut words slot call best x cut goes = cond (admits words x (not goes) slot) (excluded cut (call .point) (bestSquare (call .point) best)) true
 
-abbrev pub reachedAt : List ℕ → ℕ → Progress → Reached
-reachedAt words rows p = standing p (aboveOf words rows p)
+-- phase down, at a cut: to the near child where its side admits the target's slot, else to the far one unless that is shut, else the way leads up
+abbrev pub downCut : List ℕ → ℕ → Call → Progress → PointCut → ℕ → ℕ → Bool → Progress
+downCut words slot call p cut left right goes =
+    pickProgress (admits words (p .cursor) goes slot) (onward p (cond goes left right) 0 (p .best))
+    (pickProgress (farShut words slot call (p .best) (p .cursor) cut goes) (onward p (p .cursor) 1 (p .best)) (onward p (cond goes right left) 0 (p .best)))
 
--- one of two
-abbrev pub pickReached : Bool → Reached → Reached → Reached
-pickReached true x y = x
-pickReached false x y = y
+-- phase down; at a leaf consider it
+abbrev pub tourDown : List ℕ → ℕ → Call → Progress → Row → Progress
+tourDown words slot call p Bad = strayed p
+tourDown words slot call p (Spare next freed) = strayed p
+tourDown words slot call p (Removed next freed added point curve) = strayed p
+tourDown words slot call p (Leaf parent added point curve) = onward p (p .cursor) 1 (considered call (p .best) added point curve)
+tourDown words slot call p (Cut parent cut left right) = downCut words slot call p cut left right (goesLeft cut (call .point))
 
--- down to a child, up from a row of that parent, and no further
-abbrev pub goTo : Progress → ℕ → Reached
-goTo p child = standing (onward p child 0 (p .best)) NONE
+-- up at the cut above, from the near child: over to the far one unless that side is shut
+abbrev pub fromNear : Progress → ℕ → ℕ → Bool → Progress
+fromNear p above far shut = pickProgress shut (onward p above 1 (p .best)) (onward p far 0 (p .best))
 
-abbrev pub goUp : Progress → ℕ → ℕ → Reached
-goUp p x parent = standing (onward p x 1 (p .best)) parent
+-- up at the cut above, of which the row is one child
+abbrev pub fromChild : Progress → ℕ → ℕ → ℕ → Bool → Progress
+fromChild p above near far shut =
+    pickProgress (eqb near (p .cursor)) (fromNear p above far shut) (pickProgress (eqb far (p .cursor)) (onward p above 1 (p .best)) (strayed p))
 
-abbrev pub refused : Progress → ℕ → Reached
-refused p above = standing (unsound p) above
+-- the same, with the sides of the cut told apart
+abbrev pub aboveCut : List ℕ → ℕ → Call → Progress → ℕ → PointCut → ℕ → ℕ → Bool → Progress
+aboveCut words slot call p above cut left right goes = fromChild p above (cond goes left right) (cond goes right left) (farShut words slot call (p .best) above cut goes)
 
--- past the near side of the cut in row x: to its far child, or up where that side is shut
-abbrev pub pastNear : List ℕ → ℕ → Call → Progress → ℕ → ℕ → ℕ → PointCut → Bool → Reached
-pastNear words slot call p x parent far cut goes = pickReached (farShut words slot call (p .best) x cut goes) (goUp p x parent) (goTo p far)
+abbrev pub tourAbove : List ℕ → ℕ → Call → Progress → ℕ → Row → Progress
+tourAbove words slot call p above Bad = strayed p
+tourAbove words slot call p above (Spare next freed) = strayed p
+tourAbove words slot call p above (Removed next freed added point curve) = strayed p
+tourAbove words slot call p above (Leaf parent added point curve) = strayed p
+tourAbove words slot call p above (Cut parent cut left right) = aboveCut words slot call p above cut left right (goesLeft cut (call .point))
 
--- past its far side: further up
-abbrev pub pastFar : Progress → ℕ → ℕ → ℕ → ℕ → Reached
-pastFar p above x parent far = pickReached (eqb far (p .cursor)) (goUp p x parent) (refused p above)
+-- phase up: with no parent the tour is over
+abbrev pub tourUp : List ℕ → ℕ → ℕ → Call → Progress → Row → Progress
+tourUp words rows slot call p row =
+    pickProgress (isTree row)
+    (pickProgress (eqb (parentOf row) NONE) (onward p NONE 1 (p .best)) (tourAbove words slot call p (parentOf row) (rowAt words rows (parentOf row))))
+    (strayed p)
 
--- past a side of it: the near one on the way down, else that where the search comes from
-abbrev pub pastSide : List ℕ → ℕ → Call → Progress → ℕ → ℕ → ℕ → ℕ → ℕ → PointCut → Bool → Reached
-pastSide words slot call p above x parent near far cut goes =
-    pickReached (eqb (p .phase) 0 || eqb near (p .cursor)) (pastNear words slot call p x parent far cut goes) (pastFar p above x parent far)
+-- one move, with the slot of the target
+unfoldable pub tour : List ℕ → ℕ → ℕ → Call → Progress → Progress
+tour words rows slot call p =
+    pickProgress (eqb (p .cursor) NONE) p
+    (pickProgress (eqb (p .phase) 0) (tourDown words slot call p (rowAt words rows (p .cursor))) (tourUp words rows slot call p (rowAt words rows (p .cursor))))
 
--- at the cut in row x: down to its near child where its side admits the slot, else past a side
-abbrev pub visitSides : List ℕ → ℕ → Call → Progress → ℕ → ℕ → ℕ → PointCut → Bool → Reached
-visitSides words slot call p above x parent cut goes =
-    pickReached (eqb (p .phase) 0 && admits words x goes slot) (goTo p (childAt words x goes))
-    (pastSide words slot call p above x parent (childAt words x goes) (childAt words x (not goes)) cut goes)
-
-abbrev pub visitCut : List ℕ → ℕ → Call → Progress → ℕ → ℕ → ℕ → PointCut → Reached
-visitCut words slot call p above x parent cut = visitSides words slot call p above x parent cut (goesLeft cut (call .point))
-
--- at a leaf, which no way up leads to: it is considered, and the way leads up
-abbrev pub visitLeaf : Call → Progress → ℕ → ℕ → ℕ → Point → ℕ → Reached
-visitLeaf call p above parent added point curve =
-    pickReached (eqb (p .phase) 0) (standing (onward p (p .cursor) 1 (considered call (p .best) added point curve)) parent) (refused p above)
-
--- at the row x
-abbrev pub visitRow : List ℕ → ℕ → Call → Progress → ℕ → ℕ → Row → Reached
-visitRow words slot call p above x Bad = refused p above
-visitRow words slot call p above x (Spare next freed) = refused p above
-visitRow words slot call p above x (Removed next freed added point curve) = refused p above
-visitRow words slot call p above x (Leaf parent added point curve) = visitLeaf call p above parent added point curve
-visitRow words slot call p above x (Cut parent cut left right) = visitCut words slot call p above x parent cut
-
--- up from a row with no parent: the tour is over, if that row is one of the tree
-abbrev pub atTop : List ℕ → ℕ → Progress → Reached
-atTop words rows p = pickReached (isTree (rowAt words rows (p .cursor))) (goUp p NONE NONE) (refused p NONE)
-
--- one move, by the row x
-abbrev pub moveTo : List ℕ → ℕ → ℕ → Call → Reached → ℕ → Reached
-moveTo words rows slot call reached x =
-    pickReached (eqb x NONE) (atTop words rows (reached .progress)) (visitRow words slot call (reached .progress) (reached .above) x (treeRow (rowAt words rows x)))
-
--- one move: by the row where the search stands, or by the one above it
-unfoldable pub moved : List ℕ → ℕ → ℕ → Call → Reached → Reached
-moved words rows slot call reached =
-    pickReached (eqb (reached .progress .cursor) NONE) reached
-    (moveTo words rows slot call reached (cond (eqb (reached .progress .phase) 0) (reached .progress .cursor) (reached .above)))
+-- so many moves
+unfoldable pub toured : List ℕ → ℕ → ℕ → Call → ℕ → Progress → Progress
+toured words rows slot call zero p = p
+toured words rows slot call (suc n) p = tour words rows slot call (toured words rows slot call n p)

@@ -4,11 +4,10 @@ use Prim.Native.Nat.{ℕ, zero, suc}
 use mathlib.Core.Bool.{Bool, true, false, _&&_, _||_, not}
 use mathlib.Core.List.{List}
 use lib.Dec.{eqb}
+use Rattle.stations.specs.Counts.{countsAt}
 use Rattle.points.specs.Word.{NONE}
 use Rattle.rows.specs.declared.row.Row.{Row}
 use Rattle.rows.specs.declared.row.Row.the-variants.{Bad, Spare, Removed, Leaf, Cut}
-use Rattle.words.specs.Layout.{atRoot}
-use Rattle.words.specs.Words.{get}
 use Rattle.rows.specs.Row.{rowAt}
 use Rattle.stations.specs.Common.{rowsIn}
 use Rattle.calls.specs.declared.tree.Count.{Count}
@@ -76,4 +75,4 @@ treeOf c sound = record { leaves = c .leaves; sound = c .sound && sound }
 -- the tree that the root links to
 unfoldable pub treeIn : List ℕ → Count
 treeIn words =
-    treeOf (scan words (rowsIn words) (get words atRoot) (rowsIn words)) (rootSound (get words atRoot) (rowAt words (rowsIn words) (get words atRoot)))
+    treeOf (scan words (rowsIn words) (countsAt words .root) (rowsIn words)) (rootSound (countsAt words .root) (rowAt words (rowsIn words) (countsAt words .root)))

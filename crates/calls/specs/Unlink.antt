@@ -3,14 +3,20 @@ use Prim.Native.Nat.{ℕ, zero, suc, _-_}
 use mathlib.Core.Bool.{Bool, cond, _&&_, _||_, not}
 use mathlib.Core.List.{List}
 use lib.Dec.{eqb, leb}
+use Rattle.stations.specs.Answer.{codeRemoved}
+use Rattle.words.specs.Refusal.{unsound}
+use Rattle.stations.specs.Track.{trackAt, putTrack}
+use Rattle.stations.specs.declared.counts.Counts.{Counts}
+use Rattle.stations.specs.declared.track.Track.{Track}
+use Rattle.stations.specs.Counts.{countsAt, putCounts}
 use Rattle.points.specs.declared.point.Point.{Point}
 use Rattle.points.specs.Cut.{goesLeft}
 use Rattle.points.specs.Word.{NONE}
 use Rattle.rows.specs.declared.row.Row.{Row}
 use Rattle.rows.specs.declared.row.Row.the-variants.{Bad, Spare, Removed, Leaf, Cut}
 use Rattle.stations.specs.declared.call.Call.{Call}
-use Rattle.words.specs.Layout.{atChanges, atHeld, atRoot, atTail, atRemovals, atCursor, atPhase, atSince, atMissed}
-use Rattle.words.specs.Words.{get, put, more}
+use Rattle.words.specs.Layout.{stations}
+use Rattle.words.specs.Words.{more}
 use Rattle.rows.specs.Row.{rowAt, putRow}
 use Rattle.stations.specs.Target.{targetAt}
 use Rattle.calls.specs.declared.unlink.Around.{Around}
@@ -22,8 +28,8 @@ use Rattle.calls.specs.Answer.{answer, answeredWords}
 
 abbrev pub aroundWith : List ℕ → ℕ → ℕ → Row → Row → Around
 aroundWith words rows at leaf cut = record {
-  tail = get words atTail;
-  last = rowAt words rows (get words atTail);
+  tail = countsAt words .tail;
+  last = rowAt words rows (countsAt words .tail);
   at = at;
   leaf = leaf;
   over = parentOf leaf;
@@ -69,16 +75,19 @@ unlinkTail a = cond (eqb (a .over) NONE) (a .at) (a .over)
 unfoldable pub unlinkRoot : Around → ℕ → ℕ
 unlinkRoot a root = cond (eqb (a .above) NONE) (a .side) root
 
--- a removal is counted
+-- a removal is counted, the tree begins and the queue ends at other rows
+unfoldable pub countUnlinked : Around → Counts → Counts
+countUnlinked a counts = record {
+  changes = more (counts .changes);
+  held = counts .held - 1;
+  root = unlinkRoot a (counts .root);
+  head = counts .head;
+  tail = unlinkTail a;
+  removals = more (counts .removals);
+}
+
 unfoldable pub unlinkCounts : List ℕ → Around → List ℕ
-unlinkCounts words a =
-    put
-    (put
-    (put (put (put words atChanges (more (get words atChanges))) atHeld (get words atHeld - 1)) atRoot (unlinkRoot a (get words atRoot)))
-    atTail
-    (unlinkTail a))
-    atRemovals
-    (more (get words atRemovals))
+unlinkCounts words a = putCounts words (countUnlinked a (countsAt words))
 
 -- the phase in which a search that stood at the leaf goes on at the other child of the cut: down where the leaf was the near child for its target, since
 -- the other is still to be seen; up where it was the far one, since the near one comes first. Down where the leaf had no cut over it.
@@ -91,26 +100,30 @@ landing target at (Cut parent cut left right) = cond (eqb (cond (goesLeft cut ta
 
 -- Every cursor on the leaf moves to the other child, in the phase of `landing`; every cursor on the cut over it moves there too, and its phase stays;
 -- every unfinished nearest whose missed is none gets the leaf for it. Nothing reads the phase of a walk.
-unfoldable pub cursorAfter : List ℕ → ℕ → Around → ℕ
-cursorAfter words s a =
-    cond (eqb (get words (atCursor s)) (a .at) || eqb (get words (atCursor s)) (a .over)) (a .side) (get words (atCursor s))
+unfoldable pub cursorAfter : Around → ℕ → ℕ
+cursorAfter a cursor = cond (eqb cursor (a .at) || eqb cursor (a .over)) (a .side) cursor
 
-unfoldable pub phaseAfter : List ℕ → ℕ → Around → ℕ
-phaseAfter words s a = cond (eqb (get words (atCursor s)) (a .at)) (landing (targetAt words s) (a .at) (a .cut)) (get words (atPhase s))
+unfoldable pub phaseAfter : Around → Point → ℕ → ℕ → ℕ
+phaseAfter a target cursor phase = cond (eqb cursor (a .at)) (landing target (a .at) (a .cut)) phase
 
-unfoldable pub missedAfter : List ℕ → ℕ → Around → ℕ
-missedAfter words s a =
-    cond (not (eqb (get words (atSince s)) NONE) && eqb (get words (atMissed s)) NONE) (a .at) (get words (atMissed s))
+unfoldable pub missedAfter : Around → ℕ → ℕ → ℕ
+missedAfter a since missed = cond (not (eqb since NONE) && eqb missed NONE) (a .at) missed
+
+-- the track of a station whose last search had this target
+unfoldable pub trackAfter : Around → Point → Track → Track
+trackAfter a target track = record {
+  cursor = cursorAfter a (track .cursor);
+  phase = phaseAfter a target (track .cursor) (track .phase);
+  since = track .since;
+  missed = missedAfter a (track .since) (track .missed);
+}
 
 unfoldable pub stationMoved : List ℕ → ℕ → Around → List ℕ
-stationMoved words s a =
-    put (put (put words (atCursor s) (cursorAfter words s a)) (atPhase s) (phaseAfter words s a)) (atMissed s) (missedAfter words s a)
+stationMoved words s a = putTrack words s (trackAfter a (targetAt words s) (trackAt words s))
 
--- the call of station s stands at neither row, and does not begin to miss rows: all three words stay (`station-stays`)
-unfoldable pub stays : List ℕ → ℕ → Around → Bool
-stays words s a =
-    not (eqb (get words (atCursor s)) (a .at) || eqb (get words (atCursor s)) (a .over))
-    && (eqb (get words (atSince s)) NONE || not (eqb (get words (atMissed s)) NONE))
+-- a call stands at neither row, and does not begin to miss rows: its track stays (`track-stays`)
+unfoldable pub stays : Around → Track → Bool
+stays a track = not (eqb (track .cursor) (a .at) || eqb (track .cursor) (a .over)) && (eqb (track .since) NONE || not (eqb (track .missed) NONE))
 
 -- the first n stations
 unfoldable pub stationsMoved : Around → ℕ → List ℕ → List ℕ
@@ -118,14 +131,14 @@ stationsMoved a zero words = words
 stationsMoved a (suc n) words = stationMoved (stationsMoved a n words) n a
 
 unfoldable pub unlinkWords : List ℕ → Around → List ℕ
-unlinkWords words a = unlinkRows (stationsMoved a 8 (unlinkCounts words a)) a (more (get words atRemovals))
+unlinkWords words a = unlinkRows (stationsMoved a stations (unlinkCounts words a)) a (more (countsAt words .removals))
 
 -- ---- the unlink
 
 abbrev pub unlinkTo : List ℕ → ℕ → Call → Around → Reply
 unlinkTo words s call a =
-    ask (aroundSound a && leb 1 (get words atHeld)) 11 words
-    (done (answeredWords (unlinkWords words a) s (answer 5 (call .point) (leafCurve (a .leaf)) 0)))
+    ask (aroundSound a && leb 1 (countsAt words .held)) unsound words
+    (done (answeredWords (unlinkWords words a) s (answer codeRemoved (call .point) (leafCurve (a .leaf)) 0)))
 
 unfoldable pub unlinkOf : List ℕ → ℕ → ℕ → Call → ℕ → Reply
 unlinkOf words rows s call at = unlinkTo words s call (aroundAt words rows at)

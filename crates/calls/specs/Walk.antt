@@ -3,6 +3,11 @@ use Prim.Native.Nat.{ℕ}
 use mathlib.Core.Bool.{Bool, true, false, cond, _||_}
 use mathlib.Core.List.{List}
 use lib.Dec.{eqb, leb}
+use Rattle.stations.specs.Answer.{codeAdded, codeHeld, codeFull, codeSpent, codeRemoved, codeMissing, codeContained}
+use Rattle.stations.specs.Call.{addKind, removeKind}
+use Rattle.words.specs.Refusal.{unsound}
+use Rattle.stations.specs.Track.{trackAt, putTrack, standing}
+use Rattle.stations.specs.Counts.{countsAt}
 use Rattle.points.specs.declared.point.Point.{Point}
 use Rattle.points.specs.Cut.{goesLeft}
 use Rattle.points.specs.Word.{NONE}
@@ -10,12 +15,9 @@ use Rattle.rows.specs.declared.row.Row.{Row}
 use Rattle.rows.specs.declared.row.Row.the-variants.{Bad, Spare, Removed, Leaf, Cut}
 use Rattle.stations.specs.declared.call.Call.{Call}
 use Rattle.stations.specs.declared.answer.Answer.{Answer}
-use Rattle.words.specs.Layout.{atPlaces, atLimit, atChanges, atRoot, atCursor}
-use Rattle.words.specs.Words.{get}
 use Rattle.rows.specs.Row.{rowAt}
 use Rattle.rows.specs.Grades.{slotOf, markToward}
-use Rattle.stations.specs.Common.{takenIn}
-use Rattle.stations.specs.Station.{putPlace}
+use Rattle.stations.specs.Common.{takenIn, placesAt, limitAt}
 use Rattle.calls.specs.declared.walk.Way.{Way}
 use Rattle.calls.specs.Link.{isLeaf, isCut, holdsPoint, leafCurve}
 use Rattle.calls.specs.Reply.{Reply, done, pickReply, ask, refused}
@@ -63,10 +65,14 @@ markedWay words way k =
 
 -- an add marks its way; no other call marks
 unfoldable pub passedWords : List ℕ → Call → Way → List ℕ
-passedWords words call way = cond (eqb (call .kind) 1) (markedWay words way (slotOf (call .point))) words
+passedWords words call way = cond (eqb (call .kind) addKind) (markedWay words way (slotOf (call .point))) words
+
+-- the call of station s stands at a row, and goes down
+unfoldable pub walkedWords : List ℕ → ℕ → ℕ → List ℕ
+walkedWords words s to = putTrack words s (standing to 0 (trackAt words s))
 
 abbrev pub walkTo : List ℕ → ℕ → Call → Way → Reply
-walkTo words s call way = pickReply (eqb (way .to) NONE) (refused 11 words) (done (putPlace (passedWords words call way) s (way .to) 0))
+walkTo words s call way = pickReply (eqb (way .to) NONE) (refused unsound words) (done (walkedWords (passedWords words call way) s (way .to)))
 
 -- ---- the decision
 
@@ -74,21 +80,22 @@ walkTo words s call way = pickReply (eqb (way .to) NONE) (refused 11 words) (don
 -- Contains: 7 or 6."
 unfoldable pub codeOf : ℕ → Bool → Bool → Bool → ℕ
 codeOf kind held spent full =
-    cond (eqb kind 1) (cond held 2 (cond spent 4 (cond full 3 1))) (cond (eqb kind 2) (cond held (cond spent 4 5) 6) (cond held 7 6))
+    cond (eqb kind addKind) (cond held codeHeld (cond spent codeSpent (cond full codeFull codeAdded)))
+    (cond (eqb kind removeKind) (cond held (cond spent codeSpent codeRemoved) codeMissing) (cond held codeContained codeMissing))
 
 -- the code of a call that ends its walk at this row
 unfoldable pub codeAt : List ℕ → Call → Row → ℕ
 codeAt words call row =
-    codeOf (call .kind) (holdsPoint (call .point) row) (eqb (get words atChanges) (get words atLimit)) (leb (get words atPlaces) (takenIn words))
+    codeOf (call .kind) (holdsPoint (call .point) row) (eqb (countsAt words .changes) (limitAt words)) (leb (placesAt words) (takenIn words))
 
 -- the answer of a code that is no change: with the held curve in 2 and 7
 unfoldable pub plainAnswer : Call → ℕ → Row → Answer
-plainAnswer call code row = answer code (call .point) (cond (eqb code 2 || eqb code 7) (leafCurve row) 0) 0
+plainAnswer call code row = answer code (call .point) (cond (eqb code codeHeld || eqb code codeContained) (leafCurve row) 0) 0
 
 abbrev pub concludeAs : List ℕ → ℕ → ℕ → Call → ℕ → Row → ℕ → Reply
 concludeAs words rows s call at row code =
-    pickReply (eqb code 1) (insertOf words rows s call at)
-    (pickReply (eqb code 5) (unlinkOf words rows s call at) (done (answeredWords words s (plainAnswer call code row))))
+    pickReply (eqb code codeAdded) (insertOf words rows s call at)
+    (pickReply (eqb code codeRemoved) (unlinkOf words rows s call at) (done (answeredWords words s (plainAnswer call code row))))
 
 unfoldable pub conclude : List ℕ → ℕ → ℕ → Call → ℕ → Row → Reply
 conclude words rows s call at row = concludeAs words rows s call at row (codeAt words call row)
@@ -97,12 +104,12 @@ conclude words rows s call at row = concludeAs words rows s call at row (codeAt 
 
 -- the cursor; none means the root link
 unfoldable pub standsAt : List ℕ → ℕ → ℕ
-standsAt words s = cond (eqb (get words (atCursor s)) NONE) (get words atRoot) (get words (atCursor s))
+standsAt words s = cond (eqb (trackAt words s .cursor) NONE) (countsAt words .root) (trackAt words s .cursor)
 
 abbrev pub walkFrom : List ℕ → ℕ → ℕ → Call → ℕ → Row → Reply
 walkFrom words rows s call at row =
     pickReply (isCut row) (walkTo words s call (wayOf words rows (call .point) at))
-    (ask (eqb at NONE || isLeaf row) 11 words (conclude words rows s call at row))
+    (ask (eqb at NONE || isLeaf row) unsound words (conclude words rows s call at row))
 
 unfoldable pub walkOf : List ℕ → ℕ → ℕ → Call → Reply
 walkOf words rows s call = walkFrom words rows s call (standsAt words s) (rowAt words rows (standsAt words s))

@@ -2,6 +2,7 @@
 -- keeps nobody in. No unfinished call has taken effect: an add or a remove is answered by the step that changes the held records.
 use Prim.Native.Nat.{ℕ}
 use mathlib.Core.List.{List}
+use Rattle.stations.specs.Answer.{codeWithdrawn}
 use Rattle.stations.specs.declared.call.Call.{Call}
 use Rattle.stations.specs.declared.answer.Answer.{Answer}
 use Rattle.stations.specs.Call.{callAt}
@@ -11,7 +12,7 @@ use Rattle.calls.specs.Step.{askUnfinished}
 
 -- "11, withdrawn, with its point, curve 0 and square 0"
 abbrev pub withdrawnAnswer : Call → Answer
-withdrawnAnswer call = answer 11 (call .point) 0 0
+withdrawnAnswer call = answer codeWithdrawn (call .point) 0 0
 
 -- that answer waits at station s, whose call stands nowhere in the tree any more and holds no place back
 abbrev pub withdrawnWords : List ℕ → ℕ → Call → List ℕ

@@ -2,13 +2,13 @@
 use rows::row::Row;
 
 // The first two free rows, the leaf where the walk ended, and the row above it, each with its number.
-pub struct Room {
+pub struct Site {
     pub first: u32,
-    pub fresh: Row,
+    pub front: Row,
     pub second: u32,
-    pub spare: Row,
+    pub behind: Row,
     pub at: u32,
     pub leaf: Row,
     pub over: u32,
-    pub above: Row,
+    pub cut: Row,
 }

@@ -2,11 +2,11 @@
 pub mod audit;
 pub mod climb;
 pub mod insert;
+pub mod progress;
 pub mod queue;
+pub mod reached;
 pub mod report;
-pub mod search;
 pub mod take;
-pub mod tour;
 pub mod tree;
 pub mod unlink;
 pub mod walk;

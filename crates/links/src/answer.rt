@@ -2,11 +2,9 @@
 use stations::answer::Answer;
 use stations::answer::write_answer;
 use stations::station::read_state;
-use stations::station::write_missed;
-use stations::station::write_place;
-use stations::station::write_since;
 use stations::station::write_state;
-use words::layout::NONE;
+use stations::track::nowhere;
+use stations::track::write_track;
 ghost use mathlib.Core.Path.{_≡_};
 ghost use Rattle.calls.specs.Answer.{letGo, answeredWords};
 
@@ -14,9 +12,7 @@ ghost use Rattle.calls.specs.Answer.{letGo, answeredWords};
 fn let_go(words: &mut [u32], s: u32)
     ensures { λ _. ⌜ now (words .exit) ≡ letGo (now (words .entry)) s ⌝ }
 {
-    write_place(words, s, NONE, 0);
-    write_since(words, s, NONE);
-    write_missed(words, s, NONE);
+    write_track(words, s, nowhere());
 }
 
 // The answer waits at station s.

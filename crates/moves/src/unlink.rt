@@ -20,40 +20,38 @@ use rows::row::Row;
 use rows::row::read_row;
 use rows::row::write_row;
 use stations::answer::Answer;
+use stations::answer::CODE_REMOVED;
 use stations::call::Call;
+use stations::counts::Counts;
+use stations::counts::read_counts;
+use stations::counts::write_counts;
 use stations::target::read_target;
-use words::layout::AT_CHANGES;
-use words::layout::AT_HELD;
-use words::layout::AT_REMOVALS;
-use words::layout::AT_ROOT;
-use words::layout::AT_TAIL;
+use stations::track::Track;
+use stations::track::read_track;
+use stations::track::write_track;
 use words::layout::NONE;
-use words::layout::at_cursor;
-use words::layout::at_missed;
-use words::layout::at_phase;
-use words::layout::at_since;
-use words::word::get;
+use words::layout::STATIONS;
+use words::refusal::UNSOUND;
 use words::word::more;
 use words::word::pick;
-use words::word::put;
 ghost use mathlib.Core.Path.{_≡_};
 ghost use Prim.Native.Nat.{_-_};
 ghost use mathlib.Core.Bool.{cond};
 ghost use lib.Dec.{eqb};
 ghost use Rattle.points.specs.Cut.{goesLeft};
+ghost use Rattle.words.specs.Layout.{stations};
+ghost use Rattle.stations.specs.Target.{targetAt};
+ghost use Rattle.stations.specs.Track.{putTrack};
 ghost use Rattle.calls.specs.Reply.{replied};
-ghost use Rattle.calls.specs.Unlink.{aroundAt, aroundSound, unlinkRows, unlinkTail, unlinkRoot, unlinkCounts, unlinkWords, unlinkOf};
-ghost use Rattle.calls.specs.Unlink.{landing, cursorAfter, phaseAfter, missedAfter, stationMoved, stays, stationsMoved};
-
-// The number of a refusal: the rows around the leaf, or the count of records, are not sound.
-const UNSOUND: u32 = 11;
+ghost use Rattle.calls.specs.Unlink.{aroundAt, aroundSound, unlinkRows, unlinkTail, unlinkRoot, countUnlinked, unlinkCounts, unlinkWords, unlinkOf};
+ghost use Rattle.calls.specs.Unlink.{landing, cursorAfter, phaseAfter, missedAfter, trackAfter, stationMoved, stays, stationsMoved};
 
 // Reads the rows around the leaf at a row. A leaf that is the root has no cut over it, and a cut that is the root no row above it: their
 // numbers are `NONE`, and no row is read there.
 fn gather(words: &[u32], rows: u32, at: u32) -> Around
     ensures { λ r. ⌜ r ≡ aroundAt (now (words .entry)) rows at ⌝ }
 {
-    let tail = get(words, AT_TAIL);
+    let tail = read_counts(words).tail;
     let last = read_row(words, rows, tail);
     let leaf = read_row(words, rows, at);
     let over = parent_of(leaf);
@@ -137,26 +135,32 @@ fn fewer(x: u32) -> u32
     if 1 <= x { x - 1 } else { 0 }
 }
 
-// A removal is counted.
+// A removal is counted, the tree begins and the queue ends at other rows.
+fn counted(a: Around, counts: Counts) -> Counts
+    ensures { λ r. ⌜ r ≡ countUnlinked a counts ⌝ }
+{
+    Counts {
+        changes: more(counts.changes),
+        held: fewer(counts.held),
+        root: root_after(a, counts.root),
+        head: counts.head,
+        tail: tail_after(a),
+        removals: more(counts.removals),
+    }
+}
+
+// Writes the counts afterwards.
 fn count(words: &mut [u32], a: Around)
     ensures { λ _. ⌜ now (words .exit) ≡ unlinkCounts (now (words .entry)) a ⌝ }
 {
-    let changes = more(get(words, AT_CHANGES));
-    let held = fewer(get(words, AT_HELD));
-    let root = root_after(a, get(words, AT_ROOT));
-    let removals = more(get(words, AT_REMOVALS));
-    put(words, AT_CHANGES, changes);
-    put(words, AT_HELD, held);
-    put(words, AT_ROOT, root);
-    put(words, AT_TAIL, tail_after(a));
-    put(words, AT_REMOVALS, removals);
+    let counts = read_counts(words);
+    write_counts(words, counted(a, counts));
 }
 
-// Where the call of station s stands afterwards: at the other child, where it stood at the leaf or at the cut over it.
-fn cursor_after(words: &[u32], s: u32, a: Around) -> u32
-    ensures { λ r. ⌜ r ≡ cursorAfter (now (words .entry)) s a ⌝ }
+// Where a call stands afterwards: at the other child, where it stood at the leaf or at the cut over it.
+fn cursor_after(a: Around, cursor: u32) -> u32
+    ensures { λ r. ⌜ r ≡ cursorAfter a cursor ⌝ }
 {
-    let cursor = get(words, at_cursor(s));
     pick((cursor == a.at) | (cursor == a.over), a.side, cursor)
 }
 
@@ -186,64 +190,69 @@ fn landing(target: Point, at: u32, row: Row) -> u32
     }
 }
 
-// The phase of its search afterwards. Its target is read only where it stood at the leaf.
-fn phase_after(words: &[u32], s: u32, a: Around) -> u32
-    ensures { λ r. ⌜ r ≡ phaseAfter (now (words .entry)) s a ⌝ }
+// The phase of its search afterwards. Its target decides only where it stood at the leaf.
+fn phase_after(a: Around, target: Point, cursor: u32, phase: u32) -> u32
+    ensures { λ r. ⌜ r ≡ phaseAfter a target cursor phase ⌝ }
 {
-    if get(words, at_cursor(s)) == a.at {
+    if cursor == a.at {
         let cut = a.cut;
-        landing(read_target(words, s), a.at, cut)
+        landing(target, a.at, cut)
     } else {
-        get(words, at_phase(s))
+        phase
     }
 }
 
 // The first row that its search has missed afterwards: the leaf, for an unfinished nearest that had missed none.
-fn missed_after(words: &[u32], s: u32, a: Around) -> u32
-    ensures { λ r. ⌜ r ≡ missedAfter (now (words .entry)) s a ⌝ }
+fn missed_after(a: Around, since: u32, missed: u32) -> u32
+    ensures { λ r. ⌜ r ≡ missedAfter a since missed ⌝ }
 {
-    let since = get(words, at_since(s));
-    let missed = get(words, at_missed(s));
     pick((since != NONE) & (missed == NONE), a.at, missed)
 }
 
-// Whether the call of station s stands at neither row, and does not begin to miss rows. Most stations are passed by with that.
-fn stays(words: &[u32], s: u32, a: Around) -> bool
-    ensures { λ r. ⌜ r ≡ stays (now (words .entry)) s a ⌝ }
+// The track of a station whose last search had this target.
+fn track_after(a: Around, target: Point, track: Track) -> Track
+    ensures { λ r. ⌜ r ≡ trackAfter a target track ⌝ }
 {
-    let cursor = get(words, at_cursor(s));
-    let since = get(words, at_since(s));
-    let missed = get(words, at_missed(s));
-    !((cursor == a.at) | (cursor == a.over)) & ((since == NONE) | (missed != NONE))
+    Track {
+        cursor: cursor_after(a, track.cursor),
+        phase: phase_after(a, target, track.cursor, track.phase),
+        since: track.since,
+        missed: missed_after(a, track.since, track.missed),
+    }
+}
+
+// Whether a call stands at neither row, and does not begin to miss rows. Most stations are passed by with that.
+fn stays(a: Around, track: Track) -> bool
+    ensures { λ r. ⌜ r ≡ stays a track ⌝ }
+{
+    !((track.cursor == a.at) | (track.cursor == a.over))
+        & ((track.since == NONE) | (track.missed != NONE))
 }
 
 // Writes where the call of station s stands afterwards, and what it has missed.
-fn write_station(words: &mut [u32], s: u32, a: Around)
-    ensures { λ _. ⌜ now (words .exit) ≡ stationMoved (now (words .entry)) s a ⌝ }
+fn write_station(words: &mut [u32], s: u32, a: Around, track: Track)
+    ensures { λ _. ⌜ now (words .exit) ≡ putTrack (now (words .entry)) s (trackAfter a (targetAt (now (words .entry)) s) track) ⌝ }
 {
-    let cursor = cursor_after(words, s, a);
-    let phase = phase_after(words, s, a);
-    let missed = missed_after(words, s, a);
-    put(words, at_cursor(s), cursor);
-    put(words, at_phase(s), phase);
-    put(words, at_missed(s), missed);
+    let target = read_target(words, s);
+    write_track(words, s, track_after(a, target, track));
 }
 
 // Moves the call of station s out of the rows that leave the tree.
 fn move_station(words: &mut [u32], s: u32, a: Around)
     ensures { λ _. ⌜ now (words .exit) ≡ stationMoved (now (words .entry)) s a ⌝ }
 {
-    if !stays(words, s, a) {
-        write_station(words, s, a);
+    let track = read_track(words, s);
+    if !stays(a, track) {
+        write_station(words, s, a, track);
     }
 }
 
 // The same for each of the eight stations.
 fn move_stations(words: &mut [u32], a: Around)
-    ensures { λ _. ⌜ now (words .exit) ≡ stationsMoved a 8 (now (words .entry)) ⌝ }
+    ensures { λ _. ⌜ now (words .exit) ≡ stationsMoved a stations (now (words .entry)) ⌝ }
 {
     let mut s: u32 = 0;
-    while s < 8 {
+    while s < STATIONS {
         move_station(words, s, a);
         s += 1;
     }
@@ -253,7 +262,7 @@ fn move_stations(words: &mut [u32], a: Around)
 fn change(words: &mut [u32], a: Around)
     ensures { λ _. ⌜ now (words .exit) ≡ unlinkWords (now (words .entry)) a ⌝ }
 {
-    let number = more(get(words, AT_REMOVALS));
+    let number = more(read_counts(words).removals);
     count(words, a);
     move_stations(words, a);
     write_rows(words, a, number);
@@ -264,11 +273,11 @@ pub(crate) fn unlink(words: &mut [u32], rows: u32, s: u32, call: Call, at: u32) 
     ensures { λ r. ⌜ replied r (now (words .exit)) ≡ unlinkOf (now (words .entry)) rows s call at ⌝ }
 {
     let a = gather(words, rows, at);
-    if sound(a) & (1 <= get(words, AT_HELD)) {
+    if sound(a) & (1 <= read_counts(words).held) {
         let point = call.point;
         let leaf = a.leaf;
         let answer = Answer {
-            code: 5,
+            code: CODE_REMOVED,
             point: point,
             curve: leaf_curve(leaf),
             square: 0,

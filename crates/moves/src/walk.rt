@@ -14,21 +14,30 @@ use rows::grades::slot_of;
 use rows::row::Row;
 use rows::row::read_row;
 use stations::answer::Answer;
+use stations::answer::CODE_ADDED;
+use stations::answer::CODE_CONTAINED;
+use stations::answer::CODE_FULL;
+use stations::answer::CODE_HELD;
+use stations::answer::CODE_MISSING;
+use stations::answer::CODE_REMOVED;
+use stations::answer::CODE_SPENT;
+use stations::call::ADD_KIND;
 use stations::call::Call;
+use stations::call::REMOVE_KIND;
+use stations::common::read_limit;
+use stations::common::read_places;
 use stations::common::taken;
-use stations::station::write_place;
-use words::layout::AT_CHANGES;
-use words::layout::AT_LIMIT;
-use words::layout::AT_PLACES;
-use words::layout::AT_ROOT;
+use stations::counts::read_counts;
+use stations::track::Track;
+use stations::track::read_track;
+use stations::track::write_track;
 use words::layout::NONE;
-use words::layout::at_cursor;
-use words::word::get;
+use words::refusal::UNSOUND;
 use words::word::pick;
 ghost use mathlib.Core.Path.{_≡_};
 ghost use Rattle.calls.specs.Reply.{replied};
 ghost use Rattle.rows.specs.Row.{rowAt};
-ghost use Rattle.calls.specs.Walk.{downFrom, down, wayOf, markedWay, passedWords, walkTo, codeOf, codeAt, plainAnswer, conclude, standsAt, walkOf};
+ghost use Rattle.calls.specs.Walk.{downFrom, down, wayOf, markedWay, passedWords, walkedWords, walkTo, codeOf, codeAt, plainAnswer, conclude, standsAt, walkOf};
 
 // From a cut to the child on the point's side; a leaf stays; from any other row nowhere.
 fn down_from(point: Point, at: u32, row: Row) -> u32
@@ -105,9 +114,26 @@ fn mark_way(words: &mut [u32], way: Way, k: u32)
 fn pass(words: &mut [u32], call: Call, way: Way)
     ensures { λ _. ⌜ now (words .exit) ≡ passedWords (now (words .entry)) call way ⌝ }
 {
-    if call.kind == 1 {
+    if call.kind == ADD_KIND {
         mark_way(words, way, slot_of(call.point));
     }
+}
+
+// The call of station s stands at a row, and goes down.
+fn stand(words: &mut [u32], s: u32, to: u32)
+    ensures { λ _. ⌜ now (words .exit) ≡ walkedWords (now (words .entry)) s to ⌝ }
+{
+    let track = read_track(words, s);
+    write_track(
+        words,
+        s,
+        Track {
+            cursor: to,
+            phase: 0,
+            since: track.since,
+            missed: track.missed,
+        },
+    );
 }
 
 // The walk stands there now; a row on the way was not one of the tree where that is none.
@@ -115,10 +141,10 @@ fn walk_to(words: &mut [u32], s: u32, call: Call, way: Way) -> u32
     ensures { λ r. ⌜ replied r (now (words .exit)) ≡ walkTo (now (words .entry)) s call way ⌝ }
 {
     if way.to == NONE {
-        11
+        UNSOUND
     } else {
         pass(words, call, way);
-        write_place(words, s, way.to, 0);
+        stand(words, s, way.to);
         0
     }
 }
@@ -127,10 +153,18 @@ fn walk_to(words: &mut [u32], s: u32, call: Call, way: Way) -> u32
 fn code_of(kind: u32, held: bool, spent: bool, full: bool) -> u32
     ensures { λ r. ⌜ r ≡ codeOf kind held spent full ⌝ }
 {
-    let add = pick(held, 2, pick(spent, 4, pick(full, 3, 1)));
-    let remove = pick(held, pick(spent, 4, 5), 6);
-    let contains = pick(held, 7, 6);
-    pick(kind == 1, add, pick(kind == 2, remove, contains))
+    let add = pick(
+        held,
+        CODE_HELD,
+        pick(spent, CODE_SPENT, pick(full, CODE_FULL, CODE_ADDED)),
+    );
+    let remove = pick(held, pick(spent, CODE_SPENT, CODE_REMOVED), CODE_MISSING);
+    let contains = pick(held, CODE_CONTAINED, CODE_MISSING);
+    pick(
+        kind == ADD_KIND,
+        add,
+        pick(kind == REMOVE_KIND, remove, contains),
+    )
 }
 
 // The code of a call that ends its walk at this row.
@@ -138,8 +172,8 @@ fn code_at(words: &[u32], call: Call, row: Row) -> u32
     ensures { λ r. ⌜ r ≡ codeAt (now (words .entry)) call row ⌝ }
 {
     let held = holds_point(call.point, row);
-    let spent = get(words, AT_CHANGES) == get(words, AT_LIMIT);
-    let full = (get(words, AT_PLACES) as u64) <= taken(words);
+    let spent = read_counts(words).changes == read_limit(words);
+    let full = (read_places(words) as u64) <= taken(words);
     code_of(call.kind, held, spent, full)
 }
 
@@ -151,7 +185,11 @@ fn plain_answer(call: Call, code: u32, row: Row) -> Answer
     Answer {
         code: code,
         point: point,
-        curve: pick((code == 2) | (code == 7), leaf_curve(row), 0),
+        curve: pick(
+            (code == CODE_HELD) | (code == CODE_CONTAINED),
+            leaf_curve(row),
+            0,
+        ),
         square: 0,
     }
 }
@@ -161,9 +199,9 @@ fn conclude(words: &mut [u32], rows: u32, s: u32, call: Call, at: u32, row: Row)
     ensures { λ r. ⌜ replied r (now (words .exit)) ≡ conclude (now (words .entry)) rows s call at row ⌝ }
 {
     let code = code_at(words, call, row);
-    if code == 1 {
+    if code == CODE_ADDED {
         insert(words, rows, s, call, at)
-    } else if code == 5 {
+    } else if code == CODE_REMOVED {
         unlink(words, rows, s, call, at)
     } else {
         write_answered(words, s, plain_answer(call, code, row));
@@ -175,8 +213,8 @@ fn conclude(words: &mut [u32], rows: u32, s: u32, call: Call, at: u32, row: Row)
 fn stands_at(words: &[u32], s: u32) -> u32
     ensures { λ r. ⌜ r ≡ standsAt (now (words .entry)) s ⌝ }
 {
-    let cursor = get(words, at_cursor(s));
-    pick(cursor == NONE, get(words, AT_ROOT), cursor)
+    let cursor = read_track(words, s).cursor;
+    pick(cursor == NONE, read_counts(words).root, cursor)
 }
 
 // One step: from a cut down, at a leaf or in the empty tree the decision; any other row is refused.
@@ -191,6 +229,6 @@ pub fn walk(words: &mut [u32], rows: u32, s: u32, call: Call) -> u32
     } else if (at == NONE) | is_leaf(row) {
         conclude(words, rows, s, call, at, row)
     } else {
-        11
+        UNSOUND
     }
 }

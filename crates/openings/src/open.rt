@@ -1,69 +1,60 @@
 // Opening: no record held, every row spare, every station idle and no change counted.
 use rows::row::Row;
 use rows::row::write_row;
-use stations::common::MARK;
+use stations::common::clear_records;
 use stations::common::limit_in;
 use stations::common::places_in;
-use stations::common::words_for;
-use words::layout::AT_HEAD;
-use words::layout::AT_LIMIT;
-use words::layout::AT_MARK;
-use words::layout::AT_PLACES;
-use words::layout::AT_ROOT;
-use words::layout::AT_TAIL;
+use stations::common::write_opening;
+use stations::counts::Counts;
+use stations::counts::write_counts;
+use stations::track::nowhere;
+use stations::track::write_track;
 use words::layout::NONE;
-use words::layout::at_cursor;
-use words::layout::at_missed;
-use words::layout::at_since;
+use words::layout::STATIONS;
+use words::layout::words_for;
+use words::refusal::BAD_LIMIT;
+use words::refusal::BAD_PLACES;
+use words::refusal::SHORT_SLICE;
 use words::word::pick;
-use words::word::put;
 ghost use mathlib.Core.Path.{_≡_};
 ghost use Prim.Native.Nat.{_≤_};
-ghost use Rattle.words.specs.Layout.{records};
+ghost use Rattle.words.specs.Layout.{stations, mostPlaces};
 ghost use Rattle.calls.specs.Reply.{replied};
-ghost use Rattle.calls.specs.Open.{cleared, stationsCleared, headWords, rowsSpare, openedWords, openOf};
+ghost use Rattle.calls.specs.Open.{tracksCleared, rowsSpare, newCounts, headWords, openedWords, openOf};
 
-// The words of the common record and of the stations.
-const RECORDS: usize = 608;
-
-// The stations.
-const STATIONS: u32 = 8;
-
-// Zero in every word before the rows.
-fn clear(words: &mut [u32])
-    ensures { λ _. ⌜ now (words .exit) ≡ cleared records (now (words .entry)) ⌝ }
-{
-    let mut at: usize = 0;
-    while at < RECORDS {
-        put(words, at, 0);
-        at += 1;
-    }
-}
-
-// No station has a cursor, a since or a missed row.
-fn clear_stations(words: &mut [u32])
-    ensures { λ _. ⌜ now (words .exit) ≡ stationsCleared 8 (now (words .entry)) ⌝ }
+// No station has a call.
+fn clear_tracks(words: &mut [u32])
+    ensures { λ _. ⌜ now (words .exit) ≡ tracksCleared stations (now (words .entry)) ⌝ }
 {
     let mut s: u32 = 0;
     while s < STATIONS {
-        put(words, at_cursor(s), NONE);
-        put(words, at_since(s), NONE);
-        put(words, at_missed(s), NONE);
+        write_track(words, s, nowhere());
         s += 1;
     }
 }
 
-// Mark, places, limit, an empty tree, and the queue of all rows.
+// Nothing is counted, the tree is empty, and all the rows are in the queue.
+fn new_counts(places: u32) -> Counts
+    requires { ⌜ (1 ≤ places) × (places ≤ mostPlaces) ⌝ }
+    ensures { λ r. ⌜ r ≡ newCounts places ⌝ }
+{
+    Counts {
+        changes: 0,
+        held: 0,
+        root: NONE,
+        head: 0,
+        tail: 2 * places - 1,
+        removals: 0,
+    }
+}
+
+// Mark, places, limit and counts.
 fn write_head(words: &mut [u32], places: u32, limit: u32)
-    requires { ⌜ (1 ≤ places) × (places ≤ 4096) ⌝ }
+    requires { ⌜ (1 ≤ places) × (places ≤ mostPlaces) ⌝ }
     ensures { λ _. ⌜ now (words .exit) ≡ headWords places limit (now (words .entry)) ⌝ }
 {
-    put(words, AT_MARK, MARK);
-    put(words, AT_PLACES, places);
-    put(words, AT_LIMIT, limit);
-    put(words, AT_ROOT, NONE);
-    put(words, AT_HEAD, 0);
-    put(words, AT_TAIL, 2 * places - 1);
+    write_opening(words, places, limit);
+    write_counts(words, new_counts(places));
 }
 
 // Every row is spare, linked to the next, the last to none.
@@ -87,12 +78,12 @@ fn spare_rows(words: &mut [u32], rows: u32)
 
 // The words of a new history. Words beyond its rows stay.
 fn open_words(words: &mut [u32], places: u32, limit: u32)
-    requires { ⌜ (1 ≤ places) × (places ≤ 4096) ⌝ }
+    requires { ⌜ (1 ≤ places) × (places ≤ mostPlaces) ⌝ }
     ensures { λ _. ⌜ now (words .exit) ≡ openedWords (now (words .entry)) places limit ⌝ }
 {
-    clear(words);
+    clear_records(words);
     write_head(words, places, limit);
-    clear_stations(words);
+    clear_tracks(words);
     spare_rows(words, 2 * places);
 }
 
@@ -101,13 +92,13 @@ pub fn open(words: &mut [u32], places: u32, limit: u32) -> u32
     ensures { λ r. ⌜ replied r (now (words .exit)) ≡ openOf (now (words .entry)) places limit ⌝ }
 {
     if !places_in(places) {
-        return 1;
+        return BAD_PLACES;
     }
     if !limit_in(limit) {
-        return 2;
+        return BAD_LIMIT;
     }
     if words.len() < words_for(places) {
-        return 3;
+        return SHORT_SLICE;
     }
     open_words(words, places, limit);
     0

@@ -1,4 +1,5 @@
 // The moves of a nearest: looks and tours.
 mod look;
+mod progress;
 pub mod search;
 mod tour;

@@ -1,55 +1,15 @@
 // A search looks at the records that it missed: those which were removed since its submission, from the first of them on in the queue.
-use calls::search::Progress;
+use crate::progress::consider;
+use calls::progress::Progress;
 use links::link::is_free;
 use links::link::next_of;
-use points::choice::chosen_over;
-use points::choice::same_grade;
-use points::point::Point;
 use rows::row::Row;
 use rows::row::read_row;
 use stations::call::Best;
 use stations::call::Call;
 use words::layout::NONE;
 ghost use mathlib.Core.Path.{_≡_};
-ghost use Rattle.rows.specs.Row.{rowAt};
-ghost use Rattle.calls.specs.Link.{nextOf};
-ghost use Rattle.calls.specs.Search.{better, prevails, considered, lookBest, passSpare, lookAt, look};
-
-// Whether there is no best, or the point is chosen over it.
-fn better(target: Point, best: Best, point: Point) -> bool
-    ensures { λ r. ⌜ r ≡ better target best point ⌝ }
-{
-    if best.curve == 0 {
-        true
-    } else {
-        chosen_over(target, point, best.point)
-    }
-}
-
-// Whether a record is one that the call may find, and is better than the best so far.
-fn prevails(call: Call, best: Best, added: u32, point: Point) -> bool
-    ensures { λ r. ⌜ r ≡ prevails call best added point ⌝ }
-{
-    if (added <= call.asof) & same_grade(call.point, point) {
-        better(call.point, best, point)
-    } else {
-        false
-    }
-}
-
-// The best after a record was considered.
-pub(crate) fn consider(call: Call, best: Best, added: u32, point: Point, curve: u32) -> Best
-    ensures { λ r. ⌜ r ≡ considered call best added point curve ⌝ }
-{
-    if prevails(call, best, added, point) {
-        Best {
-            curve: curve,
-            point: point,
-        }
-    } else {
-        best
-    }
-}
+ghost use Rattle.calls.specs.Look.{lookBest, passSpare, lookAt, lookFrom, look};
 
 // The best after a missed row: the record of a removed row is considered.
 fn look_best(call: Call, best: Best, row: Row) -> Best
@@ -99,7 +59,7 @@ fn look_at(call: Call, p: Progress, row: Row, after: Row) -> Progress
 
 // The same at a link to the first missed row. Where no row follows it, none is read.
 fn look_from(words: &[u32], rows: u32, call: Call, p: Progress) -> Progress
-    ensures { λ r. ⌜ r ≡ lookAt call p (rowAt (now (words .entry)) rows (p .missed)) (rowAt (now (words .entry)) rows (nextOf (rowAt (now (words .entry)) rows (p .missed)))) ⌝ }
+    ensures { λ r. ⌜ r ≡ lookFrom (now (words .entry)) rows call p ⌝ }
 {
     let row = read_row(words, rows, p.missed);
     let after = read_row(words, rows, next_of(row));

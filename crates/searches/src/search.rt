@@ -3,25 +3,25 @@
 use crate::look::look;
 use crate::tour::reached_at;
 use crate::tour::tour;
-use calls::search::Progress;
+use calls::progress::Progress;
 use links::answer::write_answered;
 use points::square::square;
 use rows::grades::slot_of;
 use stations::answer::Answer;
+use stations::answer::CODE_NEAREST;
+use stations::answer::CODE_NONE;
 use stations::call::Best;
 use stations::call::Call;
 use stations::call::write_best;
-use stations::station::write_missed;
-use stations::station::write_place;
+use stations::track::Track;
+use stations::track::read_track;
+use stations::track::write_track;
 use words::layout::NONE;
-use words::layout::at_cursor;
-use words::layout::at_missed;
-use words::layout::at_phase;
-use words::word::get;
+use words::refusal::UNSOUND;
 use words::word::pick;
 ghost use mathlib.Core.Path.{_≡_};
 ghost use Rattle.calls.specs.Reply.{replied};
-ghost use Rattle.calls.specs.Search.{seek, progressAt, isFinished, foundAnswer, keptWords, searchWords, searchOf};
+ghost use Rattle.calls.specs.Search.{seek, progressAt, isFinished, foundAnswer, keptTrack, keptWords, searchWords, searchOf};
 
 // Five tours, or a look and three where a row was missed.
 fn seek(words: &[u32], rows: u32, call: Call, p: Progress) -> Progress
@@ -43,10 +43,11 @@ fn progress_at(words: &[u32], s: u32, call: Call) -> Progress
     ensures { λ r. ⌜ r ≡ progressAt (now (words .entry)) s call ⌝ }
 {
     let best = call.best;
+    let track = read_track(words, s);
     Progress {
-        cursor: get(words, at_cursor(s)),
-        phase: get(words, at_phase(s)),
-        missed: get(words, at_missed(s)),
+        cursor: track.cursor,
+        phase: track.phase,
+        missed: track.missed,
         best: best,
         sound: true,
     }
@@ -66,7 +67,7 @@ fn found_answer(call: Call, best: Best) -> Answer
     if best.curve == 0 {
         let target = call.point;
         Answer {
-            code: 9,
+            code: CODE_NONE,
             point: target,
             curve: 0,
             square: 0,
@@ -74,7 +75,7 @@ fn found_answer(call: Call, best: Best) -> Answer
     } else {
         let point = best.point;
         Answer {
-            code: 8,
+            code: CODE_NEAREST,
             point: point,
             curve: best.curve,
             square: square(call.point, best.point),
@@ -82,13 +83,25 @@ fn found_answer(call: Call, best: Best) -> Answer
     }
 }
 
+// The track of a search that is kept.
+fn kept_track(p: Progress, track: Track) -> Track
+    ensures { λ r. ⌜ r ≡ keptTrack p track ⌝ }
+{
+    Track {
+        cursor: p.cursor,
+        phase: p.phase,
+        since: track.since,
+        missed: p.missed,
+    }
+}
+
 // The search is kept for its next step.
 fn keep(words: &mut [u32], s: u32, p: Progress)
     ensures { λ _. ⌜ now (words .exit) ≡ keptWords (now (words .entry)) s p ⌝ }
 {
+    let track = read_track(words, s);
     write_best(words, s, p.best);
-    write_place(words, s, p.cursor, p.phase);
-    write_missed(words, s, p.missed);
+    write_track(words, s, kept_track(p, track));
 }
 
 // A finished search is answered, any other kept.
@@ -111,6 +124,6 @@ pub fn search(words: &mut [u32], rows: u32, s: u32, call: Call) -> u32
         write_search(words, s, call, p);
         0
     } else {
-        11
+        UNSOUND
     }
 }

@@ -1,9 +1,11 @@
 // A search goes around the tree: down to the near child of each cut, and up again, over to the far child where that side may hold a record
 // that is chosen over the best. It goes to no side whose grades do not admit the target's slot. On the way up it keeps the parent link of the row where it
 // stands, so that each move reads one row. Each question is asked in one place, so that a step's moves are compiled in line.
-use crate::look::consider;
-use calls::search::Progress;
-use calls::tour::Reached;
+use crate::progress::consider;
+use crate::progress::onward;
+use crate::progress::strayed;
+use calls::progress::Progress;
+use calls::reached::Reached;
 use links::link::is_tree;
 use links::link::parent_of;
 use points::choice::far_side_excluded;
@@ -21,38 +23,12 @@ use stations::call::Call;
 use words::layout::NONE;
 use words::word::pick;
 ghost use mathlib.Core.Path.{_≡_};
-ghost use Rattle.calls.specs.Search.{considered, onward, unsound, bestSquare, farShut};
-ghost use Rattle.calls.specs.Tour.{aboveOf, standing, reachedAt, goTo, goUp, refused, pastNear, pastFar, pastSide, visitSides, visitCut, visitLeaf, visitRow, atTop, moveTo, moved};
+ghost use Rattle.calls.specs.Tour.{bestSquare, farShut};
+ghost use Rattle.calls.specs.Progress.{considered, onward};
+ghost use Rattle.calls.specs.Reached.{aboveOf, reaching, reachedAt, goTo, goUp, refused, pastNear, pastFar, pastSide, visitSides, visitCut, visitLeaf, visitRow, atTop, moveTo, moved};
 
 // The best square while there is no best: only a cut on axis 1 excludes its far side then.
 const NO_SQUARE: u64 = 18446744073709551615;
-
-// The search goes on so.
-fn onward(p: Progress, cursor: u32, phase: u32, best: Best) -> Progress
-    ensures { λ r. ⌜ r ≡ onward p cursor phase best ⌝ }
-{
-    Progress {
-        cursor: cursor,
-        phase: phase,
-        missed: p.missed,
-        best: best,
-        sound: p.sound,
-    }
-}
-
-// A row was not what it must be.
-fn unsound(p: Progress) -> Progress
-    ensures { λ r. ⌜ r ≡ unsound p ⌝ }
-{
-    let best = p.best;
-    Progress {
-        cursor: p.cursor,
-        phase: p.phase,
-        missed: p.missed,
-        best: best,
-        sound: false,
-    }
-}
 
 // Down to a child.
 fn go_to(p: Progress, child: u32) -> Reached
@@ -80,7 +56,7 @@ fn refused(p: Progress, above: u32) -> Reached
 {
     Reached {
         above: above,
-        progress: unsound(p),
+        progress: strayed(p),
     }
 }
 
@@ -204,7 +180,7 @@ fn visit_cut(
 
 // Down at a leaf: it is considered, and the way leads up.
 fn down_leaf(call: Call, p: Progress, parent: u32, added: u32, point: Point, curve: u32) -> Reached
-    ensures { λ r. ⌜ r ≡ standing (onward p (p .cursor) 1 (considered call (p .best) added point curve)) parent ⌝ }
+    ensures { λ r. ⌜ r ≡ reaching (onward p (p .cursor) 1 (considered call (p .best) added point curve)) parent ⌝ }
 {
     Reached {
         above: parent,

@@ -3,9 +3,7 @@ use crate::step::step;
 use stations::answer::Waiting;
 use stations::answer::read_waiting;
 use stations::common::is_opened;
-use stations::common::opened;
-use words::layout::AT_PLACES;
-use words::word::get;
+use stations::common::read_places;
 ghost use mathlib.Core.Path.{_≡_};
 ghost use Rattle.calls.specs.Reply.{replied};
 ghost use Rattle.calls.specs.Run.{isGiven, goesOn, mostSteps, runOf};
@@ -31,8 +29,8 @@ fn goes_on(words: &[u32], s: u32, number: u32) -> bool
 fn most_steps(words: &[u32]) -> u64
     ensures { λ r. ⌜ r ≡ mostSteps (now (words .entry)) ⌝ }
 {
-    let places = get(words, AT_PLACES) as u64;
-    if is_opened(opened(words)) {
+    let places = read_places(words) as u64;
+    if is_opened(words) {
         16 * places + 64
     } else {
         1

@@ -2,6 +2,7 @@
 use crate::advance::advance;
 use links::answer::write_answered;
 use stations::answer::Answer;
+use stations::answer::CODE_WITHDRAWN;
 use stations::call::Call;
 ghost use mathlib.Core.Path.{_≡_};
 ghost use Rattle.calls.specs.Reply.{replied};
@@ -13,7 +14,7 @@ fn withdrawn_answer(call: Call) -> Answer
 {
     let point = call.point;
     Answer {
-        code: 11,
+        code: CODE_WITHDRAWN,
         point: point,
         curve: 0,
         square: 0,

@@ -1,40 +1,39 @@
 // Submission: questions 4 to 9, and the call that is written at its station. It reads and writes the common record and the station's alone.
 use points::point::Point;
 use points::point::in_range;
+use stations::call::ADD_KIND;
 use stations::call::Call;
+use stations::call::NEAREST_KIND;
+use stations::call::kind_in;
 use stations::call::no_best;
 use stations::call::write_call;
 use stations::common::is_opened;
-use stations::common::opened;
+use stations::counts::Counts;
+use stations::counts::read_counts;
 use stations::station::read_state;
-use stations::station::write_missed;
-use stations::station::write_place;
-use stations::station::write_since;
 use stations::station::write_state;
 use stations::target::write_target;
-use words::layout::AT_CHANGES;
-use words::layout::AT_REMOVALS;
-use words::layout::AT_ROOT;
+use stations::track::Track;
+use stations::track::write_track;
 use words::layout::NONE;
+use words::layout::STATIONS;
+use words::refusal::BAD_CURVE;
+use words::refusal::BAD_POINT;
+use words::refusal::NO_KIND;
+use words::refusal::NO_STATION;
+use words::refusal::NOT_IDLE;
+use words::refusal::NOT_OPENED;
 use words::word::curve_in;
-use words::word::get;
 use words::word::pick;
 ghost use mathlib.Core.Path.{_≡_};
 ghost use Rattle.calls.specs.Reply.{replied};
-ghost use Rattle.calls.specs.Submit.{kindIn, curveFits, callFor, sinceFor, begunWords, aimedWords, submittedWords, callQuestion, submitQuestion, submitOf};
-
-// Question 7: kinds are 1 to 4.
-fn kind_in(kind: u32) -> bool
-    ensures { λ r. ⌜ r ≡ kindIn kind ⌝ }
-{
-    (1 <= kind) & (kind <= 4)
-}
+ghost use Rattle.calls.specs.Submit.{curveFits, callFor, sinceFor, begunTrack, begunWords, aimedWords, submittedWords, callQuestion, submitQuestion, submitOf};
 
 // Question 9: an add has a curve in range; other kinds disregard the curve.
 fn curve_fits(kind: u32, curve: u32) -> bool
     ensures { λ r. ⌜ r ≡ curveFits kind curve ⌝ }
 {
-    !(kind == 1) | curve_in(curve)
+    !(kind == ADD_KIND) | curve_in(curve)
 }
 
 // The call as it is kept: the changes at its submission, and no best yet.
@@ -44,7 +43,7 @@ fn call_for(changes: u32, kind: u32, point: Point, curve: u32) -> Call
     Call {
         kind: kind,
         point: point,
-        curve: pick(kind == 1, curve, 0),
+        curve: pick(kind == ADD_KIND, curve, 0),
         asof: changes,
         best: no_best(),
     }
@@ -54,25 +53,34 @@ fn call_for(changes: u32, kind: u32, point: Point, curve: u32) -> Call
 fn since_for(removals: u32, kind: u32) -> u32
     ensures { λ r. ⌜ r ≡ sinceFor removals kind ⌝ }
 {
-    pick(kind == 4, removals, NONE)
+    pick(kind == NEAREST_KIND, removals, NONE)
 }
 
-// The call stands at the root and goes down; nothing is missed.
+// The track of a call that begins: it stands at the root and goes down; nothing is missed.
+fn begun_track(counts: Counts, kind: u32) -> Track
+    ensures { λ r. ⌜ r ≡ begunTrack counts kind ⌝ }
+{
+    Track {
+        cursor: counts.root,
+        phase: 0,
+        since: since_for(counts.removals, kind),
+        missed: NONE,
+    }
+}
+
+// The call begins.
 fn begin(words: &mut [u32], s: u32, kind: u32)
     ensures { λ _. ⌜ now (words .exit) ≡ begunWords (now (words .entry)) s kind ⌝ }
 {
-    let root = get(words, AT_ROOT);
-    let removals = get(words, AT_REMOVALS);
-    write_place(words, s, root, 0);
-    write_since(words, s, since_for(removals, kind));
-    write_missed(words, s, NONE);
+    let counts = read_counts(words);
+    write_track(words, s, begun_track(counts, kind));
 }
 
 // The target of a nearest is written for the steps that take leaves from the tree meanwhile; another call leaves it.
 fn aim(words: &mut [u32], s: u32, kind: u32, point: Point)
     ensures { λ _. ⌜ now (words .exit) ≡ aimedWords (now (words .entry)) s kind point ⌝ }
 {
-    if kind == 4 {
+    if kind == NEAREST_KIND {
         write_target(words, s, point);
     }
 }
@@ -82,7 +90,7 @@ fn write_submitted(words: &mut [u32], s: u32, kind: u32, point: Point, curve: u3
     ensures { λ _. ⌜ now (words .exit) ≡ submittedWords (now (words .entry)) s kind point curve ⌝ }
 {
     let state = read_state(words, s);
-    let changes = get(words, AT_CHANGES);
+    let changes = read_counts(words).changes;
     write_call(words, s, call_for(changes, kind, point, curve));
     write_state(words, s, state.submitted());
     begin(words, s, kind);
@@ -93,9 +101,9 @@ fn write_submitted(words: &mut [u32], s: u32, kind: u32, point: Point, curve: u3
 fn call_question(kind: u32, point: Point, curve: u32) -> u32
     ensures { λ r. ⌜ r ≡ callQuestion kind point curve ⌝ }
 {
-    let ninth = pick(curve_fits(kind, curve), 0, 9);
-    let eighth = pick(in_range(point), ninth, 8);
-    pick(kind_in(kind), eighth, 7)
+    let ninth = pick(curve_fits(kind, curve), 0, BAD_CURVE);
+    let eighth = pick(in_range(point), ninth, BAD_POINT);
+    pick(kind_in(kind), eighth, NO_KIND)
 }
 
 // The first of questions 4 to 9 that the submission fails, or 0.
@@ -103,9 +111,9 @@ fn submit_question(words: &[u32], s: u32, kind: u32, point: Point, curve: u32) -
     ensures { λ r. ⌜ r ≡ submitQuestion (now (words .entry)) s kind point curve ⌝ }
 {
     let state = read_state(words, s);
-    let sixth = pick(state.is_idle(), call_question(kind, point, curve), 6);
-    let fifth = pick(s < 8, sixth, 5);
-    pick(is_opened(opened(words)), fifth, 4)
+    let sixth = pick(state.is_idle(), call_question(kind, point, curve), NOT_IDLE);
+    let fifth = pick(s < STATIONS, sixth, NO_STATION);
+    pick(is_opened(words), fifth, NOT_OPENED)
 }
 
 // A submission gives 0, or the number of the first question that it fails; then no word changes.

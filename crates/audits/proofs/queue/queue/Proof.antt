@@ -9,8 +9,8 @@ use Rattle.calls.specs.Queue.{walkQueue, queueIn}
 rows-in-requires : tie.Need-rows-in-requires
 rows-in-requires c κs = search needs
 
-line-at-head-requires : tie.Need-line-at-head-requires
-line-at-head-requires c κs = search needs
+queued-at-head-requires : tie.Need-queued-at-head-requires
+queued-at-head-requires c κs = search needs
 
 walk-queue-requires : tie.Need-walk-queue-requires
 walk-queue-requires c κs = search needs
@@ -20,9 +20,9 @@ unfolding queueIn
 returns c =
     let s = c .before .before .before .before .args in
     let rows = c .before .before .rows-in .ensures in
-    let start = c .before .line-at-head .ensures in
+    let start = c .before .queued-at-head .ensures in
     c .walk-queue .ensures ∙ (λ i. walkQueue (now (s .words)) (rows i) (start i .number) (rows i) (start i))
 
 pub queue-spec : {M : Type 1} → statement M
 queue-spec =
-    tie.close (tie.spec rows-in-requires line-at-head-requires walk-queue-requires returns)
+    tie.close (tie.spec rows-in-requires queued-at-head-requires walk-queue-requires returns)

@@ -2,12 +2,8 @@
 use borrow.Author.Needs.{needs}
 use Rattle.audits.proofs.report.read_report.Statement.{statement}
 use Rattle.audits.proofs.report.read_report.Tie as tie
-use mathlib.Core.Path.{sym, ap, _∙_}
-use Rattle.stations.specs.Common.{isOpened}
+use mathlib.Core.Path.{sym, _∙_}
 use Rattle.calls.specs.Report.{reportOf}
-
-opened-requires : tie.Need-opened-requires
-opened-requires c κs = search needs
 
 is-opened-requires : tie.Need-is-opened-requires
 is-opened-requires c κs = search needs
@@ -20,14 +16,13 @@ unfolding reportOf
 returns c =
     let t = c .before in
     let o = t .before in
-    rw (sym (ap isOpened (o .before .opened .ensures)) ∙ sym (o .is-opened .ensures) ∙ t .if1 .taken) (cc)
+    rw (sym (o .is-opened .ensures) ∙ t .if1 .taken) (cc)
 
 returns-2 : tie.Need-returns-2
 unfolding reportOf
 returns-2 c =
     let o = c .before in
-    rw (sym (ap isOpened (o .before .opened .ensures)) ∙ sym (o .is-opened .ensures) ∙ c .if1 .left)
+    rw (sym (o .is-opened .ensures) ∙ c .if1 .left)
 
 pub read-report-spec : {M : Type 1} → statement M
-read-report-spec =
-    tie.close (tie.spec opened-requires is-opened-requires taken-requires returns returns-2)
+read-report-spec = tie.close (tie.spec is-opened-requires taken-requires returns returns-2)

@@ -4,8 +4,8 @@ use Rattle.audits.proofs.tree.tree.Statement.{statement}
 use Rattle.audits.proofs.tree.tree.Tie as tie
 use Rattle.calls.specs.Tree.{treeIn}
 
-get-requires : tie.Need-get-requires
-get-requires c κs = search needs
+read-counts-requires : tie.Need-read-counts-requires
+read-counts-requires c κs = search needs
 
 rows-in-requires : tie.Need-rows-in-requires
 rows-in-requires c κs = search needs
@@ -27,7 +27,7 @@ pub tree-spec : {M : Type 1} → statement M
 tree-spec =
     tie.close
     (tie.spec
-    get-requires
+    read-counts-requires
     rows-in-requires
     scan-requires
     root-sound-requires

@@ -2,10 +2,10 @@
 use borrow.Author.Needs.{needs}
 use Rattle.moves.proofs.insert.gather.Statement.{statement}
 use Rattle.moves.proofs.insert.gather.Tie as tie
-use Rattle.calls.specs.Insert.{roomAt}
+use Rattle.calls.specs.Insert.{siteAt}
 
-get-requires : tie.Need-get-requires
-get-requires c κs = search needs
+read-counts-requires : tie.Need-read-counts-requires
+read-counts-requires c κs = search needs
 
 read-row-requires : tie.Need-read-row-requires
 read-row-requires c κs = search needs
@@ -29,14 +29,14 @@ read-row-requires-4 : tie.Need-read-row-requires-4
 read-row-requires-4 c κs = search needs
 
 returns : tie.Need-returns
-unfolding roomAt
+unfolding siteAt
 returns c = cc
 
 pub gather-spec : {M : Type 1} → statement M
 gather-spec =
     tie.close
     (tie.spec
-    get-requires
+    read-counts-requires
     read-row-requires
     next-of-requires
     pick-requires

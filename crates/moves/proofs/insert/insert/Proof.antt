@@ -7,13 +7,13 @@ use mathlib.Core.List.{List}
 use Prim.Native.Nat.{ℕ}
 use denote.Ref.{now}
 use Rattle.calls.specs.Reply.{replied}
-use Rattle.calls.specs.Insert.{roomAt, roomSound, insertOf}
+use Rattle.calls.specs.Insert.{siteAt, siteSound, insertOf}
 
 abbrev start : tie.After-sound → tie.Start
 start c = c .before .before .before .before .before
 
 -- the one test is the definition's
-test-is : (c : tie.After-sound) → roomSound (roomAt (now (start c .args .words)) (start c .args .rows) (start c .args .at)) ≡ c .sound .result
+test-is : (c : tie.After-sound) → siteSound (siteAt (now (start c .args .words)) (start c .args .rows) (start c .args .at)) ≡ c .sound .result
 test-is c = cc
 
 gather-requires : tie.Need-gather-requires

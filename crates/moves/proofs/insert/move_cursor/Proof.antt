@@ -2,26 +2,25 @@
 use borrow.Author.Needs.{needs}
 use Rattle.moves.proofs.insert.move_cursor.Statement.{statement}
 use Rattle.moves.proofs.insert.move_cursor.Tie as tie
+use Rattle.calls.specs.Insert.{cursorMoved}
 
-at-cursor-requires : tie.Need-at-cursor-requires
-at-cursor-requires c κs = search needs
+read-track-requires : tie.Need-read-track-requires
+read-track-requires c κs = search needs
 
-get-requires : tie.Need-get-requires
-get-requires c κs = search needs
+cursor-to-requires : tie.Need-cursor-to-requires
+cursor-to-requires c κs = search needs
 
-pick-requires : tie.Need-pick-requires
-pick-requires c κs = search needs
-
-put-requires : tie.Need-put-requires
-put-requires c κs = search needs
+write-track-requires : tie.Need-write-track-requires
+write-track-requires c κs = search needs
 
 same-length : tie.Need-same-length
 same-length c = search needs
 
 returns : tie.Need-returns
+unfolding cursorMoved
 returns c = cc
 
 pub move-cursor-spec : {M : Type 1} → statement M
 move-cursor-spec =
     tie.close
-    (tie.spec at-cursor-requires get-requires pick-requires put-requires same-length returns)
+    (tie.spec read-track-requires cursor-to-requires write-track-requires same-length returns)

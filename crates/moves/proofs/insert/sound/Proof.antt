@@ -2,7 +2,7 @@
 use borrow.Author.Needs.{needs}
 use Rattle.moves.proofs.insert.sound.Statement.{statement}
 use Rattle.moves.proofs.insert.sound.Tie as tie
-use Rattle.calls.specs.Insert.{roomSound}
+use Rattle.calls.specs.Insert.{siteSound}
 
 next-of-requires : tie.Need-next-of-requires
 next-of-requires c κs = search needs
@@ -17,7 +17,7 @@ links-to-requires : tie.Need-links-to-requires
 links-to-requires c κs = search needs
 
 returns : tie.Need-returns
-unfolding roomSound
+unfolding siteSound
 returns c = cc
 
 pub sound-spec : {M : Type 1} → statement M

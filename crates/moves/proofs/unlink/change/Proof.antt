@@ -4,8 +4,8 @@ use Rattle.moves.proofs.unlink.change.Statement.{statement}
 use Rattle.moves.proofs.unlink.change.Tie as tie
 use Rattle.calls.specs.Unlink.{unlinkWords}
 
-get-requires : tie.Need-get-requires
-get-requires c κs = search needs
+read-counts-requires : tie.Need-read-counts-requires
+read-counts-requires c κs = search needs
 
 more-requires : tie.Need-more-requires
 more-requires c κs = search needs
@@ -30,7 +30,7 @@ pub change-spec : {M : Type 1} → statement M
 change-spec =
     tie.close
     (tie.spec
-    get-requires
+    read-counts-requires
     more-requires
     count-requires
     move-stations-requires

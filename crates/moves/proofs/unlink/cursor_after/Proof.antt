@@ -4,12 +4,6 @@ use Rattle.moves.proofs.unlink.cursor_after.Statement.{statement}
 use Rattle.moves.proofs.unlink.cursor_after.Tie as tie
 use Rattle.calls.specs.Unlink.{cursorAfter}
 
-at-cursor-requires : tie.Need-at-cursor-requires
-at-cursor-requires c κs = search needs
-
-get-requires : tie.Need-get-requires
-get-requires c κs = search needs
-
 pick-requires : tie.Need-pick-requires
 pick-requires c κs = search needs
 
@@ -18,4 +12,4 @@ unfolding cursorAfter
 returns c = cc
 
 pub cursor-after-spec : {M : Type 1} → statement M
-cursor-after-spec = tie.close (tie.spec at-cursor-requires get-requires pick-requires returns)
+cursor-after-spec = tie.close (tie.spec pick-requires returns)

@@ -4,8 +4,8 @@ use Rattle.moves.proofs.unlink.gather.Statement.{statement}
 use Rattle.moves.proofs.unlink.gather.Tie as tie
 use Rattle.calls.specs.Unlink.{aroundAt}
 
-get-requires : tie.Need-get-requires
-get-requires c κs = search needs
+read-counts-requires : tie.Need-read-counts-requires
+read-counts-requires c κs = search needs
 
 read-row-requires : tie.Need-read-row-requires
 read-row-requires c κs = search needs
@@ -39,7 +39,7 @@ pub gather-spec : {M : Type 1} → statement M
 gather-spec =
     tie.close
     (tie.spec
-    get-requires
+    read-counts-requires
     read-row-requires
     read-row-requires-2
     parent-of-requires

@@ -8,19 +8,18 @@ use mathlib.Core.List.{List}
 use Prim.Native.Nat.{ℕ}
 use lib.Dec.{leb}
 use denote.Ref.{now}
-use Rattle.words.specs.Layout.{atHeld}
-use Rattle.words.specs.Words.{get}
+use Rattle.stations.specs.Counts.{countsAt}
 use Rattle.calls.specs.Reply.{done}
 use Rattle.calls.specs.Unlink.{aroundAt, aroundSound, unlinkOf}
 
-abbrev start : tie.After-get → tie.Start
+abbrev start : tie.After-read-counts → tie.Start
 start c = c .before .before .before .before .before .before
 
-abbrev words : tie.After-get → List ℕ
+abbrev words : tie.After-read-counts → List ℕ
 words c = now (start c .args .words)
 
 -- the test of the code is the test of the definition
-test-is : (c : tie.After-get) → (aroundSound (aroundAt (words c) (start c .args .rows) (start c .args .at)) && leb 1 (get (words c) atHeld)) ≡ (c .before .before .sound .result && leb 1 (c .get .result))
+test-is : (c : tie.After-read-counts) → (aroundSound (aroundAt (words c) (start c .args .rows) (start c .args .at)) && leb 1 (countsAt (words c) .held)) ≡ (c .before .before .sound .result && leb 1 (c .read-counts .result .held))
 test-is c = cc
 
 gather-requires : tie.Need-gather-requires
@@ -29,8 +28,8 @@ gather-requires c κs = search needs
 sound-requires : tie.Need-sound-requires
 sound-requires c κs = search needs
 
-get-requires : tie.Need-get-requires
-get-requires c κs = search needs
+read-counts-requires : tie.Need-read-counts-requires
+read-counts-requires c κs = search needs
 
 leaf-curve-requires : tie.Need-leaf-curve-requires
 leaf-curve-requires c κs = search needs
@@ -48,14 +47,14 @@ returns : tie.Need-returns
 unfolding unlinkOf
 returns c =
     let t = c .before .before .before .before .before .before .before .before .before .before in
-    simp (test-is (t .before) ∙ t .if1 .taken) (ap done cc)
+    simp (test-is (t .before .before) ∙ t .if1 .taken) (ap done cc)
 
 same-length-2 : tie.Need-same-length-2
 same-length-2 c = search needs
 
 returns-2 : tie.Need-returns-2
 unfolding unlinkOf
-returns-2 c = simp (test-is (c .before) ∙ c .if1 .left)
+returns-2 c = simp (test-is (c .before .before) ∙ c .if1 .left)
 
 pub unlink-spec : {M : Type 1} → statement M
 unlink-spec =
@@ -63,7 +62,7 @@ unlink-spec =
     (tie.spec
     gather-requires
     sound-requires
-    get-requires
+    read-counts-requires
     leaf-curve-requires
     change-requires
     write-answered-requires

@@ -7,14 +7,14 @@ use Rattle.calls.specs.Walk.{codeAt}
 holds-point-requires : tie.Need-holds-point-requires
 holds-point-requires c κs = search needs
 
-get-requires : tie.Need-get-requires
-get-requires c κs = search needs
+read-counts-requires : tie.Need-read-counts-requires
+read-counts-requires c κs = search needs
 
-get-requires-2 : tie.Need-get-requires-2
-get-requires-2 c κs = search needs
+read-limit-requires : tie.Need-read-limit-requires
+read-limit-requires c κs = search needs
 
-get-requires-3 : tie.Need-get-requires-3
-get-requires-3 c κs = search needs
+read-places-requires : tie.Need-read-places-requires
+read-places-requires c κs = search needs
 
 cast-full : tie.Need-cast-full
 cast-full c = search needs
@@ -34,9 +34,9 @@ code-at-spec =
     tie.close
     (tie.spec
     holds-point-requires
-    get-requires
-    get-requires-2
-    get-requires-3
+    read-counts-requires
+    read-limit-requires
+    read-places-requires
     cast-full
     taken-requires
     code-of-requires

@@ -4,14 +4,11 @@ use Rattle.moves.proofs.walk.stands_at.Statement.{statement}
 use Rattle.moves.proofs.walk.stands_at.Tie as tie
 use Rattle.calls.specs.Walk.{standsAt}
 
-at-cursor-requires : tie.Need-at-cursor-requires
-at-cursor-requires c κs = search needs
+read-track-requires : tie.Need-read-track-requires
+read-track-requires c κs = search needs
 
-get-requires : tie.Need-get-requires
-get-requires c κs = search needs
-
-get-requires-2 : tie.Need-get-requires-2
-get-requires-2 c κs = search needs
+read-counts-requires : tie.Need-read-counts-requires
+read-counts-requires c κs = search needs
 
 pick-requires : tie.Need-pick-requires
 pick-requires c κs = search needs
@@ -22,4 +19,4 @@ returns c = cc
 
 pub stands-at-spec : {M : Type 1} → statement M
 stands-at-spec =
-    tie.close (tie.spec at-cursor-requires get-requires get-requires-2 pick-requires returns)
+    tie.close (tie.spec read-track-requires read-counts-requires pick-requires returns)

@@ -9,8 +9,8 @@ use Rattle.calls.specs.Reply.{done}
 pass-requires : tie.Need-pass-requires
 pass-requires c κs = search needs
 
-write-place-requires : tie.Need-write-place-requires
-write-place-requires c κs = search needs
+stand-requires : tie.Need-stand-requires
+stand-requires c κs = search needs
 
 returns : tie.Need-returns
 returns c = simp (eq-eqb _ _ (c .if1 .taken))
@@ -22,4 +22,4 @@ returns-2 : tie.Need-returns-2
 returns-2 c = simp (ne-eqb _ _ (c .before .before .before .before .before .before .before .before .if1 .left)) (ap done cc)
 
 pub walk-to-spec : {M : Type 1} → statement M
-walk-to-spec = tie.close (tie.spec pass-requires write-place-requires returns same-length returns-2)
+walk-to-spec = tie.close (tie.spec pass-requires stand-requires returns same-length returns-2)

@@ -7,27 +7,27 @@ use mathlib.Core.Bool.{true, false}
 use mathlib.Core.List.{List}
 use Prim.Native.Nat.{ℕ, _≤_, _<_}
 use native.Mathlib.Omega.{arith}
-use borrow.Author.Tests.{not-true, not-false, le-leb, lt-leb, leb-true}
-use lib.Dec.{leb}
+use borrow.Author.Tests.{not-true, not-false, le-leb, lt-leb}
 use lib.ListN.{length}
 use denote.Ref.{now}
-use Rattle.points.proofs.Tests.{and-l, and-r}
 use Rattle.words.specs.Layout.{wordsFor}
+use Rattle.words.specs.Refusal.{badPlaces, badLimit, shortSlice}
 use Rattle.stations.specs.Common.{placesIn, limitIn}
+use Rattle.stations.proofs.OpeningLaws.{places-tells}
 use Rattle.calls.specs.Reply.{refused, done}
 use Rattle.calls.specs.Open.{openedWords, openOf}
 
 -- what each question that fails comes to
-fails-1 : (words : List ℕ) (places limit : ℕ) → placesIn places ≡ false → openOf words places limit ≡ refused 1 words
+fails-1 : (words : List ℕ) (places limit : ℕ) → placesIn places ≡ false → openOf words places limit ≡ refused badPlaces words
 unfolding openOf
 fails-1 words places limit p = rw p
 
-fails-2 : (words : List ℕ) (places limit : ℕ) → placesIn places ≡ true → limitIn limit ≡ false → openOf words places limit ≡ refused 2 words
+fails-2 : (words : List ℕ) (places limit : ℕ) → placesIn places ≡ true → limitIn limit ≡ false → openOf words places limit ≡ refused badLimit words
 unfolding openOf
 fails-2 words places limit p l = rw (p, l)
 
 fails-3 : (words : List ℕ) (places limit : ℕ) → placesIn places ≡ true → limitIn limit ≡ true → length words < wordsFor places
-    → openOf words places limit ≡ refused 3 words
+    → openOf words places limit ≡ refused shortSlice words
 unfolding openOf
 fails-3 words places limit p l n = rw (p, l, lt-leb (wordsFor places) (length words) n)
 
@@ -36,11 +36,6 @@ passes : (words : List ℕ) (places limit : ℕ) → placesIn places ≡ true �
     → openOf words places limit ≡ done (openedWords words places limit)
 unfolding openOf
 passes words places limit p l n = rw (p, l, le-leb (wordsFor places) (length words) n)
-
--- places in range
-places-of : (places : ℕ) → placesIn places ≡ true → (1 ≤ places) × (places ≤ 4096)
-places-of places p =
-    (leb-true 1 places (and-l (leb 1 places) (leb places 4096) p), leb-true places 4096 (and-r (leb 1 places) (leb places 4096) p))
 
 places-in-requires : tie.Need-places-in-requires
 places-in-requires c κs = search needs
@@ -80,7 +75,7 @@ open-words-requires : tie.Need-open-words-requires
 open-words-requires c κs =
     let l = c .before .before .before .before in
     let o = l .before .before in
-    places-of (o .before .before .args .places) (sym (o .places-in .ensures) ∙ not-false _ (l .before .if1 .left))
+    places-tells (o .before .before .args .places) (sym (o .places-in .ensures) ∙ not-false _ (l .before .if1 .left))
 
 same-length : tie.Need-same-length
 same-length c = search needs

@@ -4,14 +4,14 @@ use Rattle.openings.proofs.open.open_words.Statement.{statement}
 use Rattle.openings.proofs.open.open_words.Tie as tie
 use Rattle.calls.specs.Open.{openedWords}
 
-clear-requires : tie.Need-clear-requires
-clear-requires c κs = search needs
+clear-records-requires : tie.Need-clear-records-requires
+clear-records-requires c κs = search needs
 
 write-head-requires : tie.Need-write-head-requires
 write-head-requires c κs = search needs
 
-clear-stations-requires : tie.Need-clear-stations-requires
-clear-stations-requires c κs = search needs
+clear-tracks-requires : tie.Need-clear-tracks-requires
+clear-tracks-requires c κs = search needs
 
 mul-spare-rows : tie.Need-mul-spare-rows
 mul-spare-rows c = search needs
@@ -30,9 +30,9 @@ pub open-words-spec : {M : Type 1} → statement M
 open-words-spec =
     tie.close
     (tie.spec
-    clear-requires
+    clear-records-requires
     write-head-requires
-    clear-stations-requires
+    clear-tracks-requires
     mul-spare-rows
     spare-rows-requires
     same-length

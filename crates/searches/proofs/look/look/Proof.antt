@@ -3,7 +3,7 @@ use borrow.Author.Needs.{needs}
 use Rattle.searches.proofs.look.look.Statement.{statement}
 use Rattle.searches.proofs.look.look.Tie as tie
 use borrow.Author.Tests.{eq-eqb, ne-eqb}
-use Rattle.calls.specs.Search.{look}
+use Rattle.calls.specs.Look.{look}
 
 look-from-requires : tie.Need-look-from-requires
 look-from-requires c κs = search needs

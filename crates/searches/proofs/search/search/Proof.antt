@@ -7,7 +7,7 @@ use mathlib.Core.List.{List}
 use Prim.Native.Nat.{ℕ}
 use denote.Ref.{now}
 use Rattle.stations.specs.declared.call.Call.{Call}
-use Rattle.calls.specs.declared.search.Progress.{Progress}
+use Rattle.calls.specs.declared.progress.Progress.{Progress}
 use Rattle.calls.specs.Reply.{Reply, replied}
 use Rattle.calls.specs.Search.{seek, progressAt, searchTo, searchOf}
 

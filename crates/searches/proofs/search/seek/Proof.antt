@@ -8,10 +8,12 @@ use Prim.Native.Nat.{ℕ, _≤_, _-_}
 use native.Mathlib.Omega.{arith}
 use Rattle.stations.specs.declared.call.Call.{Call}
 use Rattle.rows.specs.Grades.{slotOf}
-use Rattle.calls.specs.declared.search.Progress.{Progress}
-use Rattle.calls.specs.declared.tour.Reached.{Reached}
-use Rattle.calls.specs.Search.{look, toured, toursOf, seek}
-use Rattle.calls.specs.Tour.{reachedAt}
+use Rattle.calls.specs.declared.progress.Progress.{Progress}
+use Rattle.calls.specs.declared.reached.Reached.{Reached}
+use Rattle.calls.specs.Search.{toursOf, seek}
+use Rattle.calls.specs.Tour.{toured}
+use Rattle.calls.specs.Look.{look}
+use Rattle.calls.specs.Reached.{reachedAt}
 use Rattle.calls.proofs.TourLaws.{moved-more}
 
 -- all the tours of a step

@@ -3,7 +3,7 @@ use borrow.Author.Needs.{needs}
 use Rattle.searches.proofs.tour.above_of.Statement.{statement}
 use Rattle.searches.proofs.tour.above_of.Tie as tie
 use borrow.Author.Tests.{eq-eqb, ne-eqb}
-use Rattle.calls.specs.Tour.{aboveOf}
+use Rattle.calls.specs.Reached.{aboveOf}
 
 read-row-requires : tie.Need-read-row-requires
 read-row-requires c κs = search needs

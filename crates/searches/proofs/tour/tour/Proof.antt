@@ -3,7 +3,7 @@ use borrow.Author.Needs.{needs}
 use Rattle.searches.proofs.tour.tour.Statement.{statement}
 use Rattle.searches.proofs.tour.tour.Tie as tie
 use borrow.Author.Tests.{eq-eqb, ne-eqb}
-use Rattle.calls.specs.Tour.{moved}
+use Rattle.calls.specs.Reached.{moved}
 
 pick-requires : tie.Need-pick-requires
 pick-requires c κs = search needs

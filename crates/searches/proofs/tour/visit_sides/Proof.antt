@@ -6,7 +6,7 @@ use mathlib.Core.Path.{sym, ap, _∙_}
 use mathlib.Core.Bool.{Bool, _&&_}
 use lib.Dec.{eqb}
 use denote.Ref.{now}
-use Rattle.calls.specs.Tour.{pastSide}
+use Rattle.calls.specs.Reached.{pastSide}
 
 child-at-requires : tie.Need-child-at-requires
 child-at-requires c κs = search needs

@@ -19,9 +19,6 @@ is-unfinished-requires c κs = search needs
 pick-requires-2 : tie.Need-pick-requires-2
 pick-requires-2 c κs = search needs
 
-opened-requires : tie.Need-opened-requires
-opened-requires c κs = search needs
-
 is-opened-requires : tie.Need-is-opened-requires
 is-opened-requires c κs = search needs
 
@@ -44,7 +41,6 @@ first-failed-spec =
     read-state-requires
     is-unfinished-requires
     pick-requires-2
-    opened-requires
     is-opened-requires
     pick-requires-3
     pick-requires-4

@@ -7,8 +7,8 @@ use Rattle.calls.specs.Step.{fieldsSound}
 common-sound-requires : tie.Need-common-sound-requires
 common-sound-requires c κs = search needs
 
-get-requires : tie.Need-get-requires
-get-requires c κs = search needs
+read-counts-requires : tie.Need-read-counts-requires
+read-counts-requires c κs = search needs
 
 call-sound-requires : tie.Need-call-sound-requires
 call-sound-requires c κs = search needs
@@ -19,4 +19,4 @@ returns c = cc
 
 pub records-sound-spec : {M : Type 1} → statement M
 records-sound-spec =
-    tie.close (tie.spec common-sound-requires get-requires call-sound-requires returns)
+    tie.close (tie.spec common-sound-requires read-counts-requires call-sound-requires returns)

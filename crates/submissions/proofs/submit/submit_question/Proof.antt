@@ -19,9 +19,6 @@ pick-requires c κs = search needs
 pick-requires-2 : tie.Need-pick-requires-2
 pick-requires-2 c κs = search needs
 
-opened-requires : tie.Need-opened-requires
-opened-requires c κs = search needs
-
 is-opened-requires : tie.Need-is-opened-requires
 is-opened-requires c κs = search needs
 
@@ -41,7 +38,6 @@ submit-question-spec =
     call-question-requires
     pick-requires
     pick-requires-2
-    opened-requires
     is-opened-requires
     pick-requires-3
     returns)

@@ -7,8 +7,8 @@ use Rattle.calls.specs.Submit.{aimedWords, submittedWords}
 read-state-requires : tie.Need-read-state-requires
 read-state-requires c κs = search needs
 
-get-requires : tie.Need-get-requires
-get-requires c κs = search needs
+read-counts-requires : tie.Need-read-counts-requires
+read-counts-requires c κs = search needs
 
 call-for-requires : tie.Need-call-for-requires
 call-for-requires c κs = search needs
@@ -40,7 +40,7 @@ write-submitted-spec =
     tie.close
     (tie.spec
     read-state-requires
-    get-requires
+    read-counts-requires
     call-for-requires
     write-call-requires
     submitted-requires

@@ -7,8 +7,8 @@ use Rattle.calls.specs.Take.{takeWords}
 taking-at-requires : tie.Need-taking-at-requires
 taking-at-requires c κs = search needs
 
-write-taken-requires : tie.Need-write-taken-requires
-write-taken-requires c κs = search needs
+write-emptied-requires : tie.Need-write-emptied-requires
+write-emptied-requires c κs = search needs
 
 same-length : tie.Need-same-length
 same-length c = search needs
@@ -18,4 +18,4 @@ unfolding takeWords
 returns c = (cc, cc)
 
 pub take-spec : {M : Type 1} → statement M
-take-spec = tie.close (tie.spec taking-at-requires write-taken-requires same-length returns)
+take-spec = tie.close (tie.spec taking-at-requires write-emptied-requires same-length returns)

@@ -2,12 +2,8 @@
 use borrow.Author.Needs.{needs}
 use Rattle.submissions.proofs.take.taking_at.Statement.{statement}
 use Rattle.submissions.proofs.take.taking_at.Tie as tie
-use mathlib.Core.Path.{sym, ap, _∙_}
-use Rattle.stations.specs.Common.{isOpened}
+use mathlib.Core.Path.{sym, _∙_}
 use Rattle.calls.specs.Take.{takeOf}
-
-opened-requires : tie.Need-opened-requires
-opened-requires c κs = search needs
 
 is-opened-requires : tie.Need-is-opened-requires
 is-opened-requires c κs = search needs
@@ -20,15 +16,13 @@ unfolding takeOf
 returns c =
     let t = c .before in
     let o = t .before in
-    rw (sym (ap isOpened (o .before .opened .ensures)) ∙ sym (o .is-opened .ensures) ∙ t .if1 .taken) (c .station-taking .ensures)
+    rw (sym (o .is-opened .ensures) ∙ t .if1 .taken) (c .station-taking .ensures)
 
 returns-2 : tie.Need-returns-2
 unfolding takeOf
 returns-2 c =
     let o = c .before in
-    rw (sym (ap isOpened (o .before .opened .ensures)) ∙ sym (o .is-opened .ensures) ∙ c .if1 .left)
+    rw (sym (o .is-opened .ensures) ∙ c .if1 .left)
 
 pub taking-at-spec : {M : Type 1} → statement M
-taking-at-spec =
-    tie.close
-    (tie.spec opened-requires is-opened-requires station-taking-requires returns returns-2)
+taking-at-spec = tie.close (tie.spec is-opened-requires station-taking-requires returns returns-2)

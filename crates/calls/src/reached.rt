@@ -1,5 +1,5 @@
 // Where a move of a search leads.
-use crate::search::Progress;
+use crate::progress::Progress;
 
 // Where a search stands, with the parent link of that row on its way up; none on its way down.
 pub struct Reached {

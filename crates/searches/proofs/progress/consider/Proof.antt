@@ -1,9 +1,9 @@
--- `searches::look::consider` meets its contract. Assumes nothing.
+-- `searches::progress::consider` meets its contract. Assumes nothing.
 use borrow.Author.Needs.{needs}
-use Rattle.searches.proofs.look.consider.Statement.{statement}
-use Rattle.searches.proofs.look.consider.Tie as tie
+use Rattle.searches.proofs.progress.consider.Statement.{statement}
+use Rattle.searches.proofs.progress.consider.Tie as tie
 use mathlib.Core.Path.{sym, _∙_}
-use Rattle.calls.specs.Search.{considered}
+use Rattle.calls.specs.Progress.{considered}
 
 prevails-requires : tie.Need-prevails-requires
 prevails-requires c κs = search needs

@@ -1,7 +1,7 @@
--- `submissions::take::write_taken` meets its contract. Assumes nothing.
+-- `submissions::take::write_emptied` meets its contract. Assumes nothing.
 use borrow.Author.Needs.{needs}
-use Rattle.submissions.proofs.take.write_taken.Statement.{statement}
-use Rattle.submissions.proofs.take.write_taken.Tie as tie
+use Rattle.submissions.proofs.take.write_emptied.Statement.{statement}
+use Rattle.submissions.proofs.take.write_emptied.Tie as tie
 
 enum-told : tie.Need-enum-told
 enum-told c = search needs
@@ -12,8 +12,8 @@ enum-told-2 c = search needs
 read-state-requires : tie.Need-read-state-requires
 read-state-requires c κs = search needs
 
-taken-requires : tie.Need-taken-requires
-taken-requires c κs = search needs
+emptied-requires : tie.Need-emptied-requires
+emptied-requires c κs = search needs
 
 write-state-requires : tie.Need-write-state-requires
 write-state-requires c κs = search needs
@@ -29,14 +29,14 @@ returns-2 c =
     let t = c .before .before .before .before .before .before .before in
     rw (t .enum-told2 .given .1) (cc)
 
-pub write-taken-spec : {M : Type 1} → statement M
-write-taken-spec =
+pub write-emptied-spec : {M : Type 1} → statement M
+write-emptied-spec =
     tie.close
     (tie.spec
     enum-told
     enum-told-2
     read-state-requires
-    taken-requires
+    emptied-requires
     write-state-requires
     returns
     same-length

@@ -1,7 +1,7 @@
--- `searches::look::prevails` meets its contract. Assumes nothing.
+-- `searches::progress::prevails` meets its contract. Assumes nothing.
 use borrow.Author.Needs.{needs}
-use Rattle.searches.proofs.look.prevails.Statement.{statement}
-use Rattle.searches.proofs.look.prevails.Tie as tie
+use Rattle.searches.proofs.progress.prevails.Statement.{statement}
+use Rattle.searches.proofs.progress.prevails.Tie as tie
 use mathlib.Core.Path.{sym, ap, _∙_}
 use mathlib.Core.Bool.{Bool, _&&_}
 use lib.Dec.{leb}

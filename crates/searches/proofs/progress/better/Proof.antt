@@ -1,7 +1,7 @@
--- `searches::look::better` meets its contract. Assumes nothing.
+-- `searches::progress::better` meets its contract. Assumes nothing.
 use borrow.Author.Needs.{needs}
-use Rattle.searches.proofs.look.better.Statement.{statement}
-use Rattle.searches.proofs.look.better.Tie as tie
+use Rattle.searches.proofs.progress.better.Statement.{statement}
+use Rattle.searches.proofs.progress.better.Tie as tie
 use borrow.Author.Tests.{eq-eqb, ne-eqb}
 
 chosen-over-requires : tie.Need-chosen-over-requires
