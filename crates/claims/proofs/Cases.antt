@@ -5,8 +5,10 @@ use mathlib.Core.Path.{_≡_, refl, subst, _∙_}
 use mathlib.Core.Bool.{true}
 use mathlib.Core.List.{List, [], _∷_}
 use lib.ListN.{length}
+use native.Mathlib.Omega.{arith}
 use borrow.Author.Tests.{le-leb}
 use Rattle.points.proofs.Cases.{p1, p2, p3, p4}
+use Rattle.stations.proofs.OpeningLaws.{places-of, limit-of}
 use Rattle.frames.proofs.Cases.{p7, p8}
 use Rattle.table.proofs.Play.{run}
 use Rattle.history.proofs.Called.{Standing, standing-open, called}
@@ -54,12 +56,12 @@ proved-cases = record {
   p2 = p2;
   p3 = p3;
   p4 = p4;
-  p5 = answered-calls 2 10 _ _ refl refl (refl, (refl, (refl, tt))) refl;
-  p5-first = answered-calls 2 10 _ _ refl refl (refl, (refl, (refl, tt))) refl;
-  p6 = answered-calls 2 10 _ _ refl refl (refl, (refl, tt)) refl;
+  p5 = answered-calls 2 10 _ _ (places-of 2 (omega arith) (omega arith)) (limit-of 10 (omega arith) (omega arith)) (refl, (refl, (refl, tt))) refl;
+  p5-first = answered-calls 2 10 _ _ (places-of 2 (omega arith) (omega arith)) (limit-of 10 (omega arith) (omega arith)) (refl, (refl, (refl, tt))) refl;
+  p6 = answered-calls 2 10 _ _ (places-of 2 (omega arith) (omega arith)) (limit-of 10 (omega arith) (omega arith)) (refl, (refl, tt)) refl;
   p7 = p7;
   p8 = p8;
-  p9 = answered-calls 1 10 _ _ refl refl (refl, (refl, tt)) refl;
-  p10 = answered-calls 2 1 _ _ refl refl (refl, (refl, tt)) refl;
-  p10-full = answered-calls 1 1 _ _ refl refl (refl, (refl, tt)) refl;
+  p9 = answered-calls 1 10 _ _ (places-of 1 (omega arith) (omega arith)) (limit-of 10 (omega arith) (omega arith)) (refl, (refl, tt)) refl;
+  p10 = answered-calls 2 1 _ _ (places-of 2 (omega arith) (omega arith)) (limit-of 1 (omega arith) (omega arith)) (refl, (refl, tt)) refl;
+  p10-full = answered-calls 1 1 _ _ (places-of 1 (omega arith) (omega arith)) (limit-of 1 (omega arith) (omega arith)) (refl, (refl, tt)) refl;
 }

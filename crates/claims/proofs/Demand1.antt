@@ -2,8 +2,8 @@
 -- the first check it fails, and a refused call changes no word or byte lent to it."
 -- A defined result, and an end: the functions `open`, `submit`, `step`, `run`, `take`, `withdraw`, `read_report` and `audit` of `steps` have no `requires`; their
 -- contracts are equations of result and slice with `openOf`, `submitOf`, `stepOf`, `runOf`, `takeOf` and `takeWords`, `withdrawOf`, `reportOf`, `verdictOf`, which
--- are defined for every content and every argument; and Rattle proves that each call ends. `read_report` and `audit` are lent the words for reading alone. Of `frames` the same:
--- `read_frame`, `write_frame`, `write_fields`, `apply_frame` and `next_line` are `readOf`, `writtenOf`, `writeOf`, `applyOf` with `applyWords`, and `lineOf` with
+-- are defined for every content and every argument; and Rattle proves that each call ends. `read_report` and `audit` are lent the words for reading alone.
+-- Of `frames`, `readers` and `lines` the same: `read_frame`, `write_frame`, `write_fields`, `apply_frame` and `next_line` are `readOf`, `writtenOf`, `writeOf`, `applyOf` with `applyWords`, and `lineOf` with
 -- `lineWords`; a reader's `next` is `readOf` and `positionAfter`; the bytes are lent for reading alone.
 -- A question is a test and its number; `firstNo` is the number of the first that fails, and 0 where none does.
 use Prim.Native.Nat.{ℕ, _<_}
@@ -19,7 +19,7 @@ use Rattle.claims.specs.Definitions.{Frame, Open, Submit, Step, Take, Ru
 use Rattle.claims.specs.Definitions.{positionAfter, Fields, padded, writtenBytes, writeOf, pointOf, submissionReply, applyOf, appliedNumber, applyWords, lineWords}
 use Rattle.history.proofs.Refused
 use Rattle.frames.proofs.OutcomeLaws
-use Rattle.frames.proofs.LineLaws
+use Rattle.lines.proofs.LineLaws
 
 -- ---- the number of the first check it fails
 

@@ -40,8 +40,8 @@ module _ (t : Table) (p : Point) where
   add-full = Answers.add-full t p
 
   -- "Else 1."
-  pub add-room : (c : ℕ) → curveAt p (t .held) ≡ none → ¬ (t .changes ≡ t .limit) → ¬ (taken t ≡ t .places) → answerOf t (add p c) ≡ answer 1 p c 0
-  add-room = Answers.add-room t p
+  pub add-new : (c : ℕ) → curveAt p (t .held) ≡ none → ¬ (t .changes ≡ t .limit) → ¬ (taken t ≡ t .places) → answerOf t (add p c) ≡ answer 1 p c 0
+  add-new = Answers.add-new t p
 
   -- "Remove: not held? 6."
   pub remove-absent : curveAt p (t .held) ≡ none → answerOf t (remove p) ≡ answer 6 p 0 0

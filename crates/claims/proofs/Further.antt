@@ -6,11 +6,13 @@ use mathlib.Core.Logic.{_⊎_, _↔_}
 use mathlib.Core.Bool.{true}
 use mathlib.Core.List.{List, [], map, append-nil, List·Memᴰ, List·Memᴰ·not-nil}
 use lib.ListN.{length}
+use Rattle.stations.specs.Counts.{countsAt}
+use Rattle.stations.specs.declared.counts.Counts.{Counts}
 use Rattle.claims.specs.Definitions.{Point, orderOf, comparedOf, Looked}
-use Rattle.claims.specs.Definitions.{atChanges, get, rowAt, Spare, isIdle, isUnfinished, stateAt, Record, Table, opened, taken, Event}
+use Rattle.claims.specs.Definitions.{get, rowAt, Spare, isIdle, isUnfinished, stateAt, Record, Table, opened, taken, Event}
 use Rattle.claims.specs.Definitions.{openOf, stepOf, mostSteps, runOf, takeOf, numberOf, reportOf, auditOf, verdictOf, heldIn, recordOf, after, stepped, firstNo, Audited}
 use Rattle.points.proofs.ComparedLaws.{compared-tells}
-use Rattle.history.specs.View.{countsAt, seatAt, Counts}
+use Rattle.history.specs.View.{seatAt}
 use Rattle.history.proofs.OpenEffects.{OpenedAs, open-written}
 use Rattle.history.proofs.OpenBeyond.{open-beyond}
 use Rattle.history.proofs.AuditLaws as Audits
@@ -30,15 +32,15 @@ pub record Fresh (words : List ℕ) (places : ℕ) : Type 0 where
   pub held : (r : Record) → ¬ List·Memᴰ r (map recordOf (heldIn words))
   pub spare : (r : ℕ) → r < 2 * places → (next : ℕ) × (rowAt words (2 * places) r ≡ Spare next 0)
   pub idle : (s : ℕ) → s < 8 → isIdle (stateAt words s) ≡ true
-  pub unchanged : get words atChanges ≡ 0
+  pub unchanged : countsAt words .changes ≡ 0
 
 -- "Opening, also of an opened slice, begins a new history with no record held, every row spare, every station idle and no change counted": for all words, as
 -- `demand-3` is.
 pub opening-fresh : (words : List ℕ) (places limit : ℕ) → openOf words places limit .number ≡ 0 → Fresh (openOf words places limit .words) places
-unfolding opened countsAt seatAt
+unfolding opened seatAt
 opening-fresh words places limit e =
     let a = accepted words places limit e in
-    let w : OpenedAs (openOf words places limit .words) places limit = rw (a .opens) (open-written words places limit (a .places-in) (a .limit-in) (a .room)) in
+    let w : OpenedAs (openOf words places limit .words) places limit = rw (a .opens) (open-written words places limit (a .places-in) (a .limit-in) (a .long)) in
     let m : Moments (openOf words places limit .words) places limit [] = demand-3 words places limit e [] in
     record {
       held = λ r h. List·Memᴰ·not-nil (subst (λ (t : Table). List·Memᴰ r (t .held)) (m .first) (unfold after in (m .agrees [] [] refl .records r .0 h)));

@@ -7,13 +7,14 @@ use mathlib.Core.List.{List, [], _∷_}
 use native.Mathlib.Omega.{arith}
 use lib.Dec.{eqb}
 use borrow.Author.Tests.{eqb-true}
+use Rattle.stations.specs.Common.{placesAt}
 use Rattle.points.proofs.Tests.{and-l}
 use Rattle.history.specs.After.{Answered}
 use Rattle.history.specs.Alone.{stepped, AnsweredAfter}
 use Rattle.history.proofs.Demand3.{accepted}
 use Rattle.history.proofs.Reached.{Stands, history-stands, history-related}
 use Rattle.history.proofs.Run.{run-related}
-use Rattle.claims.specs.Definitions.{Point, atPlaces, get, openedIn, waitingAt, Event, submission, WordReply, done, isOpened, openOf, submitOf, stepOf, isGiven, goesOn, runFor, mostSteps, runOf}
+use Rattle.claims.specs.Definitions.{Point, openedIn, waitingAt, Event, submission, WordReply, done, isOpened, openOf, submitOf, stepOf, isGiven, goesOn, runFor, mostSteps, runOf}
 use Rattle.table.specs.History.{reply}
 use Rattle.history.specs.After.{after}
 
@@ -99,7 +100,7 @@ run-for (suc most) words s = run-later (suc most) words s (run-for most (stepOf 
 -- a run has a step
 most-some : (words : List ℕ) → (m : ℕ) × (mostSteps words ≡ suc m)
 unfolding mostSteps
-most-some words = go (isOpened (openedIn words)) (get words atPlaces)
+most-some words = go (isOpened (openedIn words)) (placesAt words)
   where
     go : (b : Bool) (x : ℕ) → (m : ℕ) × (cond b (16 * x + 64) 1 ≡ suc m)
     go true x = (16 * x + 63, omega arith)

@@ -10,7 +10,9 @@ use native.Mathlib.Omega.{arith}
 use native.Mathlib.Decide.{decLt}
 use borrow.Author.Tests.{lt-ltb, le-ltb}
 use lib.ListN.{length}
-use Rattle.claims.specs.Definitions.{Point, get, inStation, sizeOf, startOf, rowsIn, submitOf, stepOf, takeOf, takeWords, withdrawOf}
+use Rattle.claims.specs.Definitions.{Point, get, inStation, rowsIn, submitOf, stepOf, takeOf, takeWords, withdrawOf}
+use Rattle.words.specs.Layout.{atStation, atRow}
+use Rattle.words.specs.Agree.{startOf, sizeOf}
 use Rattle.history.specs.Touch.{AgreeOn, KeepsOthers, Leaves}
 use Rattle.history.proofs.TouchSubmit.{submit-touch}
 use Rattle.history.proofs.TouchTake.{take-touch}
@@ -35,16 +37,19 @@ pub record Touches (v w v′ w′ : List ℕ) (s : ℕ) (rows : List ℕ) : Type
   pub second-length : length w′ ≡ length w
   pub second-keeps : (k : ℕ) → ¬ Among s rows k → get w′ k ≡ get w k
 
--- ---- the same by regions
+-- ---- the same by regions: sizes and offsets are computed here, so that the claims can speak in plain numbers
 
 station-size : (s : ℕ) → s < 8 → sizeOf (inStation s) ≡ 64
+unfolding startOf sizeOf atStation atRow
 station-size s l = rw (lt-ltb s 8 l)
 
 no-station-size : (s : ℕ) → 8 ≤ s → sizeOf (inStation s) ≡ 0
+unfolding startOf sizeOf atStation atRow
 no-station-size s l = rw (le-ltb s 8 l)
 
 -- a word of a station's region is among these
 station-among : (s : ℕ) (rows : List ℕ) (k : ℕ) → startOf (inStation s) ≤ k → k < startOf (inStation s) + sizeOf (inStation s) → Among s rows k
+unfolding startOf sizeOf atStation atRow
 station-among s rows k l m = go (decLt s 8)
   where
     go : Dec (s < 8) → Among s rows k
@@ -52,6 +57,7 @@ station-among s rows k l m = go (decLt s 8)
     go (no h) = absurd (omega (arith, no-station-size s (omega arith)))
 
 agree-on : {v w : List ℕ} {s : ℕ} {rows : List ℕ} → Alike v w s rows → AgreeOn v w s rows
+unfolding startOf sizeOf atStation atRow
 agree-on {v} {w} {s} {rows} a = record {
   common = record { lengths = a .lengths; words = λ k l m. a .words k (inl (omega arith)) };
   station = record { lengths = a .lengths; words = λ k l m. a .words k (station-among s rows k l m) };
@@ -59,6 +65,7 @@ agree-on {v} {w} {s} {rows} a = record {
 }
 
 alike : {v w : List ℕ} {s : ℕ} {rows : List ℕ} → AgreeOn v w s rows → Alike v w s rows
+unfolding startOf sizeOf atStation atRow
 alike {v} {w} {s} {rows} a = record { lengths = a .common .lengths; words = go }
   where
     go : (k : ℕ) → Among s rows k → get v k ≡ get w k
@@ -67,6 +74,7 @@ alike {v} {w} {s} {rows} a = record { lengths = a .common .lengths; words = go }
     go k (inr (inr x)) = a .row (x .0) (x .1) .words k (x .2) (x .3)
 
 keeps : {v v′ : List ℕ} {s : ℕ} {rows : List ℕ} → KeepsOthers v v′ s rows → (k : ℕ) → ¬ Among s rows k → get v′ k ≡ get v k
+unfolding startOf sizeOf atStation atRow
 keeps {s = s} {rows} x k n =
     x .others k (λ l m. n (inl (omega arith))) (λ l m. n (station-among s rows k l m)) (λ r h l m. n (inr (inr (r, h, l, m))))
 

@@ -22,8 +22,8 @@ abbrev pub made : ℕ → ℕ → Point
 made weight speed = record { grade = pos 12; weight = pos weight; moisture = pos 550; speed = pos speed; draw = pos 0 }
 
 -- 5.5 %, 900 m/min, no draw, and the grade and weight
-abbrev pub sheet : ℕ → ℕ → Point
-sheet grade weight = record { grade = pos grade; weight = pos weight; moisture = pos 550; speed = pos 9_000; draw = pos 0 }
+abbrev pub atWeight : ℕ → ℕ → Point
+atWeight grade weight = record { grade = pos grade; weight = pos weight; moisture = pos 550; speed = pos 9_000; draw = pos 0 }
 
 -- ---- calls one after the other
 
@@ -89,20 +89,20 @@ pub record ProvedCases : Type 0 where
   -- points equal but for weight +5 and speed +5: axis 2
   pub p4 : cutOf (made 8_000 9_000) (made 8_005 9_005) .axis ≡ 2
   -- target weight 9,000, held 8,990 and 9,010: 9,010
-  pub p5 : Answered 2 10 (adds (sheet 12 8_990) 42 ∷ adds (sheet 12 9_010) 41 ∷ seeks (sheet 12 9_000) ∷ [])
-      (answer 1 (sheet 12 8_990) 42 0 ∷ answer 1 (sheet 12 9_010) 41 0 ∷ answer 8 (sheet 12 9_010) 41 100 ∷ [])
+  pub p5 : Answered 2 10 (adds (atWeight 12 8_990) 42 ∷ adds (atWeight 12 9_010) 41 ∷ seeks (atWeight 12 9_000) ∷ [])
+      (answer 1 (atWeight 12 8_990) 42 0 ∷ answer 1 (atWeight 12 9_010) 41 0 ∷ answer 8 (atWeight 12 9_010) 41 100 ∷ [])
   -- also where the heavier was added first
-  pub p5-first : Answered 2 10 (adds (sheet 12 9_010) 41 ∷ adds (sheet 12 8_990) 42 ∷ seeks (sheet 12 9_000) ∷ [])
-      (answer 1 (sheet 12 9_010) 41 0 ∷ answer 1 (sheet 12 8_990) 42 0 ∷ answer 8 (sheet 12 9_010) 41 100 ∷ [])
+  pub p5-first : Answered 2 10 (adds (atWeight 12 9_010) 41 ∷ adds (atWeight 12 8_990) 42 ∷ seeks (atWeight 12 9_000) ∷ [])
+      (answer 1 (atWeight 12 9_010) 41 0 ∷ answer 1 (atWeight 12 8_990) 42 0 ∷ answer 8 (atWeight 12 9_010) 41 100 ∷ [])
   -- target grade 13, only grade 12 held: 9
-  pub p6 : Answered 2 10 (adds (sheet 12 9_000) 41 ∷ seeks (sheet 13 9_000) ∷ []) (answer 1 (sheet 12 9_000) 41 0 ∷ answer 9 (sheet 13 9_000) 0 0 ∷ [])
+  pub p6 : Answered 2 10 (adds (atWeight 12 9_000) 41 ∷ seeks (atWeight 13 9_000) ∷ []) (answer 1 (atWeight 12 9_000) 41 0 ∷ answer 9 (atWeight 13 9_000) 0 0 ∷ [])
   -- step for station 2: bytes 03 00 03 00 02
   pub p7 : (writtenOf (Step 2) .bytes ≡ (3 ∷ 0 ∷ 3 ∷ 0 ∷ 2 ∷ []) ++ replicate 23 0) × (writtenOf (Step 2) .count ≡ 5)
   -- length 1, its byte there: 14
   pub p8 : (byte : ℕ) → readOf (1 ∷ 0 ∷ byte ∷ []) 0 ≡ Refused 14
   -- one place, held point added again: 2
-  pub p9 : Answered 1 10 (adds (sheet 12 9_000) 41 ∷ adds (sheet 12 9_000) 42 ∷ []) (answer 1 (sheet 12 9_000) 41 0 ∷ answer 2 (sheet 12 9_000) 41 0 ∷ [])
+  pub p9 : Answered 1 10 (adds (atWeight 12 9_000) 41 ∷ adds (atWeight 12 9_000) 42 ∷ []) (answer 1 (atWeight 12 9_000) 41 0 ∷ answer 2 (atWeight 12 9_000) 41 0 ∷ [])
   -- limit 1, one add done, new add: 4
-  pub p10 : Answered 2 1 (adds (sheet 12 9_000) 41 ∷ adds (sheet 12 9_001) 42 ∷ []) (answer 1 (sheet 12 9_000) 41 0 ∷ answer 4 (sheet 12 9_001) 0 0 ∷ [])
+  pub p10 : Answered 2 1 (adds (atWeight 12 9_000) 41 ∷ adds (atWeight 12 9_001) 42 ∷ []) (answer 1 (atWeight 12 9_000) 41 0 ∷ answer 4 (atWeight 12 9_001) 0 0 ∷ [])
   -- also when full
-  pub p10-full : Answered 1 1 (adds (sheet 12 9_000) 41 ∷ adds (sheet 12 9_001) 42 ∷ []) (answer 1 (sheet 12 9_000) 41 0 ∷ answer 4 (sheet 12 9_001) 0 0 ∷ [])
+  pub p10-full : Answered 1 1 (adds (atWeight 12 9_000) 41 ∷ adds (atWeight 12 9_001) 42 ∷ []) (answer 1 (atWeight 12 9_000) 41 0 ∷ answer 4 (atWeight 12 9_001) 0 0 ∷ [])

@@ -1,5 +1,5 @@
 -- Every definition that the claims speak of, by the crate and file that has it; what only a proof needs is named there.
--- The code is these definitions: each public function of `steps` and `frames` is proved equal to one, for all words, bytes and arguments.
+-- The code is these definitions: each public function of `openings`, `submissions`, `steps`, `audits`, `frames`, `readers` and `lines` is proved equal to one, for all words, bytes and arguments.
 
 -- ---- points
 
@@ -13,17 +13,18 @@ pub use Rattle.points.specs.Square.{squareOf}
 pub use Rattle.points.specs.Cut.{cutOf, goesLeft}
 -- one grade; which of two points a target chooses, also in words: the nearer, on a tie the heavier
 pub use Rattle.points.specs.Choice.{sameGrade, chosenOver, Chosen}
--- ---- rows
+-- ---- words, stations and rows
 
--- words, rows, and question 4
-pub use Rattle.words.specs.Layout.{atPlaces, atChanges, wordsFor}
+-- words, rows, question 4, and the counts of the common record
+pub use Rattle.words.specs.Layout.{wordsFor}
 pub use Rattle.words.specs.Words.{get}
 pub use Rattle.rows.specs.Row.{rowAt}
 pub use Rattle.rows.specs.declared.row.Row.the-variants.{Spare}
-pub use Rattle.stations.specs.Common.{placesIn, limitIn, openedIn, isOpened, rowsIn}
+pub use Rattle.stations.specs.Common.{placesIn, limitIn, placesAt, openedIn, isOpened, rowsIn}
+pub use Rattle.stations.specs.Counts.{countsAt}
 -- a station's record
 pub use Rattle.stations.specs.Station.{isIdle, isUnfinished, stateAt}
-pub use Rattle.stations.specs.Call.{callAt}
+pub use Rattle.stations.specs.Call.{callAt, kindIn}
 pub use Rattle.stations.specs.Answer.{waitingAt}
 -- where a station's words are, and how many
 pub use Rattle.words.specs.Agree.{inStation, startOf, sizeOf}
@@ -41,13 +42,13 @@ pub use Rattle.table.specs.Table.{searches, others, holding}
 pub use Rattle.table.specs.Event.{Event, submission, singleStep, taking, withdrawal, Reply, submit, take, feed}
 pub use Rattle.table.specs.History.{CanChange}
 unfoldable pub use Rattle.table.specs.History.{reply, answered}
--- ---- steps
+-- ---- calls
 
 -- number and words of a call
 pub use Rattle.calls.specs.Reply.{Reply as WordReply, done}
 -- the calls
 pub use Rattle.calls.specs.Open.{openOf}
-pub use Rattle.calls.specs.Submit.{kindIn, curveFits, submitOf}
+pub use Rattle.calls.specs.Submit.{curveFits, submitOf}
 pub use Rattle.calls.specs.Step.{recordsSound, workOf, stepOf}
 pub use Rattle.calls.specs.Run.{isGiven, goesOn}
 unfoldable pub use Rattle.calls.specs.Run.{runFor, mostSteps, runOf}
@@ -76,23 +77,25 @@ pub use Rattle.history.specs.Questions.{asked}
 unfoldable pub use Rattle.history.specs.Questions.{firstNo}
 -- what document 01's sentence on the audit says
 pub use Rattle.history.specs.Audited.{Audited}
--- ---- frames
+-- ---- numbers, frames and lines
 
 -- a frame, its fields in width, and what a reading finds
 pub use Rattle.frames.specs.declared.frame.Frame.{Frame}
 pub use Rattle.frames.specs.declared.frame.Frame.the-variants.{Open, Submit, Step, Take, Run, Withdraw}
-pub use Rattle.frames.specs.Width.{AllBytes, InWidth}
+pub use Rattle.numbers.specs.Bytes.{AllBytes}
+pub use Rattle.frames.specs.Width.{InWidth}
 pub use Rattle.frames.specs.declared.read.Reading.the-variants.{Read, Refused}
 -- questions 13, 14 and 15; reading at a position, its number, and the position after it
-pub use Rattle.frames.specs.Read.{isKind, isWhole, hasKind, ownLength, readOf, readingNumber, positionAfter}
+pub use Rattle.frames.specs.Shape.{isKind}
+pub use Rattle.frames.specs.Read.{isWhole, hasKind, ownLength, readOf, readingNumber, positionAfter}
 unfoldable pub use Rattle.frames.specs.Read.{frameQuestion}
 -- the 28 bytes of a frame with the count used; writing a kind with its fields
 pub use Rattle.frames.specs.declared.write.Fields.{Fields}
 unfoldable pub use Rattle.frames.specs.Write.{padded, writtenBytes, writtenOf, writeOf}
 -- a frame on the words: what it gives, the number of that, and the words after it; the words after a reading
-pub use Rattle.frames.specs.Apply.{appliedNumber}
-unfoldable pub use Rattle.frames.specs.Apply.{pointOf, submissionReply, applyOf, applyWords}
-unfoldable pub use Rattle.frames.specs.Line.{lineWords}
+pub use Rattle.lines.specs.Apply.{appliedNumber}
+unfoldable pub use Rattle.lines.specs.Apply.{pointOf, submissionReply, applyOf, applyWords}
+unfoldable pub use Rattle.lines.specs.Line.{lineWords}
 -- ---- window
 
 -- a window's state, what is told of the readings present, and what a call gives back

@@ -10,6 +10,8 @@ use mathlib.Core.Option.{Option, none, some}
 use native.Mathlib.Omega.{arith}
 use native.Mathlib.Decide.{decLt}
 use lib.ListN.{length}
+use Rattle.words.specs.Layout.{stations}
+use Rattle.stations.specs.Counts.{countsAt}
 use Rattle.points.specs.declared.point.Point.{Point}
 use Rattle.stations.specs.Station.{isUnfinished, stateAt}
 use Rattle.stations.specs.Call.{callAt}
@@ -17,12 +19,12 @@ use Rattle.table.specs.Call.{Call, add, remove, contains, nearest, Answer, with
 use Rattle.table.specs.Table.{Station, idle, unfinished, waiting, Table, put, withStations}
 use Rattle.table.specs.Event.{singleStep}
 use Rattle.table.specs.History.{answered}
-use Rattle.table.proofs.Eager.{fresh, Settled}
+use Rattle.table.proofs.Eager.{unsettled, Settled}
 use Rattle.table.proofs.Removals.{sinceOf}
 use Rattle.table.proofs.Simulation.{finished}
 use Rattle.table.proofs.Sound.{Sound}
 use Rattle.table.proofs.Stations.{put-other}
-use Rattle.table.proofs.Taken.{search-room}
+use Rattle.table.proofs.Taken.{search-places}
 use Rattle.table.proofs.Retract.{retract}
 use Rattle.table.proofs.Reached.{sound-wait}
 use Rattle.table.proofs.Settled.{busy, retract-ends}
@@ -30,11 +32,11 @@ use Rattle.trees.specs.Measure.{stepMoves}
 use Rattle.calls.specs.Step.{stepOf}
 use Rattle.calls.specs.Withdraw.{withdrawOf, withdrawnWords}
 use Rattle.history.specs.Index.{wordIndex}
-use Rattle.history.specs.View.{Seat, countsAt, seatAt, SameRows}
+use Rattle.history.specs.View.{Seat, seatAt, SameRows}
 use Rattle.history.specs.Related.{Busy, Related}
 use Rattle.history.specs.WaitFree.{mostOwnMoves}
 use Rattle.history.proofs.Outcome.{LeftSays, leftAt, spentBy, Outcome, goesOn, ends, Next}
-use Rattle.history.proofs.Readings.{nearest-search, nearest-fresh}
+use Rattle.history.proofs.Readings.{nearest-search, nearest-unsettled}
 use Rattle.history.proofs.Refused.{step-refused}
 use Rattle.history.proofs.RelatedLaws.{related-idle, related-busy, related-waits}
 use Rattle.history.proofs.Spelled.{tree-same, queue-same}
@@ -57,7 +59,7 @@ record Seeking (t : Table) (s : ℕ) : Type 0 where
   o : Option Answer
   is : t .stations s ≡ unfinished i (nearest p) o
 
-module _ {words : List ℕ} {t : Table} (r : Related words t) (s : ℕ) (l : s < 8) where
+module _ {words : List ℕ} {t : Table} (r : Related words t) (s : ℕ) (l : s < stations) where
   seeking : seatAt words s .state ≡ 1 → seatAt words s .call .kind ≡ 4 → Seeking t s
   seeking one four = go (t .stations s) refl
     where
@@ -71,24 +73,24 @@ module _ {words : List ℕ} {t : Table} (r : Related words t) (s : ℕ) (l : s <
 
   module _ {i : ℕ} {p : Point} {o : Option Answer} (q : t .stations s ≡ unfinished i (nearest p) o) where
     -- what was spent on it, by the table
-    pub spent-here : spentBy (countsAt words) (seatAt words s .place)
+    pub spent-here : spentBy (countsAt words) (seatAt words s .track)
         ≡ 4 * (length (t .held) + (length (t .removals) - sinceOf i (t .removals))) + stepMoves * (length (t .removals) - sinceOf i (t .removals))
     spent-here =
         let held : countsAt words .held ≡ length (t .held) = r .counted .held ∙ r .number in
         let removals : countsAt words .removals ≡ length (t .removals) = r .counted .removals in
-        let since : seatAt words s .place .since ≡ sinceOf i (t .removals) = related-busy r l q .works .since in
+        let since : seatAt words s .track .since ≡ sinceOf i (t .removals) = related-busy r l q .works .since in
         (λ j. 4 * (held j + (removals j - since j)) + stepMoves * (removals j - since j))
 
     -- never more than there is
-    spent-most : Sound t → spentBy (countsAt words) (seatAt words s .place) ≤ mostOwnMoves (t .places)
-    spent-most h = omega (arith, spent-here, search-room t h s i (nearest p) o l q (nearest-search p))
+    spent-most : Sound t → spentBy (countsAt words) (seatAt words s .track) ≤ mostOwnMoves (t .places)
+    spent-most h = omega (arith, spent-here, search-places t h s i (nearest p) o l q (nearest-search p))
 
 -- station s has an unfinished nearest, whose steps that do not answer take at most n together
 pub record Allows (words : List ℕ) (places limit s n : ℕ) : Type 0 where
   pub stands : Stands words places limit
   pub one : seatAt words s .state ≡ 1
   pub four : seatAt words s .call .kind ≡ 4
-  pub few : leftAt (stands .related .tree) (stands .related .queue) (seatAt words s) + mostOwnMoves places ≤ n + spentBy (countsAt words) (seatAt words s .place)
+  pub few : leftAt (stands .related .tree) (stands .related .queue) (seatAt words s) + mostOwnMoves places ≤ n + spentBy (countsAt words) (seatAt words s .track)
 
 pub same-allows : {words words′ : List ℕ} {places limit s n : ℕ} → words′ ≡ words → Allows words places limit s n → Allows words′ places limit s n
 same-allows {words} {words′} {places} {limit} {s} {n} e w = subst (λ (x : List ℕ). Allows x places limit s n) (sym e) w
@@ -104,7 +106,7 @@ still-allows {words} {words′} {places} {limit} {s} {n} w b rows counts seat =
     let tree = tree-same (a .related) (b .related) p rows root head in
     let queue = queue-same (a .related) (b .related) p rows root head in
     let left : leftAt (b .related .tree) (b .related .queue) (seatAt words′ s) ≡ leftAt (a .related .tree) (a .related .queue) (seatAt words s) = (λ j. leftAt (tree j) (queue j) (seat j)) in
-    let spent : spentBy (countsAt words′) (seatAt words′ s .place) ≡ spentBy (countsAt words) (seatAt words s .place) = (λ j. spentBy (counts j) (seat j .place)) in
+    let spent : spentBy (countsAt words′) (seatAt words′ s .track) ≡ spentBy (countsAt words) (seatAt words s .track) = (λ j. spentBy (counts j) (seat j .track)) in
     record { stands = b; one = ap (λ (x : Seat). x .state) seat ∙ w .one; four = ap (λ (x : Seat). x .call .kind) seat ∙ w .four; few = omega (arith, w .few, left, spent) }
 
 -- the first moments of nearest calls allow as much
@@ -114,7 +116,7 @@ settled-allows w = let b = settled-stands (w .stands) in (still-allows w (b .0) 
 
 -- ---- a step of its own
 
-pub own-allows : {words : List ℕ} {places limit s n : ℕ} → s < 8 → (w : Allows words places limit s n) → Settled (w .stands .table) → answered wordIndex words (singleStep s) ≡ false
+pub own-allows : {words : List ℕ} {places limit s n : ℕ} → s < stations → (w : Allows words places limit s n) → Settled (w .stands .table) → answered wordIndex words (singleStep s) ≡ false
     → (m : ℕ) × (stepMoves + m ≤ n) × Allows (stepOf words s .words) places limit s m
 own-allows {words} {places} {limit} {s} {n} l w settled still =
     by (k .o) (k .is) (step-outcome s (k .i) here (nearest (k .p)) (k .o) (w .stands .sound) settled l (k .is) (record { related = r; left = rw (k .is) (b .works, omega (arith, left-here r s l b (b .works))) }))
@@ -154,7 +156,7 @@ own-allows {words} {places} {limit} {s} {n} l w settled still =
 -- ---- an answer at another station
 
 -- where its nearest stays at station s, what others spent is what it has more left
-next-allows : {words words′ : List ℕ} {places limit s u n : ℕ} {t′ : Table} → s < 8 → s ≢ u → (w : Allows words places limit s n) → Settled (w .stands .table)
+next-allows : {words words′ : List ℕ} {places limit s u n : ℕ} {t′ : Table} → s < stations → s ≢ u → (w : Allows words places limit s n) → Settled (w .stands .table)
     → Next (w .stands .related) u words′ t′ → Sound t′ → (t′ .places ≡ w .stands .table .places) × (t′ .limit ≡ w .stands .table .limit)
     → t′ .stations s ≡ w .stands .table .stations s → Allows words′ places limit s n
 next-allows {words} {words′} {places} {limit} {s} {u} {n} {t′} l away w settled x sound alike same = go (k .o) (k .is)
@@ -166,7 +168,7 @@ next-allows {words} {words′} {places} {limit} {s} {u} {n} {t′} l away w sett
     k = seeking (w .stands .related) s l (w .one) (w .four)
 
     go : (o : Option Answer) → t .stations s ≡ unfinished (k .i) (nearest (k .p)) o → Allows words′ places limit s n
-    go none q = absurd (true≢false (sym (nearest-fresh (k .i) (k .p)) ∙ ap fresh (sym q) ∙ settled s l))
+    go none q = absurd (true≢false (sym (nearest-unsettled (k .i) (k .p)) ∙ ap unsettled (sym q) ∙ settled s l))
     go (some a) q =
         let b = related-busy (x .related) l (same ∙ q) in
         record {
@@ -184,14 +186,14 @@ unfolding finished
 finished-other t s c none u d = put-other (t .stations) s u _ d
 finished-other t s c (some a) u d = put-other (t .stations) s u _ d
 
-module _ {words : List ℕ} {places limit s n : ℕ} (u : ℕ) (l : s < 8) (away : s ≢ u) (w : Allows words places limit s n) (settled : Settled (w .stands .table)) where
+module _ {words : List ℕ} {places limit s n : ℕ} (u : ℕ) (l : s < stations) (away : s ≢ u) (w : Allows words places limit s n) (settled : Settled (w .stands .table)) where
   abbrev t : Table
   t = w .stands .table
 
   abbrev r : Related words t
   r = w .stands .related
 
-  step-allows : (j : ℕ) (c : Call) (o : Option Answer) (m : ℕ) → u < 8 → t .stations u ≡ unfinished j c o → Outcome r u c o m (stepOf words u) → Allows (stepOf words u .words) places limit s n
+  step-allows : (j : ℕ) (c : Call) (o : Option Answer) (m : ℕ) → u < stations → t .stations u ≡ unfinished j c o → Outcome r u c o m (stepOf words u) → Allows (stepOf words u .words) places limit s n
   step-allows j c o m h q (goesOn e x f z d) =
       let k = seeking r s l (w .one) (w .four) in
       let b = related-busy (z .related) l (k .is) in
@@ -209,14 +211,14 @@ module _ {words : List ℕ} {places limit s n : ℕ} (u : ℕ) (l : s < 8) (away
   pub other-allows : Allows (stepOf words u .words) places limit s n
   other-allows = go (isUnfinished (stateAt words u)) refl (decLt u 8)
     where
-      at : u < 8 → isUnfinished (stateAt words u) ≡ true → (x : Station) → t .stations u ≡ x → Allows (stepOf words u .words) places limit s n
+      at : u < stations → isUnfinished (stateAt words u) ≡ true → (x : Station) → t .stations u ≡ x → Allows (stepOf words u .words) places limit s n
       at h f idle q = absurd (true≢false (sym f ∙ quiet-state u h idle q tt r))
       at h f (waiting a) q = absurd (true≢false (sym f ∙ quiet-state u h (waiting a) q tt r))
       at h f (unfinished j c o) q =
           let most : ℕ = stepMoves * t .places in
           step-allows j c o most h q (step-outcome u j most c o (w .stands .sound) settled h q (record { related = r; left = rw q (left-most u j c o (w .stands .sound) h q r) }))
 
-      go : (b : Bool) → isUnfinished (stateAt words u) ≡ b → Dec (u < 8) → Allows (stepOf words u .words) places limit s n
+      go : (b : Bool) → isUnfinished (stateAt words u) ≡ b → Dec (u < stations) → Allows (stepOf words u .words) places limit s n
       go false f d = same-allows (step-refused words u (quiet-refused u r f)) w
       go true f (yes h) = at h f (t .stations u) refl
       go true f (no g) = absurd (true≢false (sym f ∙ outside-state words u (omega arith)))
@@ -224,7 +226,7 @@ module _ {words : List ℕ} {places limit s n : ℕ} (u : ℕ) (l : s < 8) (away
 -- ---- other events
 
 -- a submission or a taking, which is not that of a station with an unfinished call
-pub reseats-allows : {words words′ : List ℕ} {places limit s n : ℕ} → s < 8 → (w : Allows words places limit s n) → Stands words′ places limit → (u : ℕ)
+pub reseats-allows : {words words′ : List ℕ} {places limit s n : ℕ} → s < stations → (w : Allows words places limit s n) → Stands words′ places limit → (u : ℕ)
     → Reseats words words′ (2 * w .stands .table .places) u → Allows words′ places limit s n
 reseats-allows l w b u (inl e) = same-allows e w
 reseats-allows {words} {s = s} l w b u (inr c) =
@@ -232,7 +234,7 @@ reseats-allows {words} {s = s} l w b u (inr c) =
     still-allows w b (c .same) (c .counts) (c .others s l away)
 
 -- a withdrawal by another station
-pub withdraw-allows : {words : List ℕ} {places limit s n : ℕ} (u : ℕ) → s < 8 → s ≢ u → (w : Allows words places limit s n) → Settled (w .stands .table)
+pub withdraw-allows : {words : List ℕ} {places limit s n : ℕ} (u : ℕ) → s < stations → s ≢ u → (w : Allows words places limit s n) → Settled (w .stands .table)
     → withdrawOf words u .number ≡ 0 → Allows (withdrawOf words u .words) places limit s n
 unfolding busy
 withdraw-allows {words} {places} {limit} {s} {n} u l away w settled z = go (t .stations u) refl (ends .1)
@@ -240,7 +242,7 @@ withdraw-allows {words} {places} {limit} {s} {n} u l away w settled z = go (t .s
     t : Table
     t = w .stands .table
 
-    ends : (u < 8) × (busy (t .stations u) ≡ true) × (busy (retract t u .next .stations u) ≡ false)
+    ends : (u < stations) × (busy (t .stations u) ≡ true) × (busy (retract t u .next .stations u) ≡ false)
     ends = retract-ends t u (sym (related-withdraws u (w .stands .sound) (w .stands .related) .number) ∙ z)
 
     go : (x : Station) → t .stations u ≡ x → busy (t .stations u) ≡ true → Allows (withdrawOf words u .words) places limit s n

@@ -10,15 +10,13 @@ use native.Mathlib.Omega.{arith}
 use lib.Dec.{eqb}
 use lib.ListN.{length}
 use borrow.Author.Tests.{eqb-true, eq-eqb}
+use Rattle.words.specs.Layout.{mostRows}
+use Rattle.stations.specs.Counts.{countsAt}
 use Rattle.points.specs.Word.{NONE}
-use Rattle.stations.specs.declared.common.Opening.{Opening}
-use Rattle.stations.specs.declared.common.Opening.the-variants.{Refused, Opened}
 use Rattle.rows.specs.declared.row.Row.{Row as WordRow}
 use Rattle.rows.specs.declared.row.Row.the-variants.{Bad, Spare, Removed, Leaf, Cut}
-use Rattle.words.specs.Layout.{atRoot, atHead, atTail, atRemovals}
-use Rattle.words.specs.Words.{get}
 use Rattle.rows.specs.Row.{rowAt}
-use Rattle.stations.specs.Common.{openedIn, leastSince, isOpened, rowsIn}
+use Rattle.stations.specs.Common.{openedIn, leastSince, isOpened, rowsIn, Refused, Opened, Opening}
 use Rattle.stations.proofs.OpeningLaws.{opened-tells}
 use Rattle.trees.specs.Row.{Row, spareRow, removedRow, leafRow, cutRow, Heap}
 use Rattle.trees.specs.Tree.{Tree, top, topOf, Has, Shape, Routed, Distinct, sizeOf, countOf}
@@ -26,13 +24,13 @@ use Rattle.trees.specs.Queue.{Free, headOf, tailOf, Linked, InQueue, Once}
 use Rattle.trees.proofs.Entries.{size-count}
 use Rattle.table.specs.Table.{Table}
 use Rattle.calls.specs.declared.tree.Count.{Count}
-use Rattle.calls.specs.declared.queue.Line.{Line}
+use Rattle.calls.specs.declared.queue.Queued.{Queued}
 use Rattle.calls.specs.Sum.{plus, treeRows}
 use Rattle.calls.specs.Tree.{linksUp, rowSound, scan, rootSound, treeIn}
-use Rattle.calls.specs.Queue.{walkQueue, lineAtHead, queueIn}
+use Rattle.calls.specs.Queue.{walkQueue, queuedAtHead, queueIn}
 use Rattle.calls.specs.Whole.{wholeQueue, allRows}
 use Rattle.calls.specs.Audit.{auditOf}
-use Rattle.history.specs.View.{countsAt, wordRow, Reads}
+use Rattle.history.specs.View.{wordRow, Reads}
 use Rattle.history.specs.Related.{Related}
 use Rattle.history.specs.Audited.{InOrder, Audited}
 use Rattle.history.proofs.RelatedLaws.{rows-in}
@@ -45,7 +43,7 @@ use Rattle.history.proofs.AuditGrow.{grown}
 use Rattle.history.proofs.AuditClimb.{climbs-route, climb-has, top-links, row-holds}
 use Rattle.history.proofs.AuditLeaves.{leaves-counted, rows-counted}
 use Rattle.history.proofs.AuditOrder.{Ordered, ordered-tells, ordered-holds}
-use Rattle.history.proofs.AuditLine.{passAll, all-at, all-last, all-rows, all-tells, all-holds}
+use Rattle.history.proofs.AuditPass.{passAll, all-at, all-last, all-rows, all-tells, all-holds}
 use Rattle.history.proofs.AuditQueue.{Lined, walk-tells, walk-holds}
 
 -- ---- the parts of an audit that says yes
@@ -53,7 +51,7 @@ use Rattle.history.proofs.AuditQueue.{Lined, walk-tells, walk-holds}
 -- the tree, or none, that the rows linked from the root form
 record Planted (words : List ℕ) (rows number : ℕ) : Type 0 where
   tree : Option Tree
-  root : get words atRoot ≡ topOf tree
+  root : countsAt words .root ≡ topOf tree
   shape : Shape (heapOf words rows) tree
   reads : (i : ℕ) → Has tree i → rowAt words rows i ≡ wordRow (heapOf words rows i)
   routed : Routed tree
@@ -61,7 +59,7 @@ record Planted (words : List ℕ) (rows number : ℕ) : Type 0 where
   counted : number ≡ min (sizeOf tree) NONE
 
 -- the tree of the root link, by whether it is none
-planted-of : (words : List ℕ) (rows : ℕ) → rows ≤ 8192 → Sound words rows (get words atRoot) rows → (t : Option Tree) → get words atRoot ≡ topOf t
+planted-of : (words : List ℕ) (rows : ℕ) → rows ≤ mostRows → Sound words rows (countsAt words .root) rows → (t : Option Tree) → countsAt words .root ≡ topOf t
     → Shape (heapOf words rows) t → ((i : ℕ) → Has t i → rowAt words rows i ≡ wordRow (heapOf words rows i)) → Routed t → Distinct t
     → (n : ℕ) → n ≡ length (leavesBelow words rows rows) → Planted words rows (treeRows n)
 planted-of words rows few s t e u w r d n c = record {
@@ -75,80 +73,80 @@ planted-of words rows few s t e u w r d n c = record {
       (λ i m. reads-inside words rows i (heapOf words rows i) (w i m)) (λ i l y. has i l (rowAt words rows i) refl y (s i l)));
 }
   where
-    has : (i : ℕ) → i < rows → (row : WordRow) → rowAt words rows i ≡ row → IsLeaf row → rowSound words rows (get words atRoot) i row ≡ true → Has t i
+    has : (i : ℕ) → i < rows → (row : WordRow) → rowAt words rows i ≡ row → IsLeaf row → rowSound words rows (countsAt words .root) i row ≡ true → Has t i
     has i l Bad f y z = absurd (false≢true z)
     has i l (Spare next freed) f y z = absurd (omega (arith, y))
     has i l (Removed next freed added point curve) f y z = absurd (omega (arith, y))
     has i l (Leaf over added point curve) f y z =
-        climb-has words rows (heapOf words rows) t u w (get words atRoot) point e rows i over (λ x. absurd (omega arith)) z
+        climb-has words rows (heapOf words rows) t u w (countsAt words .root) point e rows i over (λ x. absurd (omega arith)) z
     has i l (Cut over k left right) f y z = absurd (omega (arith, y))
 
-tree-tells : (words : List ℕ) → rowsIn words ≤ 8192 → treeIn words .sound ≡ true → Planted words (rowsIn words) (treeRows (treeIn words .leaves))
+tree-tells : (words : List ℕ) → rowsIn words ≤ mostRows → treeIn words .sound ≡ true → Planted words (rowsIn words) (treeRows (treeIn words .leaves))
 unfolding treeIn
 tree-tells words few y =
-    let both = and-eq-true-iff (leaves .sound) (rootSound (get words atRoot) (rowAt words (rowsIn words) (get words atRoot))) .0 y in
-    go (eqb (get words atRoot) NONE) refl (scan-tells words (rowsIn words) (get words atRoot) (rowsIn words) (both .0)) (both .1)
+    let both = and-eq-true-iff (leaves .sound) (rootSound (countsAt words .root) (rowAt words (rowsIn words) (countsAt words .root))) .0 y in
+    go (eqb (countsAt words .root) NONE) refl (scan-tells words (rowsIn words) (countsAt words .root) (rowsIn words) (both .0)) (both .1)
   where
     leaves : Count
-    leaves = scan words (rowsIn words) (get words atRoot) (rowsIn words)
+    leaves = scan words (rowsIn words) (countsAt words .root) (rowsIn words)
 
-    many : Sound words (rowsIn words) (get words atRoot) (rowsIn words) → leaves .leaves ≡ length (leavesBelow words (rowsIn words) (rowsIn words))
-    many s = scan-counts words (rowsIn words) (get words atRoot) (rowsIn words) few s
+    many : Sound words (rowsIn words) (countsAt words .root) (rowsIn words) → leaves .leaves ≡ length (leavesBelow words (rowsIn words) (rowsIn words))
+    many s = scan-counts words (rowsIn words) (countsAt words .root) (rowsIn words) few s
 
-    go : (b : Bool) → eqb (get words atRoot) NONE ≡ b → Sound words (rowsIn words) (get words atRoot) (rowsIn words)
-        → (b || linksUp NONE (rowAt words (rowsIn words) (get words atRoot))) ≡ true
+    go : (b : Bool) → eqb (countsAt words .root) NONE ≡ b → Sound words (rowsIn words) (countsAt words .root) (rowsIn words)
+        → (b || linksUp NONE (rowAt words (rowsIn words) (countsAt words .root))) ≡ true
         → Planted words (rowsIn words) (treeRows (leaves .leaves))
     go true e s z =
-        planted-of words (rowsIn words) few s none (eqb-true (get words atRoot) NONE e) tt (λ i m. absurd m) tt tt (leaves .leaves) (many s)
+        planted-of words (rowsIn words) few s none (eqb-true (countsAt words .root) NONE e) tt (λ i m. absurd m) tt tt (leaves .leaves) (many s)
     go false e s z =
-        let w = grown words (rowsIn words) (get words atRoot) few s (get words atRoot) z in
-        let r = climbs-route words (rowsIn words) (get words atRoot) s few (heapOf words (rowsIn words)) NONE (w .tree) (w .shape) (w .reads) (w .forked) in
+        let w = grown words (rowsIn words) (countsAt words .root) few s (countsAt words .root) z in
+        let r = climbs-route words (rowsIn words) (countsAt words .root) s few (heapOf words (rowsIn words)) NONE (w .tree) (w .shape) (w .reads) (w .forked) in
         planted-of words (rowsIn words) few s (some (w .tree)) (sym (w .from)) (w .shape) (w .reads) (r .0)
         (tree-distinct (heapOf words (rowsIn words)) NONE (w .tree) (w .shape) (w .forked)
         (λ m. absurd (omega (arith, reads-inside words (rowsIn words) NONE (heapOf words (rowsIn words) NONE) (w .reads NONE m)))))
         (leaves .leaves) (many s)
 
 -- the free rows' queue
-record Queued (words : List ℕ) (rows number : ℕ) : Type 0 where
+record InLine (words : List ℕ) (rows number : ℕ) : Type 0 where
   queue : List Free
-  head : get words atHead ≡ headOf queue
-  tail : 1 ≤ length queue → get words atTail ≡ tailOf queue
+  head : countsAt words .head ≡ headOf queue
+  tail : 1 ≤ length queue → countsAt words .tail ≡ tailOf queue
   linked : Linked (heapOf words rows) queue
   reads : (i : ℕ) → InQueue queue i → rowAt words rows i ≡ wordRow (heapOf words rows i)
   once : Once queue
-  order : InOrder queue (get words atRemovals) (leastSince words)
+  order : InOrder queue (countsAt words .removals) (leastSince words)
   counted : number ≡ min (length queue) NONE
 
-queue-of : (words : List ℕ) (rows : ℕ) (end : Line) → rows ≤ 8192 → Lined words rows (leastSince words) (lineAtHead words) end → end .sound ≡ true
-    → end .last ≡ get words atTail → end .number ≡ get words atRemovals → Queued words rows (end .rows)
+queue-of : (words : List ℕ) (rows : ℕ) (end : Queued) → rows ≤ mostRows → Lined words rows (leastSince words) (queuedAtHead words) end → end .sound ≡ true
+    → end .last ≡ countsAt words .tail → end .number ≡ countsAt words .removals → InLine words rows (end .rows)
 queue-of words rows end few w s t n =
     let q : List Free = w .queue in
     let there : (i : ℕ) → InQueue q i → i ≢ NONE =
     λ i m e. absurd (omega (arith, reads-inside words rows i (heapOf words rows i) (w .reads i m))) in
-    let sound : passAll (leastSince words) (lineAtHead words) q .sound ≡ true = ap (λ (x : Line). x .sound) (sym (w .walked)) ∙ s in
-    let last : passAll (leastSince words) (lineAtHead words) q .number ≡ get words atRemovals = ap (λ (x : Line). x .number) (sym (w .walked)) ∙ n in
+    let sound : passAll (leastSince words) (queuedAtHead words) q .sound ≡ true = ap (λ (x : Queued). x .sound) (sym (w .walked)) ∙ s in
+    let last : passAll (leastSince words) (queuedAtHead words) q .number ≡ countsAt words .removals = ap (λ (x : Queued). x .number) (sym (w .walked)) ∙ n in
     record {
       queue = q;
       head = sym (w .head);
-      tail = λ k. sym t ∙ ap (λ (x : Line). x .last) (w .walked) ∙ all-last (leastSince words) (lineAtHead words) q (w .head) k;
+      tail = λ k. sym t ∙ ap (λ (x : Queued). x .last) (w .walked) ∙ all-last (leastSince words) (queuedAtHead words) q (w .head) k;
       linked = w .linked;
       reads = w .reads;
       once = linked-once (heapOf words rows) q there (w .linked);
-      order = ordered-tells (leastSince words) q (get words atRemovals)
-          (subst (λ m. Ordered (leastSince words) (leastSince words) false q m) last (all-tells (leastSince words) (lineAtHead words) q sound .1));
-      counted = omega (arith, ap (λ (x : Line). x .rows) (w .walked), all-rows (leastSince words) (lineAtHead words) q 0 refl);
+      order = ordered-tells (leastSince words) q (countsAt words .removals)
+          (subst (λ m. Ordered (leastSince words) (leastSince words) false q m) last (all-tells (leastSince words) (queuedAtHead words) q sound .1));
+      counted = omega (arith, ap (λ (x : Queued). x .rows) (w .walked), all-rows (leastSince words) (queuedAtHead words) q 0 refl);
     }
 
-queue-tells : (words : List ℕ) → rowsIn words ≤ 8192 → wholeQueue words (queueIn words) ≡ true → Queued words (rowsIn words) (queueIn words .rows)
+queue-tells : (words : List ℕ) → rowsIn words ≤ mostRows → wholeQueue words (queueIn words) ≡ true → InLine words (rowsIn words) (queueIn words .rows)
 unfolding queueIn
 queue-tells words few s =
-    let end : Line = walkQueue words (rowsIn words) (leastSince words) (rowsIn words) (lineAtHead words) in
-    let a = and-eq-true-iff ((end .sound && eqb (end .at) NONE) && eqb (end .last) (get words atTail)) (eqb (end .number) (get words atRemovals)) .0 s in
-    let b = and-eq-true-iff (end .sound && eqb (end .at) NONE) (eqb (end .last) (get words atTail)) .0 (a .0) in
+    let end : Queued = walkQueue words (rowsIn words) (leastSince words) (rowsIn words) (queuedAtHead words) in
+    let a = and-eq-true-iff ((end .sound && eqb (end .at) NONE) && eqb (end .last) (countsAt words .tail)) (eqb (end .number) (countsAt words .removals)) .0 s in
+    let b = and-eq-true-iff (end .sound && eqb (end .at) NONE) (eqb (end .last) (countsAt words .tail)) .0 (a .0) in
     let c = and-eq-true-iff (end .sound) (eqb (end .at) NONE) .0 (b .0) in
     queue-of words (rowsIn words) end few
-    (walk-tells words (rowsIn words) (leastSince words) (rowsIn words) (lineAtHead words) (c .0) (eqb-true (end .at) NONE (c .1))) (c .0)
-    (eqb-true (end .last) (get words atTail) (b .1)) (eqb-true (end .number) (get words atRemovals) (a .1))
+    (walk-tells words (rowsIn words) (leastSince words) (rowsIn words) (queuedAtHead words) (c .0) (eqb-true (end .at) NONE (c .1))) (c .0)
+    (eqb-true (end .last) (countsAt words .tail) (b .1)) (eqb-true (end .number) (countsAt words .removals) (a .1))
 
 -- ---- an audit that says yes
 
@@ -158,7 +156,7 @@ free-left places none n p e = omega arith
 free-left places (some t) n p e = omega (arith, size-count t)
 
 -- a tree and a queue that together have so many rows
-audited-of : (words : List ℕ) (places limit n m : ℕ) → openedIn words ≡ Opened places limit → Planted words (2 * places) n → Queued words (2 * places) m
+audited-of : (words : List ℕ) (places limit n m : ℕ) → openedIn words ≡ Opened places limit → Planted words (2 * places) n → InLine words (2 * places) m
     → plus n m ≡ 2 * places → Audited words
 audited-of words places limit n m o t q e =
     let rows : ℕ = 2 * places in
@@ -197,12 +195,12 @@ audited-of words places limit n m o t q e =
 audited : (words : List ℕ) (places limit : ℕ) → openedIn words ≡ Opened places limit → allRows words (treeIn words) (queueIn words) ≡ true → Audited words
 audited words places limit o y =
     let rows = rows-in words places limit o in
-    let few : rowsIn words ≤ 8192 = omega (arith, rows, opened-tells words places limit o .places-most) in
+    let few : rowsIn words ≤ mostRows = omega (arith, rows, opened-tells words places limit o .places-most) in
     let a = and-eq-true-iff (treeIn words .sound && wholeQueue words (queueIn words)) (eqb (plus (treeRows (treeIn words .leaves)) (queueIn words .rows)) (rowsIn words)) .0 y in
     let b = and-eq-true-iff (treeIn words .sound) (wholeQueue words (queueIn words)) .0 (a .0) in
     audited-of words places limit (treeRows (treeIn words .leaves)) (queueIn words .rows) o
     (subst (λ r. Planted words r (treeRows (treeIn words .leaves))) rows (tree-tells words few (b .0)))
-    (subst (λ r. Queued words r (queueIn words .rows)) rows (queue-tells words few (b .1)))
+    (subst (λ r. InLine words r (queueIn words .rows)) rows (queue-tells words few (b .1)))
     (eqb-true (plus (treeRows (treeIn words .leaves)) (queueIn words .rows)) (rowsIn words) (a .1) ∙ rows)
 
 -- where the audit says yes the sentence holds
@@ -224,7 +222,7 @@ free-sound words rows root r (leafRow parent e) y = absurd (false≢true y)
 free-sound words rows root r (cutRow parent k left right) y = absurd (false≢true y)
 
 -- the rows of the tree are sound
-has-sound : (words : List ℕ) (rows : ℕ) → rows ≤ 8192 → (h : Heap) (t : Option Tree) → Shape h t → ((i : ℕ) → Has t i → rowAt words rows i ≡ wordRow (h i)) → Routed t
+has-sound : (words : List ℕ) (rows : ℕ) → rows ≤ mostRows → (h : Heap) (t : Option Tree) → Shape h t → ((i : ℕ) → Has t i → rowAt words rows i ≡ wordRow (h i)) → Routed t
     → Distinct t → sizeOf t ≤ rows → (i : ℕ) → Has t i → rowSound words rows (topOf t) i (rowAt words rows i) ≡ true
 has-sound words rows few h none u w r d l i m = absurd m
 has-sound words rows few h (some t) u w r d l i m = row-holds words rows h t few u w r (forked t d) l i m
@@ -239,7 +237,7 @@ root-sound words rows h (some t) u w = go (eqb (top t) NONE)
     go false = top-links words rows h NONE t u w
 
 -- the tree, where every row is in it or free
-tree-holds : (words : List ℕ) (h : Heap) (t : Option Tree) → rowsIn words ≤ 8192 → get words atRoot ≡ topOf t → Shape h t → Routed t → Distinct t
+tree-holds : (words : List ℕ) (h : Heap) (t : Option Tree) → rowsIn words ≤ mostRows → countsAt words .root ≡ topOf t → Shape h t → Routed t → Distinct t
     → Reads words (rowsIn words) h → ((i : ℕ) → Has t i → i < rowsIn words) → ((i : ℕ) → i < rowsIn words → Has t i ⊎ (isFree (h i) ≡ true)) → sizeOf t ≤ rowsIn words
     → treeIn words ≡ record { leaves = countOf t; sound = true }
 unfolding treeIn
@@ -259,29 +257,29 @@ tree-holds words h t few e u r d w b each l =
     rw (e, scan-holds words rows (topOf t) rows sound, root-sound words rows h t u reads, many) refl
 
 -- the line behind the queue
-whole-of : (words : List ℕ) (l : Line) → l .sound ≡ true → l .at ≡ NONE → l .last ≡ get words atTail → l .number ≡ get words atRemovals → wholeQueue words l ≡ true
-whole-of words l s a t n = rw (s, eq-eqb (l .at) NONE a, eq-eqb (l .last) (get words atTail) t, eq-eqb (l .number) (get words atRemovals) n) refl
+whole-of : (words : List ℕ) (l : Queued) → l .sound ≡ true → l .at ≡ NONE → l .last ≡ countsAt words .tail → l .number ≡ countsAt words .removals → wholeQueue words l ≡ true
+whole-of words l s a t n = rw (s, eq-eqb (l .at) NONE a, eq-eqb (l .last) (countsAt words .tail) t, eq-eqb (l .number) (countsAt words .removals) n) refl
 
-queue-holds : (words : List ℕ) (h : Heap) (q : List Free) → rowsIn words ≤ 8192 → get words atHead ≡ headOf q → get words atTail ≡ tailOf q → 1 ≤ length q → Linked h q
-    → ((i : ℕ) → InQueue q i → rowAt words (rowsIn words) i ≡ wordRow (h i)) → length q ≤ rowsIn words → InOrder q (get words atRemovals) (leastSince words)
+queue-holds : (words : List ℕ) (h : Heap) (q : List Free) → rowsIn words ≤ mostRows → countsAt words .head ≡ headOf q → countsAt words .tail ≡ tailOf q → 1 ≤ length q → Linked h q
+    → ((i : ℕ) → InQueue q i → rowAt words (rowsIn words) i ≡ wordRow (h i)) → length q ≤ rowsIn words → InOrder q (countsAt words .removals) (leastSince words)
     → (wholeQueue words (queueIn words) ≡ true) × (queueIn words .rows ≡ min (length q) NONE)
 unfolding queueIn
 queue-holds words h q few e t k s w l o =
     let there : (i : ℕ) → InQueue q i → i ≢ NONE = λ i m x. absurd (omega (arith, reads-inside words (rowsIn words) i (h i) (w i m))) in
-    let walked = walk-holds words (rowsIn words) (leastSince words) (rowsIn words) h (lineAtHead words) q s w there (sym e) l in
-    let end : Line = passAll (leastSince words) (lineAtHead words) q in
-    let sound = all-holds (leastSince words) (lineAtHead words) q (get words atRemovals) refl (ordered-holds (leastSince words) q (get words atRemovals) o) in
-    let last : end .last ≡ get words atTail = all-last (leastSince words) (lineAtHead words) q (sym e) k ∙ sym t in
-    let rows : end .rows ≡ min (length q) NONE = omega (arith, all-rows (leastSince words) (lineAtHead words) q 0 refl) in
-    subst (λ (x : Line). (wholeQueue words x ≡ true) × (x .rows ≡ min (length q) NONE)) (sym walked)
-    (whole-of words end (sound .0) (all-at (leastSince words) (lineAtHead words) q (sym e)) last (sound .1), rows)
+    let walked = walk-holds words (rowsIn words) (leastSince words) (rowsIn words) h (queuedAtHead words) q s w there (sym e) l in
+    let end : Queued = passAll (leastSince words) (queuedAtHead words) q in
+    let sound = all-holds (leastSince words) (queuedAtHead words) q (countsAt words .removals) refl (ordered-holds (leastSince words) q (countsAt words .removals) o) in
+    let last : end .last ≡ countsAt words .tail = all-last (leastSince words) (queuedAtHead words) q (sym e) k ∙ sym t in
+    let rows : end .rows ≡ min (length q) NONE = omega (arith, all-rows (leastSince words) (queuedAtHead words) q 0 refl) in
+    subst (λ (x : Queued). (wholeQueue words x ≡ true) × (x .rows ≡ min (length q) NONE)) (sym walked)
+    (whole-of words end (sound .0) (all-at (leastSince words) (queuedAtHead words) q (sym e)) last (sound .1), rows)
 
 -- where the sentence holds the audit says yes
 pub audit-complete : {words : List ℕ} → Audited words → auditOf words ≡ true
 unfolding auditOf
 audit-complete {words} a =
     let rows = rows-in words (a .places) (a .limit) (a .opened) in
-    let few : rowsIn words ≤ 8192 = omega (arith, rows, opened-tells words (a .places) (a .limit) (a .opened) .places-most) in
+    let few : rowsIn words ≤ mostRows = omega (arith, rows, opened-tells words (a .places) (a .limit) (a .opened) .places-most) in
     let all : sizeOf (a .tree) + length (a .queue) ≡ rowsIn words =
     rows-all (2 * a .places) (a .tree) (a .queue) (a .distinct) (a .once) (a .inside) (a .free) (a .apart) (a .each) ∙ sym rows in
     let not-empty = free-left (a .places) (a .tree) (length (a .queue)) (opened-tells words (a .places) (a .limit) (a .opened) .places-least) (all ∙ rows) in
@@ -305,7 +303,6 @@ audit-exact words = (audit-sound words, audit-complete)
 
 -- the sentence holds of words that are related to a table
 pub audit-related : {words : List ℕ} {t : Table} → Related words t → Audited words
-unfolding countsAt
 audit-related {words} {t} r =
     let s = r .store in
     let o = s .queue in
@@ -329,5 +326,5 @@ audit-related {words} {t} r =
       apart = s .apart;
       distinct = s .distinct;
       once = s .once;
-      order = record { spare = o .spare; awaited = o .awaited; parts = o .parts; counted = o .counted ∙ sym (r .counted .removals); past = o .past };
+      order = record { spare = o .ready; awaited = o .awaited; parts = o .parts; counted = o .counted ∙ sym (r .counted .removals); past = o .past };
     }

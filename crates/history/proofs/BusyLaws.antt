@@ -1,18 +1,19 @@
--- An unfinished call goes on: at another table, tree, queue or place its seat has to say anew only as-of, phase and work (`busy-on`).
+-- An unfinished call goes on: at another table, tree, queue or track its seat has to say anew only as-of, phase and work (`busy-on`).
 use Prim.Native.Nat.{ℕ, _≤_}
 use mathlib.Core.List.{List}
 use mathlib.Core.Option.{Option}
+use Rattle.stations.specs.declared.track.Track.{Track}
 use Rattle.table.specs.Call.{Call, Answer}
 use Rattle.table.specs.Table.{Table}
 use Rattle.trees.specs.Tree.{Tree}
 use Rattle.trees.specs.Queue.{Free}
-use Rattle.history.specs.View.{Place, Seat, withPlace}
+use Rattle.history.specs.View.{Seat, withTrack}
 use Rattle.history.specs.Related.{Works, Busy}
 
 pub busy-on : {t : Table} {tree : Option Tree} {queue : List Free} {seat : Seat} {i : ℕ} {call : Call} {set : Option Answer} → Busy t tree queue seat i call set
-    → {t′ : Table} {tree′ : Option Tree} {queue′ : List Free} {set′ : Option Answer} (place : Place) → seat .call .asof ≤ t′ .changes → place .phase ≤ 1
-    → Works t′ tree′ queue′ (withPlace seat place) i call set′ → Busy t′ tree′ queue′ (withPlace seat place) i call set′
-busy-on v place asof phase works = record {
+    → {t′ : Table} {tree′ : Option Tree} {queue′ : List Free} {set′ : Option Answer} (track : Track) → seat .call .asof ≤ t′ .changes → track .phase ≤ 1
+    → Works t′ tree′ queue′ (withTrack seat track) i call set′ → Busy t′ tree′ queue′ (withTrack seat track) i call set′
+busy-on v track asof phase works = record {
   state = v .state;
   kind = v .kind;
   point = v .point;

@@ -6,6 +6,8 @@ use mathlib.Core.Bool.{false}
 use mathlib.Core.List.{List}
 use mathlib.Core.Option.{Option, some}
 use native.Mathlib.Omega.{arith}
+use Rattle.words.specs.Layout.{stations}
+use Rattle.stations.specs.Track.{standing}
 use Rattle.points.specs.declared.point.Point.{Point}
 use Rattle.table.specs.Call.{Call, callOf, nearest, Answer, isChange, isSearch}
 use Rattle.table.specs.Table.{idle, unfinished, waiting, Table, eight, opened, answerOf, changedIf}
@@ -14,7 +16,7 @@ use Rattle.table.proofs.Stations.{put-same}
 use Rattle.table.proofs.Sound.{Sound, sound-opened}
 use Rattle.table.proofs.Reached.{sound-submit}
 use Rattle.table.proofs.Alike.{Alike, alike-refl, alike-trans, alike-settled, alike-submit, alike-answer, alike-changed}
-use Rattle.table.proofs.Eager.{fresh, settle}
+use Rattle.table.proofs.Eager.{unsettled, settle}
 use Rattle.table.proofs.Settled.{settled, settle-stays}
 use Rattle.table.proofs.Simulation.{finished}
 use Rattle.table.proofs.Searched.{submit-accepted}
@@ -66,7 +68,7 @@ standing-open words places limit e =
     (record {
       table = opened places limit;
       sound = sound-opened places limit;
-      related = related-open words places limit (a .places-in) (a .limit-in) (a .room);
+      related = related-open words places limit (a .places-in) (a .limit-in) (a .long);
       alike = alike-refl (opened places limit);
     })
 
@@ -76,7 +78,7 @@ pub record Called (words : List ℕ) (u : Table) (w : Standing words u) (s kind 
   pub gives : CallGives words s kind p c (answerOf u (callOf kind p c))
   pub standing : Standing (calledWords words s kind p c) (changedIf (isChange (answerOf u (callOf kind p c))) u (callOf kind p c))
   pub own : standing .table .stations s ≡ idle
-  pub others : (v : ℕ) → ¬ (v ≡ s) → fresh (w .table .stations v) ≡ false → standing .table .stations v ≡ w .table .stations v
+  pub others : (v : ℕ) → ¬ (v ≡ s) → unsettled (w .table .stations v) ≡ false → standing .table .stations v ≡ w .table .stations v
 
 pub called : {words : List ℕ} {u : Table} (w : Standing words u) (s kind : ℕ) (p : Point) (c : ℕ) → submit u s kind p c .number ≡ 0 → Called words u w s kind p c
 called {words} {u} w s kind p c e =
@@ -135,12 +137,12 @@ begun {words} {u} w s c p e =
     )
 
 -- a run of a station whose answer is set down gives it
-pub set-gives : {words : List ℕ} {t : Table} (s i : ℕ) (c : Call) (a : Answer) → Sound t → Related words t → s < 8 → t .stations s ≡ unfinished i c (some a) → RunGives words s a
-unfolding fresh finished
+pub set-gives : {words : List ℕ} {t : Table} (s i : ℕ) (c : Call) (a : Answer) → Sound t → Related words t → s < stations → t .stations s ≡ unfinished i c (some a) → RunGives words s a
+unfolding unsettled finished
 set-gives {words} {t} s i c a h r l q =
     let set : Table = settle eight t in
     let y = related-settled t h r in
-    let e : set .stations s ≡ unfinished i c (some a) = settle-stays t s (ap fresh q) ∙ q in
+    let e : set .stations s ≡ unfinished i c (some a) = settle-stays t s (ap unsettled q) ∙ q in
     let w = stepped-ends set s i c (some a) (y .0) (settled t) l e words (stepMoves * set .places) (most-left s i c (some a) (y .0) l e (y .1)) in
     let g : runOf words s ≡ done (stepped (suc (w .before)) words s) = run-related s (w .before) (y .1) (omega (arith, w .few)) (w .answered) in
     let ending : Table = finished set s c (some a) in

@@ -9,6 +9,7 @@ use native.Mathlib.Omega.{arith}
 use native.Mathlib.Decide.{ℕ-discrete}
 use lib.Dec.{eqb, leb}
 use borrow.Author.Tests.{eq-eqb, ne-eqb, le-leb, lt-leb}
+use Rattle.words.specs.Layout.{stations}
 use Rattle.points.proofs.Tests.{and-i}
 use Rattle.points.specs.declared.point.Point.{Point}
 use Rattle.points.specs.Order.{samePoint}
@@ -34,7 +35,7 @@ use Rattle.calls.specs.Answer.{answer as given, answeredWords}
 use Rattle.calls.specs.Insert.{insertOf}
 use Rattle.calls.specs.Unlink.{unlinkOf}
 use Rattle.calls.specs.Walk.{codeOf, codeAt, plainAnswer, conclude}
-use Rattle.history.specs.View.{countsAt, seatAt, wordRow}
+use Rattle.history.specs.View.{seatAt, wordRow}
 use Rattle.history.specs.Related.{recordOf, kindOf, Busy, Related}
 use Rattle.history.proofs.Readings.{plain-change}
 use Rattle.history.proofs.Effects.{reads-in}
@@ -90,14 +91,14 @@ module _ {words : List ℕ} {t : Table} (sound : Sound t) (r : Related words t) 
 
 -- ---- plain answers
 
-module _ {words : List ℕ} {t : Table} {s i : ℕ} {c : Call} (sound : Sound t) (l : s < 8) (q : t .stations s ≡ unfinished i c none) (r : Related words t) where
+module _ {words : List ℕ} {t : Table} {s i : ℕ} {c : Call} (sound : Sound t) (l : s < stations) (q : t .stations s ≡ unfinished i c none) (r : Related words t) where
   busy : Busy t (r .tree) (r .queue) (seatAt words s) i c none
   busy = related-busy r l q
 
   -- the code is worked out from the table's kind, point and counts
   code-is : (row : WordRow)
       → codeAt words (callAt words s) row ≡ codeOf (kindOf c) (holdsPoint (pointOf c) row) (eqb (t .changes) (t .limit)) (leb (t .places) (taken t))
-  unfolding codeAt seatAt countsAt
+  unfolding codeAt seatAt
   code-is row = rw (busy .kind, busy .point, r .counted .changes, word-limit r, word-places r, related-taken r sound)
 
   -- a code that is no change is answered, with nothing else written
@@ -115,7 +116,7 @@ module _ {words : List ℕ} {t : Table} {s i : ℕ} {c : Call} (sound : Sound t)
 -- ---- the decision of each call
 
 -- "Add: held already? 2. Else changes used up? 4. Else every place taken? 3. Else 1."
-pub add-decides : {words : List ℕ} {t : Table} {s i n v : ℕ} {p : Point} (at : ℕ) (row : WordRow) → Sound t → s < 8 → t .stations s ≡ unfinished i (add p v) none → (r : Related words t) → Decided t p row
+pub add-decides : {words : List ℕ} {t : Table} {s i n v : ℕ} {p : Point} (at : ℕ) (row : WordRow) → Sound t → s < stations → t .stations s ≡ unfinished i (add p v) none → (r : Related words t) → Decided t p row
     → (holdsPoint p row ≡ false → curveAt p (t .held) ≡ none → ¬ (t .changes ≡ t .limit) → ¬ (taken t ≡ t .places) → Outcome r s (add p v) none n (insertOf words (2 * t .places) s (callAt words s) at))
     → Outcome r s (add p v) none n (conclude words (2 * t .places) s (callAt words s) at row)
 unfolding codeOf conclude
@@ -127,7 +128,7 @@ add-decides {words} {t} {s} {i} {n} {v} {p} at row sound l q r (absent h e) k = 
     full d (yes f) =
         plain-outcome sound l q r at row 3 0 (code-is sound l q r row ∙ rw (h, ne-eqb (t .changes) (t .limit) d, le-leb (t .places) (taken t) (omega arith))) refl refl refl (omega arith) (omega arith) (omega arith) (add-full t p v e d f)
     full d (no f) =
-        let c : codeAt words (callAt words s) row ≡ 1 = code-is sound l q r row ∙ rw (h, ne-eqb (t .changes) (t .limit) d, lt-leb (t .places) (taken t) (omega (arith, f, sound .room))) in
+        let c : codeAt words (callAt words s) row ≡ 1 = code-is sound l q r row ∙ rw (h, ne-eqb (t .changes) (t .limit) d, lt-leb (t .places) (taken t) (omega (arith, f, sound .bounded))) in
         rw c (k h e d f)
 
     spent : Dec (t .changes ≡ t .limit) → Outcome r s (add p v) none n (conclude words (2 * t .places) s (callAt words s) at row)
@@ -136,7 +137,7 @@ add-decides {words} {t} {s} {i} {n} {v} {p} at row sound l q r (absent h e) k = 
     spent (no d) = full d (ℕ-discrete (taken t) (t .places))
 
 -- "Remove: not held? 6. Else changes used up? 4. Else 5."
-pub remove-decides : {words : List ℕ} {t : Table} {s i n : ℕ} {p : Point} (at : ℕ) (row : WordRow) → Sound t → s < 8 → t .stations s ≡ unfinished i (remove p) none → (r : Related words t) → Decided t p row
+pub remove-decides : {words : List ℕ} {t : Table} {s i n : ℕ} {p : Point} (at : ℕ) (row : WordRow) → Sound t → s < stations → t .stations s ≡ unfinished i (remove p) none → (r : Related words t) → Decided t p row
     → (holdsPoint p row ≡ true → ¬ (t .changes ≡ t .limit) → Outcome r s (remove p) none n (unlinkOf words (2 * t .places) s (callAt words s) at))
     → Outcome r s (remove p) none n (conclude words (2 * t .places) s (callAt words s) at row)
 unfolding codeOf conclude
@@ -152,7 +153,7 @@ remove-decides {words} {t} {s} {i} {n} {p} at row sound l q r (there h f e) k = 
         rw c (k h d)
 
 -- "Contains: 7 with the curve, or 6."
-pub contains-decides : {words : List ℕ} {t : Table} {s i n : ℕ} {p : Point} (at : ℕ) (row : WordRow) → Sound t → s < 8 → t .stations s ≡ unfinished i (contains p) none → (r : Related words t) → Decided t p row
+pub contains-decides : {words : List ℕ} {t : Table} {s i n : ℕ} {p : Point} (at : ℕ) (row : WordRow) → Sound t → s < stations → t .stations s ≡ unfinished i (contains p) none → (r : Related words t) → Decided t p row
     → Outcome r s (contains p) none n (conclude words (2 * t .places) s (callAt words s) at row)
 unfolding codeOf
 contains-decides {words} {t} {s} {i} {n} {p} at row sound l q r (there h f e) =

@@ -6,6 +6,7 @@ use mathlib.Core.List.{List}
 use mathlib.Core.Option.{Option, none, some}
 use native.Mathlib.Omega.{arith}
 use borrow.Author.Tests.{lt-ltb}
+use Rattle.words.specs.Layout.{stations}
 use Rattle.points.specs.declared.point.Point.{Point}
 use Rattle.table.specs.Call.{Call, callOf, Answer, isChange}
 use Rattle.table.specs.Table.{idle, unfinished, waiting, Table, eight, answerOf, changedIf}
@@ -15,7 +16,7 @@ use Rattle.table.proofs.Sound.{Sound, sound-set}
 use Rattle.table.proofs.Reached.{sound-submit, sound-take}
 use Rattle.table.proofs.Trim.{trim}
 use Rattle.table.proofs.Alike.{Alike, alike-trim, alike-answer, alike-submit, alike-changed, alike-agree}
-use Rattle.table.proofs.Eager.{fresh, settle}
+use Rattle.table.proofs.Eager.{unsettled, settle}
 use Rattle.table.proofs.Settled.{settled, settle-keeps, settle-stays}
 use Rattle.table.proofs.Simulation.{Matches, finished, simulation-leads}
 use Rattle.table.proofs.Searched.{submit-accepted}
@@ -44,9 +45,9 @@ use Rattle.trees.specs.Measure.{stepMoves}
 -- ---- one call
 
 -- the answer that waits is given
-pub take-given : (t : Table) (s : ℕ) (a : Answer) → s < 8 → t .stations s ≡ waiting a → take t s .given ≡ some a
+pub take-given : (t : Table) (s : ℕ) (a : Answer) → s < stations → t .stations s ≡ waiting a → take t s .given ≡ some a
 unfolding take takeAt
-take-given t s a l e = rw (lt-ltb s 8 l, e)
+take-given t s a l e = rw (lt-ltb s stations l, e)
 
 -- two tables related to the same words have the same places
 same-places : {words : List ℕ} {t u : Table} → Related words t → Related words u → t .places ≡ u .places
@@ -78,7 +79,7 @@ module _ (words : List ℕ) (t : Table) (h : Sound t) (r : Related words t) (s k
   accepts : submit t s kind p c .number ≡ 0
   accepts = sym (related-submits s kind p c h r .number) ∙ e
 
-  pub eighth : s < 8
+  pub eighth : s < stations
   eighth = submit-idle t s kind p c accepts .0
 
   finishing : Finishing t s call set
@@ -117,7 +118,7 @@ module _ (words : List ℕ) (t : Table) (h : Sound t) (r : Related words t) (s k
     left = alike-agree wordIndex (takeWords (ranWords words s kind p c (suc (ran .before))) s) (finishing .left) (related-agrees (sound-take ending s ending-sound) (taking .next));
   }
 
-  -- what it leaves, with a run in the place of its steps
+  -- what it leaves, with a run instead of its steps
   pub record Leaves : Type 0 where
     pub ran-all : runOf begun s ≡ done (ranWords words s kind p c (suc (related-alone .before)))
     pub last : Table
@@ -125,7 +126,7 @@ module _ (words : List ℕ) (t : Table) (h : Sound t) (r : Related words t) (s k
     pub related : Related (takeWords (ranWords words s kind p c (suc (related-alone .before))) s) last
     pub alike : Alike last (changedIf (isChange (answerOf t call)) t call)
     pub own : last .stations s ≡ idle
-    pub others : (v : ℕ) → ¬ (v ≡ s) → fresh (t .stations v) ≡ false → last .stations v ≡ t .stations v
+    pub others : (v : ℕ) → ¬ (v ≡ s) → unsettled (t .stations v) ≡ false → last .stations v ≡ t .stations v
 
   pub alone-leaves : Leaves
   unfolding related-alone enter
@@ -138,7 +139,7 @@ module _ (words : List ℕ) (t : Table) (h : Sound t) (r : Related words t) (s k
     own = finishing-idle t s call set finishing eighth;
     others = λ v n f.
         finishing-other t s call set finishing eighth v n
-        ∙ settle-stays entered v (ap fresh (put-other (t .stations) s v (unfinished (t .calls) call none) n) ∙ f)
+        ∙ settle-stays entered v (ap unsettled (put-other (t .stations) s v (unfinished (t .calls) call none) n) ∙ f)
         ∙ put-other (t .stations) s v (unfinished (t .calls) call none) n;
   }
 

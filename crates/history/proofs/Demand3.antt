@@ -11,7 +11,7 @@ use lib.Dec.{eqb, leb}
 use lib.ListN.{length}
 use borrow.Author.Tests.{ne-eqb, eqb-true, lt-ltb, le-ltb, leb-true}
 use Rattle.points.proofs.Tests.{and-l}
-use Rattle.words.specs.Layout.{wordsFor}
+use Rattle.words.specs.Layout.{wordsFor, stations}
 use Rattle.stations.specs.Common.{placesIn, limitIn}
 use Rattle.stations.specs.Station.{isUnfinished, stateAt}
 use Rattle.table.specs.Call.{Call, Answer}
@@ -42,24 +42,24 @@ use Rattle.trees.specs.Measure.{stepMoves}
 -- ---- whether a step has answered
 
 -- a taking by a station with an unfinished call is refused, by one with a waiting answer accepted
-pub take-busy : (t : Table) (s i : ℕ) (c : Call) (o : Option Answer) → s < 8 → t .stations s ≡ unfinished i c o → take t s .number ≡ 12
+pub take-busy : (t : Table) (s i : ℕ) (c : Call) (o : Option Answer) → s < stations → t .stations s ≡ unfinished i c o → take t s .number ≡ 12
 unfolding take takeAt
-take-busy t s i c o l q = rw (lt-ltb s 8 l, q)
+take-busy t s i c o l q = rw (lt-ltb s stations l, q)
 
 pub finished-waits : (t : Table) (s : ℕ) (c : Call) (o : Option Answer) → (a : Answer) × (finished t s c o .stations s ≡ waiting a)
 unfolding finished
 finished-waits t s c none = (answerOf t c, put-same (t .stations) s (waiting (answerOf t c)))
 finished-waits t s c (some a) = (a, put-same (t .stations) s (waiting a))
 
-pub take-waits : (t : Table) (s : ℕ) (a : Answer) → s < 8 → t .stations s ≡ waiting a → take t s .number ≡ 0
+pub take-waits : (t : Table) (s : ℕ) (a : Answer) → s < stations → t .stations s ≡ waiting a → take t s .number ≡ 0
 unfolding take takeAt
-take-waits t s a l q = rw (lt-ltb s 8 l, q)
+take-waits t s a l q = rw (lt-ltb s stations l, q)
 
 -- the table after a step that answers is sound
-pub finished-sound : (t : Table) (s i : ℕ) (c : Call) (o : Option Answer) → Sound t → s < 8 → t .stations s ≡ unfinished i c o → Sound (finished t s c o)
+pub finished-sound : (t : Table) (s i : ℕ) (c : Call) (o : Option Answer) → Sound t → s < stations → t .stations s ≡ unfinished i c o → Sound (finished t s c o)
 finished-sound t s i c o h l q = sound-feed t (own t (singleStep s) true) (singleStep s) true (accept (finished t s c o)) h (answer-step t s i c o l q)
 
-module _ (words : List ℕ) (t : Table) (s i : ℕ) (c : Call) (o : Option Answer) (h : Sound t) (l : s < 8) (q : t .stations s ≡ unfinished i c o) where
+module _ (words : List ℕ) (t : Table) (s i : ℕ) (c : Call) (o : Option Answer) (h : Sound t) (l : s < stations) (q : t .stations s ≡ unfinished i c o) where
   goes-unanswered : stepOf words s .number ≡ 0 → Related (stepOf words s .words) t → answered wordIndex words (singleStep s) ≡ false
   unfolding answered
   goes-unanswered e r =
@@ -79,11 +79,11 @@ module _ (words : List ℕ) (t : Table) (s i : ℕ) (c : Call) (o : Option Answe
 module _ {words : List ℕ} {t : Table} (s : ℕ) (r : Related words t) where
   step-outside : 8 ≤ s → stepOf words s ≡ record { number = 5; words = words }
   unfolding stepOf
-  step-outside g = rw (r .opened, le-ltb s 8 g)
+  step-outside g = rw (r .opened, le-ltb s stations g)
 
-  step-quiet : s < 8 → isUnfinished (stateAt words s) ≡ false → stepOf words s ≡ record { number = 10; words = words }
+  step-quiet : s < stations → isUnfinished (stateAt words s) ≡ false → stepOf words s ≡ record { number = 10; words = words }
   unfolding stepOf
-  step-quiet l e = rw (r .opened, lt-ltb s 8 l, e)
+  step-quiet l e = rw (r .opened, lt-ltb s stations l, e)
 
 -- the station is idle or has an answer waiting
 abbrev pub Rests : Station → Type 0
@@ -91,7 +91,7 @@ Rests idle = Unit {0}
 Rests (waiting a) = Unit {0}
 Rests (unfinished i c o) = ⊥
 
-pub quiet-state : {words : List ℕ} {t : Table} (s : ℕ) → s < 8 → (x : Station) → t .stations s ≡ x → Rests x → Related words t → isUnfinished (stateAt words s) ≡ false
+pub quiet-state : {words : List ℕ} {t : Table} (s : ℕ) → s < stations → (x : Station) → t .stations s ≡ x → Rests x → Related words t → isUnfinished (stateAt words s) ≡ false
 unfolding seatAt
 quiet-state {words} s l idle q e r = let b : Idle (seatAt words s) = rw q at (r .seats s l) in ne-eqb (stateAt words s .word) 1 (λ z. let y = b .state in omega arith)
 quiet-state {words} s l (waiting a) q e r = let b : Waits (seatAt words s) a = rw q at (r .seats s l) in ne-eqb (stateAt words s .word) 1 (λ z. let y = b .state in omega arith)
@@ -103,19 +103,19 @@ refusal : {words : List ℕ} {t : Table} (s n : ℕ) → stepOf words s ≡ reco
     → Matches wordIndex Related (wordIndex .step words s) (still t s)
 refusal s n e r q = rw (e, q) (record { number = refl; given = refl; next = r })
 
-still-quiet : (t : Table) (s : ℕ) → s < 8 → (x : Station) → t .stations s ≡ x → Rests x → still t s ≡ refuse 10 t
+still-quiet : (t : Table) (s : ℕ) → s < stations → (x : Station) → t .stations s ≡ x → Rests x → still t s ≡ refuse 10 t
 unfolding still stillAt
-still-quiet t s l idle q e = rw (lt-ltb s 8 l, q)
-still-quiet t s l (waiting a) q e = rw (lt-ltb s 8 l, q)
+still-quiet t s l idle q e = rw (lt-ltb s stations l, q)
+still-quiet t s l (waiting a) q e = rw (lt-ltb s stations l, q)
 still-quiet t s l (unfinished i c o) q e = absurd e
 
 still-outside : (t : Table) (s : ℕ) → 8 ≤ s → still t s ≡ refuse 5 t
 unfolding still
-still-outside t s g = rw (le-ltb s 8 g)
+still-outside t s g = rw (le-ltb s stations g)
 
-still-busy : (t : Table) (s i : ℕ) (c : Call) (o : Option Answer) → s < 8 → t .stations s ≡ unfinished i c o → still t s ≡ accept t
+still-busy : (t : Table) (s i : ℕ) (c : Call) (o : Option Answer) → s < stations → t .stations s ≡ unfinished i c o → still t s ≡ accept t
 unfolding still stillAt
-still-busy t s i c o l q = rw (lt-ltb s 8 l, q)
+still-busy t s i c o l q = rw (lt-ltb s stations l, q)
 
 -- a refused step has not answered
 refused-unanswered : {words : List ℕ} (s n : ℕ) → stepOf words s ≡ record { number = suc n; words = words } → answered wordIndex words (singleStep s) ≡ true → ⊥
@@ -127,7 +127,7 @@ refused-unanswered {words} s n e a =
     omega arith
 
 module _ {words : List ℕ} {t : Table} (s : ℕ) (h : Sound t) (k : Settled t) (r : Related words t) where
-  still-matches : (x : Station) → s < 8 → t .stations s ≡ x → answered wordIndex words (singleStep s) ≡ false → Matches wordIndex Related (wordIndex .step words s) (still t s)
+  still-matches : (x : Station) → s < stations → t .stations s ≡ x → answered wordIndex words (singleStep s) ≡ false → Matches wordIndex Related (wordIndex .step words s) (still t s)
   still-matches idle l q a = refusal s 10 (step-quiet s r l (quiet-state s l idle q tt r)) r (still-quiet t s l idle q tt)
   still-matches (waiting b) l q a = refusal s 10 (step-quiet s r l (quiet-state s l (waiting b) q tt r)) r (still-quiet t s l (waiting b) q tt)
   still-matches (unfinished i c o) l q a = go (step-outcome s i (stepMoves * t .places) c o h k l q (most-left s i c o h l q r))
@@ -139,11 +139,11 @@ module _ {words : List ℕ} {t : Table} (s : ℕ) (h : Sound t) (k : Settled t) 
   pub stills : answered wordIndex words (singleStep s) ≡ false → Matches wordIndex Related (wordIndex .step words s) (still t s)
   stills a = go (decLt s 8)
     where
-      go : Dec (s < 8) → Matches wordIndex Related (wordIndex .step words s) (still t s)
+      go : Dec (s < stations) → Matches wordIndex Related (wordIndex .step words s) (still t s)
       go (yes l) = still-matches (t .stations s) l refl a
       go (no g) = refusal s 5 (step-outside s r (omega arith)) r (still-outside t s (omega arith))
 
-  answer-matches : (x : Station) → s < 8 → t .stations s ≡ x → answered wordIndex words (singleStep s) ≡ true → Finishes wordIndex Related words t s
+  answer-matches : (x : Station) → s < stations → t .stations s ≡ x → answered wordIndex words (singleStep s) ≡ true → Finishes wordIndex Related words t s
   answer-matches idle l q a = absurd (refused-unanswered s 9 (step-quiet s r l (quiet-state s l idle q tt r)) a)
   answer-matches (waiting b) l q a = absurd (refused-unanswered s 9 (step-quiet s r l (quiet-state s l (waiting b) q tt r)) a)
   answer-matches (unfinished i c o) l q a = go (step-outcome s i (stepMoves * t .places) c o h k l q (most-left s i c o h l q r))
@@ -155,7 +155,7 @@ module _ {words : List ℕ} {t : Table} (s : ℕ) (h : Sound t) (k : Settled t) 
   pub answers : answered wordIndex words (singleStep s) ≡ true → Finishes wordIndex Related words t s
   answers a = go (decLt s 8)
     where
-      go : Dec (s < 8) → Finishes wordIndex Related words t s
+      go : Dec (s < stations) → Finishes wordIndex Related words t s
       go (yes l) = answer-matches (t .stations s) l refl a
       go (no g) = absurd (refused-unanswered s 4 (step-outside s r (omega arith)) a)
 
@@ -165,7 +165,7 @@ module _ {words : List ℕ} {t : Table} (s : ℕ) (h : Sound t) (k : Settled t) 
 pub record Accepted (words : List ℕ) (places limit : ℕ) : Type 0 where
   pub places-in : placesIn places ≡ true
   pub limit-in : limitIn limit ≡ true
-  pub room : wordsFor places ≤ length words
+  pub long : wordsFor places ≤ length words
   pub opens : openOf words places limit ≡ record { number = 0; words = openedWords words places limit }
 
 pub accepted : (words : List ℕ) (places limit : ℕ) → openOf words places limit .number ≡ 0 → Accepted words places limit
@@ -173,14 +173,14 @@ unfolding openOf
 accepted words places limit e = go (placesIn places) refl (limitIn limit) refl (leb (wordsFor places) (length words)) refl
   where
     go : (a : Bool) → placesIn places ≡ a → (b : Bool) → limitIn limit ≡ b → (c : Bool) → leb (wordsFor places) (length words) ≡ c → Accepted words places limit
-    go true p true m true l = record { places-in = p; limit-in = m; room = leb-true (wordsFor places) (length words) l; opens = rw (p, m, l) }
+    go true p true m true l = record { places-in = p; limit-in = m; long = leb-true (wordsFor places) (length words) l; opens = rw (p, m, l) }
     go false p b m c l = let z : _≡_ {A = ℕ} 1 0 = rw p at e in absurd (omega arith)
     go true p false m c l = let z : _≡_ {A = ℕ} 2 0 = rw (p, m) at e in absurd (omega arith)
     go true p true m false l = let z : _≡_ {A = ℕ} 3 0 = rw (p, m, l) at e in absurd (omega arith)
 
 pub simulation : (words : List ℕ) (places limit : ℕ) → Accepted words places limit → Simulation wordIndex Related (openedWords words places limit) places limit
 simulation words places limit w = record {
-  begins = related-open words places limit (w .places-in) (w .limit-in) (w .room);
+  begins = related-open words places limit (w .places-in) (w .limit-in) (w .long);
   agrees = related-agrees;
   settles = related-settles;
   submits = λ s kind p c h k r. related-submits s kind p c h r;

@@ -7,6 +7,7 @@ use mathlib.Core.List.{List, [], _∷_}
 use native.Mathlib.Omega.{arith}
 use native.Mathlib.Decide.{decLt, ℕ-discrete}
 use borrow.Author.Tests.{eq-eqb, ne-eqb}
+use Rattle.words.specs.Layout.{stations}
 use Rattle.stations.specs.Station.{isUnfinished, stateAt}
 use Rattle.table.specs.Table.{Station, idle, unfinished, waiting, Table}
 use Rattle.table.specs.Event.{Event, submission, singleStep, taking, withdrawal, accept}
@@ -37,7 +38,7 @@ use Rattle.trees.specs.Measure.{stepMoves}
 -- ---- the stations with an unfinished call
 
 -- the words say that a station's call is unfinished exactly if the table does
-pub unfinished-same : {words : List ℕ} {t : Table} → Related words t → (s : ℕ) → s < 8 → isUnfinished (stateAt words s) ≡ busy (t .stations s)
+pub unfinished-same : {words : List ℕ} {t : Table} → Related words t → (s : ℕ) → s < stations → isUnfinished (stateAt words s) ≡ busy (t .stations s)
 unfolding busy seatAt
 unfinished-same {words} {t} r s l = go (t .stations s) refl
   where
@@ -67,7 +68,7 @@ count-none : (words : List ℕ) (s : ℕ) → unfinishedCount words ≡ 0 → is
 unfolding unfinishedCount
 count-none words s z = go (decLt s 8) (isUnfinished (stateAt words s)) refl
   where
-    go : Dec (s < 8) → (b : Bool) → isUnfinished (stateAt words s) ≡ b → b ≡ false
+    go : Dec (s < stations) → (b : Bool) → isUnfinished (stateAt words s) ≡ b → b ≡ false
     go d false u = refl
     go (no g) true u = absurd (true≢false (sym u ∙ outside-state words s (omega arith)))
     go (yes l) true u =
@@ -77,7 +78,7 @@ count-none words s z = go (decLt s 8) (isUnfinished (stateAt words s)) refl
 
 module _ {v w : List ℕ} {t u : Table} (a : Related v t) (b : Related w u) (fewer : (x : ℕ) → busy (u .stations x) ≡ true → busy (t .stations x) ≡ true) where
   -- a station that is busy now was busy before
-  each-le : (x : ℕ) → x < 8 → dealtStep w (singleStep x) ≤ dealtStep v (singleStep x)
+  each-le : (x : ℕ) → x < stations → dealtStep w (singleStep x) ≤ dealtStep v (singleStep x)
   each-le x l = rw (unfinished-same a x l, unfinished-same b x l) (go (busy (u .stations x)) (busy (t .stations x)) (fewer x))
     where
       go : (p q : Bool) → (p ≡ true → q ≡ true) → cond p 1 0 ≤ cond q 1 0
@@ -90,7 +91,7 @@ module _ {v w : List ℕ} {t u : Table} (a : Related v t) (b : Related w u) (few
   count-le = sum-le 8 (λ x. dealtStep v (singleStep x)) (λ x. dealtStep w (singleStep x)) each-le
 
   -- and one of them no longer is
-  count-less : (s : ℕ) → s < 8 → busy (t .stations s) ≡ true → busy (u .stations s) ≡ false → 1 + unfinishedCount w ≤ unfinishedCount v
+  count-less : (s : ℕ) → s < stations → busy (t .stations s) ≡ true → busy (u .stations s) ≡ false → 1 + unfinishedCount w ≤ unfinishedCount v
   unfolding unfinishedCount
   count-less s l p q =
       sum-less 8 s 1 (λ x. dealtStep v (singleStep x)) (λ x. dealtStep w (singleStep x)) l each-le (rw (unfinished-same a s l, unfinished-same b s l, p, q) (omega arith))

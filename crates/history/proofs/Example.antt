@@ -15,17 +15,18 @@ use Rattle.table.specs.Event.{enter, submit}
 use Rattle.table.proofs.Stations.{put-other}
 use Rattle.table.proofs.Sound.{changed-stations}
 use Rattle.table.proofs.Alike.{Alike, alike-refl, alike-answer, alike-idle}
-use Rattle.table.proofs.Eager.{fresh}
+use Rattle.table.proofs.Eager.{unsettled}
 use Rattle.table.proofs.Play.{run}
-use Rattle.table.proofs.Cases.{at, m, p, target}
+use Rattle.table.proofs.Cases.{atWeight, m, p, target}
 use Rattle.calls.specs.Open.{openOf}
 use Rattle.calls.specs.Submit.{submitOf}
+use Rattle.stations.proofs.OpeningLaws.{places-of, limit-of}
 use Rattle.history.proofs.Called.{RunGives, CallGives, calledWords, standing-open, Called, called, Begun, begun, set-gives}
 
 -- "open 2 places, limit 10"
 opens : (words : List ℕ) → 672 ≤ length words → openOf words 2 10 .number ≡ 0
 unfolding openOf
-opens words l = rw (le-leb 672 (length words) l)
+opens words l = rw (places-of 2 (omega arith) (omega arith), limit-of 10 (omega arith) (omega arith), le-leb 672 (length words) l)
 
 -- the table after a call
 abbrev effect : Table → ℕ → Point → ℕ → Table
@@ -35,16 +36,16 @@ effect u kind p c = changedIf (isChange (answerOf u (callOf kind p c))) u (callO
 
 pub record FrameRunner (words : List ℕ) : Type 0 where
   pub opening : openOf words 2 10 .number ≡ 0
-  pub adds : CallGives (openOf words 2 10 .words) 0 1 (at 12 8_000) 41 (answer 1 (at 12 8_000) 41 0)
-  pub finds : CallGives (calledWords (openOf words 2 10 .words) 0 1 (at 12 8_000) 41) 1 4 (at 12 12_000) 0 (answer 8 (at 12 8_000) 41 16_000_000)
+  pub adds : CallGives (openOf words 2 10 .words) 0 1 (atWeight 12 8_000) 41 (answer 1 (atWeight 12 8_000) 41 0)
+  pub finds : CallGives (calledWords (openOf words 2 10 .words) 0 1 (atWeight 12 8_000) 41) 1 4 (atWeight 12 12_000) 0 (answer 8 (atWeight 12 8_000) 41 16_000_000)
 
 -- "station 0 submits add 12, 8000, 550, 9000, 0 with curve 41; run 0; take 0; station 1 submits nearest 12, 12000, 550, 9000, 0; run 1; take 1"
 pub frame-runner : (words : List ℕ) → 672 ≤ length words → FrameRunner words
 unfolding run
 frame-runner words l =
     let w = standing-open words 2 10 (opens words l) in
-    let first = called w 0 1 (at 12 8_000) 41 refl in
-    let second = called (first .standing) 1 4 (at 12 12_000) 0 refl in
+    let first = called w 0 1 (atWeight 12 8_000) 41 refl in
+    let second = called (first .standing) 1 4 (atWeight 12 12_000) 0 refl in
     record { opening = opens words l; adds = first .gives; finds = second .gives }
 
 -- ---- case N
@@ -148,12 +149,12 @@ module _ (words : List ℕ) (l : 672 ≤ length words) where
       (submits-p (effect under 2 m 0) (ap (λ (f : ℕ → Station). f 0) (changed-stations (isChange (answerOf under (callOf 2 m 0))) under (callOf 2 m 0)) ∙ under-idle))
 
   third-set : third .standing .table .stations 1 ≡ unfinished (second .standing .table .calls) (nearest target) (some (answer 8 p 42 1))
-  unfolding fresh
-  third-set = third .others 1 (λ e. omega arith) (ap fresh under-set) ∙ under-set
+  unfolding unsettled
+  third-set = third .others 1 (λ e. omega arith) (ap unsettled under-set) ∙ under-set
 
   fourth-set : fourth .standing .table .stations 1 ≡ unfinished (second .standing .table .calls) (nearest target) (some (answer 8 p 42 1))
-  unfolding fresh
-  fourth-set = fourth .others 1 (λ e. omega arith) (ap fresh third-set) ∙ third-set
+  unfolding unsettled
+  fourth-set = fourth .others 1 (λ e. omega arith) (ap unsettled third-set) ∙ third-set
 
   -- "m and nearer p are held; a nearest is submitted; m is removed and answered, then p." The search answers p, not m.
   pub case-n : CaseN words

@@ -9,16 +9,15 @@ use lib.ListN.{length}
 use Rattle.points.specs.declared.point.Point.{Point}
 use Rattle.points.specs.Cut.{cutOf, goesLeft}
 use Rattle.points.specs.Word.{NONE}
-use Rattle.stations.specs.declared.common.Opening.the-variants.{Opened}
-use Rattle.words.specs.Layout.{atRow, mostRows, Room as RoomIn}
-use Rattle.stations.specs.Common.{openedIn}
+use Rattle.words.specs.Layout.{Fits}
+use Rattle.stations.specs.Common.{openedIn, Opened}
 use Rattle.rows.specs.Row.{rowAt, putRow}
 use Rattle.rows.specs.Grades.{slotOf}
-use Rattle.stations.proofs.OpeningLaws.{opened-tells, opened-room}
+use Rattle.stations.proofs.OpeningLaws.{opened-fits}
 use Rattle.rows.proofs.GradeLaws.{begin-here, begin-there}
 use Rattle.trees.specs.Row.{Entry, Heap}
 use Rattle.trees.specs.Reads.{Leaf}
-use Rattle.calls.specs.declared.insert.Room.{Room}
+use Rattle.calls.specs.declared.insert.Site.{Site}
 use Rattle.calls.specs.Link.{isCut, replaced}
 use Rattle.calls.specs.Insert.{newLeaf, newSide, newCut, putCut, insertRows}
 use Rattle.history.specs.View.{Reads, marksIn}
@@ -26,14 +25,14 @@ use Rattle.history.proofs.Frame.{slot-fits}
 use Rattle.history.proofs.Effects.{row-written}
 use Rattle.history.proofs.RowKinds.{kindAt, cut-next, child-cut}
 use Rattle.history.proofs.RowWrites.{marks-kept, marks-begun}
-use Rattle.history.proofs.InsertRows.{Finds, besideRoom}
+use Rattle.history.proofs.InsertRows.{Finds, besideSite}
 
 module _ (words : List ℕ) {places : ℕ} {h : Heap} {a b : ℕ} {l : Leaf} (w : Finds places h a b l) (reads : Reads words (2 * places) h) (fits : 2 * places ≤ NONE) (base : List ℕ) (new : Entry) where
-  abbrev room : Room
-  room = besideRoom words (2 * places) h a b l
+  abbrev site : Site
+  site = besideSite words (2 * places) h a b l
 
   abbrev written : List ℕ
-  written = insertRows base room (new .added) (new .point) (new .curve)
+  written = insertRows base site (new .added) (new .point) (new .curve)
 
   -- a cut of the heap is neither a free row nor the leaf
   module _ (x : ℕ) (inside : x < 2 * places) (cut : kindAt (h x) ≡ 3) where
@@ -67,29 +66,22 @@ module _ (words : List ℕ) {places : ℕ} {h : Heap} {a b : ℕ} {l : Leaf} (w 
   module _ {limit : ℕ} (o : openedIn base ≡ Opened places limit) where
     -- the words with the new leaf and the cut
     abbrev first : List ℕ
-    first = putRow base a (newLeaf room (new .added) (new .point) (new .curve))
+    first = putRow base a (newLeaf site (new .added) (new .point) (new .curve))
 
     abbrev second : List ℕ
-    second = putRow first b (newCut room (new .point))
+    second = putRow first b (newCut site (new .point))
 
-    there : RoomIn second (2 * places)
+    there : Fits second (2 * places)
     there =
         let e : openedIn second ≡ Opened places limit =
-        row-written first b (newCut room (new .point)) .opened ∙ row-written base a (newLeaf room (new .added) (new .point) (new .curve)) .opened ∙ o in
-        opened-room second places limit (opened-tells second places limit e)
+        row-written first b (newCut site (new .point)) .opened ∙ row-written base a (newLeaf site (new .added) (new .point) (new .curve)) .opened ∙ o in
+        opened-fits second places limit e
 
     -- what the rows written after it leave of its marks
-    after : (side : Bool) (p : Point) → marksIn written b side p ≡ marksIn (putCut first room (new .point)) b side p
+    after : (side : Bool) (p : Point) → marksIn written b side p ≡ marksIn (putCut first site (new .point)) b side p
     unfolding insertRows
     after side p =
         marks-kept _ (l .parent) _ b (λ e. absurd (w .apart .b≢parent e)) side p ∙ marks-kept _ (l .row) _ b (λ e. absurd (w .apart .b≢row e)) side p
-
-    -- row b is in the slice
-    below : b < mostRows
-    below = omega (arith, w .second-row, there .most)
-
-    room-fits : atRow b + 16 ≤ length second
-    room-fits = omega (arith, w .second-row, there .fits)
 
     abbrev own : Bool
     own = goesLeft (cutOf (new .point) (l .entry .point)) (new .point)
@@ -98,10 +90,10 @@ module _ (words : List ℕ) {places : ℕ} {h : Heap} {a b : ℕ} {l : Leaf} (w 
     unfolding putCut newSide
     mark-new =
         after own (new .point)
-        ∙ begin-here second b own (slotOf (new .point)) (slotOf (l .entry .point)) (slot-fits (new .point)) (slot-fits (l .entry .point)) below room-fits
+        ∙ begin-here second b own (slotOf (new .point)) (slotOf (l .entry .point)) (slot-fits (new .point)) (slot-fits (l .entry .point)) (2 * places) there (w .second-row)
 
     pub mark-old : marksIn written b (not own) (l .entry .point) ≡ true
     unfolding putCut newSide
     mark-old =
         after (not own) (l .entry .point)
-        ∙ begin-there second b own (slotOf (new .point)) (slotOf (l .entry .point)) (slot-fits (new .point)) (slot-fits (l .entry .point)) below room-fits
+        ∙ begin-there second b own (slotOf (new .point)) (slotOf (l .entry .point)) (slot-fits (new .point)) (slot-fits (l .entry .point)) (2 * places) there (w .second-row)

@@ -9,6 +9,7 @@ use mathlib.Core.Option.{none, some}
 use native.Mathlib.Omega.{arith}
 use lib.Dec.{eqb, ltb}
 use borrow.Author.Tests.{eq-eqb, ne-eqb, lt-ltb}
+use Rattle.stations.specs.Counts.{countsAt}
 use Rattle.points.specs.declared.point.Point.{Point}
 use Rattle.points.specs.declared.cut.Cut.{Cut}
 use Rattle.points.specs.Point.{inRange}
@@ -16,8 +17,6 @@ use Rattle.points.specs.Cut.{cutOf, goesLeft}
 use Rattle.points.specs.Word.{NONE, cutInRange}
 use Rattle.points.proofs.CutLaws.{cut-in-range}
 use Rattle.rows.specs.declared.row.Row.the-variants.{Bad}
-use Rattle.words.specs.Layout.{atHead}
-use Rattle.words.specs.Words.{get}
 use Rattle.words.specs.Range.{curveIn}
 use Rattle.rows.specs.Row.{rowAt, putRow, inRows}
 use Rattle.words.proofs.RangeLaws.{or-right, link-none, link-row}
@@ -34,9 +33,9 @@ use Rattle.trees.proofs.Insert.{next-free}
 use Rattle.trees.proofs.Room.{room-two, room-one}
 use Rattle.trees.proofs.ReadLaws.{read-above, link-head}
 use Rattle.trees.proofs.WriteLaws.{insert-apart, insert-writes, insert-write}
-use Rattle.calls.specs.declared.insert.Room.{Room}
+use Rattle.calls.specs.declared.insert.Site.{Site}
 use Rattle.calls.specs.Link.{nextOf as nextIn, linksTo, leafPoint, replaced}
-use Rattle.calls.specs.Insert.{roomAt, roomSound, newLeaf, cutWith, newSide, newCut as cutIn, putCut, insertRows}
+use Rattle.calls.specs.Insert.{siteAt, siteSound, newLeaf, cutWith, newSide, newCut as cutIn, putCut, insertRows}
 use Rattle.history.specs.View.{wordRow, Reads, heapPut}
 use Rattle.history.proofs.Effects.{reads-in, put-none}
 use Rattle.history.proofs.RowLinks.{LeafIn, leaf-tells, leaf-of, leaf-in, cut-of, child-words, child-in}
@@ -70,8 +69,8 @@ pub record Finds (places : ℕ) (h : Heap) (a b : ℕ) (l : Leaf) : Type 0 where
 pub beside-finds : {places : ℕ} {h : Heap} {tree : Tree} {queue : List Free} {changes removals released : ℕ} (l : Leaf) → Store places h (some tree) queue changes removals released
     → countOf (some tree) + (removals - released) < places → Has (some tree) (l .row) → h (l .row) ≡ leafRow (l .parent) (l .entry)
     → Finds places h (headOf queue) (nextOf (h (headOf queue))) l
-beside-finds {places} {h} {tree} {queue} l store room has leaf =
-    let spare = room-two store room in
+beside-finds {places} {h} {tree} {queue} l store site has leaf =
+    let spare = room-two store site in
     let first-is : headOf queue ≡ spare .first .row = ap headOf (spare .parts) in
     let second-is : nextOf (h (headOf queue)) ≡ spare .second .row =
     ap (λ (x : ℕ). nextOf (h x)) first-is ∙ ap nextOf (spare .first-reads) ∙ next-free (spare .second .row) (spare .first) in
@@ -94,31 +93,31 @@ beside-finds {places} {h} {tree} {queue} l store room has leaf =
     }
 
 -- what it reads, as the heap says
-abbrev pub besideRoom : List ℕ → ℕ → Heap → ℕ → ℕ → Leaf → Room
-besideRoom words rows h a b l = record {
+abbrev pub besideSite : List ℕ → ℕ → Heap → ℕ → ℕ → Leaf → Site
+besideSite words rows h a b l = record {
   first = a;
-  fresh = wordRow (h a);
+  front = wordRow (h a);
   second = b;
-  spare = wordRow (h b);
+  behind = wordRow (h b);
   at = l .row;
   leaf = wordRow (leafRow (l .parent) (l .entry));
   over = l .parent;
-  above = rowAt words rows (l .parent);
+  cut = rowAt words rows (l .parent);
 }
 
 -- the new cut, in the words
-cut-word : (room : Room) (point old : Point) → leafPoint (room .leaf) ≡ old → cutIn room point ≡ wordRow (newCut (room .over) point old (room .first) (room .at))
+cut-word : (site : Site) (point old : Point) → leafPoint (site .leaf) ≡ old → cutIn site point ≡ wordRow (newCut (site .over) point old (site .first) (site .at))
 unfolding cutIn newSide
-cut-word room point old e = rw e (go (cutOf point old) (goesLeft (cutOf point old) point))
+cut-word site point old e = rw e (go (cutOf point old) (goesLeft (cutOf point old) point))
   where
     go : (k : Cut) (side : Bool)
-        → cutWith room k side ≡ wordRow (pickRow side (cutRow (room .over) k (room .first) (room .at)) (cutRow (room .over) k (room .at) (room .first)))
+        → cutWith site k side ≡ wordRow (pickRow side (cutRow (site .over) k (site .first) (site .at)) (cutRow (site .over) k (site .at) (site .first)))
     go k true = refl
     go k false = refl
 
 module _ (words : List ℕ) {places : ℕ} {h : Heap} {a b : ℕ} {l : Leaf} (w : Finds places h a b l) (reads : Reads words (2 * places) h) (fits : 2 * places ≤ NONE) where
-  pub room-beside : get words atHead ≡ a → roomAt words (2 * places) (l .row) ≡ besideRoom words (2 * places) h a b l
-  unfolding roomAt
+  pub room-beside : countsAt words .head ≡ a → siteAt words (2 * places) (l .row) ≡ besideSite words (2 * places) h a b l
+  unfolding siteAt
   room-beside e = rw (e, reads a (w .first-row), next-word (h a), w .next, ne-eqb (l .row) NONE (λ d. omega (arith, d, w .leaf-row)), reads b (w .second-row), reads (l .row) (w .leaf-row), w .reads)
 
   linked-beside : (eqb (l .parent) NONE || linksTo (l .row) (rowAt words (2 * places) (l .parent))) ≡ true
@@ -130,8 +129,8 @@ module _ (words : List ℕ) {places : ℕ} {h : Heap} {a b : ℕ} {l : Leaf} (w 
     ]))
   ]
 
-  pub sound-beside : roomSound (besideRoom words (2 * places) h a b l) ≡ true
-  unfolding roomSound
+  pub sound-beside : siteSound (besideSite words (2 * places) h a b l) ≡ true
+  unfolding siteSound
   sound-beside =
       rw (next-word (h a), w .next, next-word (h b), ne-eqb b NONE (λ d. omega (arith, d, w .second-row)), ne-eqb (l .row) NONE (λ d. omega (arith, d, w .leaf-row)), ne-eqb (nextOf (h b)) NONE (w .behind), ne-eqb b a (λ d. w .apart .a≢b (sym d)))
       linked-beside
@@ -165,7 +164,7 @@ module _ (words : List ℕ) {places : ℕ} {h : Heap} {a b : ℕ} {l : Leaf} (w 
 
   -- the rows written over a slice with the same rows
   pub beside-writes : {base : List ℕ} {limit : ℕ} (new : Entry) → inRange (new .point) ≡ true → curveIn (new .curve) ≡ true → Holding base base places limit h
-      → (h′ : Heap) × Holding base (insertRows base (besideRoom words (2 * places) h a b l) (new .added) (new .point) (new .curve)) places limit h′ × InsertBeside h h′ a b new l
+      → (h′ : Heap) × Holding base (insertRows base (besideSite words (2 * places) h a b l) (new .added) (new .point) (new .curve)) places limit h′ × InsertBeside h h′ a b new l
   unfolding insertRows newLeaf putCut cutIn
   beside-writes {base} {limit} new i c v = elim (w .above) [
     | inl e ↦ (
@@ -201,24 +200,24 @@ module _ (words : List ℕ) {places : ℕ} {h : Heap} {a b : ℕ} {l : Leaf} (w 
       w₁ : List ℕ
       w₁ = putRow base a (wordRow (leafRow b new))
 
-      room : Room
-      room = besideRoom words (2 * places) h a b l
+      site : Site
+      site = besideSite words (2 * places) h a b l
 
       w₂ : List ℕ
-      w₂ = putCut w₁ room (new .point)
+      w₂ = putCut w₁ site (new .point)
 
       v₁ : Holding base w₁ places limit h₁
       v₁ = put-row v a (wordRow (leafRow b new)) (leafRow b new) refl (w .first-row)
           (leaf-of (2 * places) b new (record { link-in = link-row (2 * places) b (w .second-row); point-in = i; curve-in = c }))
 
-      cut-put : Holding base (putRow w₁ b (cutIn room (new .point))) places limit h₂
-      cut-put = put-row v₁ b (cutIn room (new .point)) cut (cut-word room (new .point) (l .entry .point) refl) (w .second-row) (new-cut-in new i)
+      cut-put : Holding base (putRow w₁ b (cutIn site (new .point))) places limit h₂
+      cut-put = put-row v₁ b (cutIn site (new .point)) cut (cut-word site (new .point) (l .entry .point) refl) (w .second-row) (new-cut-in new i)
 
-      cut-reads : rowAt (putRow w₁ b (cutIn room (new .point))) (2 * places) b ≡ cutIn room (new .point)
-      cut-reads = cut-put .reads b (w .second-row) ∙ ap wordRow (heap-wrote h₁ b cut .here) ∙ sym (cut-word room (new .point) (l .entry .point) refl)
+      cut-reads : rowAt (putRow w₁ b (cutIn site (new .point))) (2 * places) b ≡ cutIn site (new .point)
+      cut-reads = cut-put .reads b (w .second-row) ∙ ap wordRow (heap-wrote h₁ b cut .here) ∙ sym (cut-word site (new .point) (l .entry .point) refl)
 
       v₂ : Holding base w₂ places limit h₂
-      v₂ = put-grades cut-put b (newSide room (new .point)) (new .point) (l .entry .point) cut-reads
+      v₂ = put-grades cut-put b (newSide site (new .point)) (new .point) (l .entry .point) cut-reads
 
       v₃ : Holding base (putRow w₂ (l .row) (wordRow (leafRow b (l .entry)))) places limit h₃
       v₃ = put-row v₂ (l .row) (wordRow (leafRow b (l .entry))) (leafRow b (l .entry)) refl (w .leaf-row)
@@ -229,34 +228,34 @@ module _ (words : List ℕ) {places : ℕ} {h : Heap} {a b : ℕ} {l : Leaf} (w 
 -- the first free row is a row, with a row behind it
 pub alone-finds : {places : ℕ} {h : Heap} {queue : List Free} {changes removals released : ℕ} → Store places h none queue changes removals released → removals - released < places
     → (headOf queue < 2 * places) × (nextOf (h (headOf queue)) ≢ NONE)
-alone-finds {places} {h} {queue} store room =
-    let spare = room-one store room in
+alone-finds {places} {h} {queue} store site =
+    let spare = room-one store site in
     let next-is : nextOf (h (headOf queue)) ≡ spare .second .row =
     ap (λ (q : List Free). nextOf (h (headOf q))) (spare .parts) ∙ ap nextOf (spare .first-reads) ∙ next-free (spare .second .row) (spare .first) in
     (link-head store (omega arith), λ e. spare .second-there (sym next-is ∙ e))
 
 -- what it reads, as the heap says: one free row, and no leaf
-abbrev pub aloneRoom : Heap → ℕ → Room
-aloneRoom h a = record { first = a; fresh = wordRow (h a); second = NONE; spare = Bad; at = NONE; leaf = Bad; over = NONE; above = Bad }
+abbrev pub aloneSite : Heap → ℕ → Site
+aloneSite h a = record { first = a; front = wordRow (h a); second = NONE; behind = Bad; at = NONE; leaf = Bad; over = NONE; cut = Bad }
 
 module _ (words : List ℕ) (places : ℕ) (h : Heap) (a : ℕ) (first-row : a < 2 * places) (reads : Reads words (2 * places) h) (fits : 2 * places ≤ NONE) where
-  pub room-alone : get words atHead ≡ a → roomAt words (2 * places) NONE ≡ aloneRoom h a
-  unfolding roomAt
+  pub room-alone : countsAt words .head ≡ a → siteAt words (2 * places) NONE ≡ aloneSite h a
+  unfolding siteAt
   room-alone e = rw (e, reads a first-row, none-word words (2 * places) fits, none-word words (2 * places) fits)
 
-  pub sound-alone : nextOf (h a) ≢ NONE → roomSound (aloneRoom h a) ≡ true
-  unfolding roomSound
+  pub sound-alone : nextOf (h a) ≢ NONE → siteSound (aloneSite h a) ≡ true
+  unfolding siteSound
   sound-alone n = rw (next-word (h a), ne-eqb (nextOf (h a)) NONE n)
 
   -- no cut is written
-  cut-nothing : {base w : List ℕ} {limit : ℕ} {h′ : Heap} → Holding base w places limit h′ → (p : Point) → Holding base (putCut w (aloneRoom h a) p) places limit h′
+  cut-nothing : {base w : List ℕ} {limit : ℕ} {h′ : Heap} → Holding base w places limit h′ → (p : Point) → Holding base (putCut w (aloneSite h a) p) places limit h′
   unfolding putCut
   cut-nothing {base} {w} v p =
-      let same : putCut w (aloneRoom h a) p ≡ w = begin-outside (putRow w NONE (cutIn (aloneRoom h a) p)) NONE _ _ _ (omega arith) ∙ put-none w (cutIn (aloneRoom h a) p) in
+      let same : putCut w (aloneSite h a) p ≡ w = begin-outside (putRow w NONE (cutIn (aloneSite h a) p)) NONE _ _ _ (omega arith) ∙ put-none w (cutIn (aloneSite h a) p) in
       rw same v
 
   pub alone-writes : {base : List ℕ} {limit : ℕ} (new : Entry) → inRange (new .point) ≡ true → curveIn (new .curve) ≡ true → Holding base base places limit h
-      → (h′ : Heap) × Holding base (insertRows base (aloneRoom h a) (new .added) (new .point) (new .curve)) places limit h′ × InsertAlone h h′ a new
+      → (h′ : Heap) × Holding base (insertRows base (aloneSite h a) (new .added) (new .point) (new .curve)) places limit h′ × InsertAlone h h′ a new
   unfolding insertRows newLeaf
   alone-writes {base} {limit} new i c v =
       let v₁ = put-row v a (wordRow (leafRow NONE new)) (leafRow NONE new) refl first-row

@@ -2,11 +2,9 @@ pub mod Frame
 pub mod RowEffects
 pub mod OwnEffects
 pub mod StationEffects
-pub mod CountEffects
-pub mod PlaceEffects
+pub mod TrackEffects
 pub mod InsertEffects
 pub mod UnlinkEffects
-pub mod OpenWords
 pub mod OpenRows
 pub mod OpenEffects
 pub mod Effects
@@ -73,7 +71,7 @@ pub mod AuditGrow
 pub mod AuditClimb
 pub mod AuditLeaves
 pub mod AuditOrder
-pub mod AuditLine
+pub mod AuditPass
 pub mod AuditQueue
 pub mod AuditLaws
 pub mod Refused

@@ -18,9 +18,10 @@ use Rattle.rows.specs.Row.{rowAt, inRows}
 use Rattle.trees.specs.Row.{Entry, Row, spareRow, removedRow, leafRow, cutRow, Heap}
 use Rattle.trees.specs.Tour.{Best, considered, passSpare, missedNext, withMissed, lookRow, look}
 use Rattle.trees.proofs.ChoiceOf.{choiceOf}
-use Rattle.calls.specs.declared.search.Progress.{Progress as WordProgress}
+use Rattle.calls.specs.declared.progress.Progress.{Progress as WordProgress}
 use Rattle.calls.specs.Link.{isFree, nextOf}
-use Rattle.calls.specs.Search.{considered as consideredWord, passSpare as passWordSpare, lookAt, look as lookWord}
+use Rattle.calls.specs.Look.{passSpare as passWordSpare, lookAt, look as lookWord}
+use Rattle.calls.specs.Progress.{considered as consideredWord}
 use Rattle.history.specs.View.{wordRow, Reads, bestOf}
 use Rattle.history.proofs.Effects.{reads-in}
 use Rattle.rows.proofs.RowLaws.{in-rows-spare, in-rows-removed, in-rows-leaf, rowAt-outside}

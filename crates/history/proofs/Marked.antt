@@ -9,6 +9,8 @@ use mathlib.Core.Option.{Option, none, some}
 use native.Mathlib.Omega.{arith}
 use lib.Dec.{eqb}
 use borrow.Author.Tests.{eq-eqb, ne-eqb}
+use Rattle.stations.specs.Counts.{countsAt}
+use Rattle.stations.specs.declared.counts.Counts.{Counts}
 use Rattle.points.specs.declared.point.Point.{Point}
 use Rattle.points.specs.Cut.{goesLeft}
 use Rattle.rows.specs.declared.row.Row.the-variants.{Cut}
@@ -27,7 +29,7 @@ use Rattle.trees.proofs.RouteLaws.{on-route-has}
 use Rattle.trees.proofs.Routes.{passed-route, passed-grows}
 use Rattle.trees.proofs.MarkLaws.{cover-grows, pass-grows, pass-down}
 use Rattle.calls.specs.Walk.{down, wayOf, markedWay}
-use Rattle.history.specs.View.{Counts, Seat, countsAt, seatAt, Reads, marksIn, Written}
+use Rattle.history.specs.View.{Seat, seatAt, Reads, marksIn, Written}
 use Rattle.history.specs.Related.{Marking, Related}
 use Rattle.history.proofs.Frame.{slot-fits}
 use Rattle.history.proofs.RowEffects.{region-written}
@@ -163,11 +165,11 @@ related-marked {words} {w} {t} r v reads g = record {
   tree = r .tree;
   queue = r .queue;
   reads = reads;
-  store = rw (least-same words w (ap (λ (c : Counts). c .removals) (v .counted)) (λ s l. ap (λ (x : Seat). x .place .since) (v .seated s l))) (r .store);
+  store = rw (least-same words w (ap (λ (c : Counts). c .removals) (v .counted)) (λ s l. ap (λ (x : Seat). x .track .since) (v .seated s l))) (r .store);
   counted = rw (v .counted) (r .counted);
   records = r .records;
   number = r .number;
   seats = λ s l. rw (v .seated s l) (r .seats s l);
   covered = cover-grows (marksIn words) (marksIn w) (r .tree) g (r .covered);
-  marking = λ s l. rw (v .seated s l) (marking-grows (marksIn words) (marksIn w) (r .tree) (seatAt words s .place .cursor) (t .stations s) g (r .marking s l));
+  marking = λ s l. rw (v .seated s l) (marking-grows (marksIn words) (marksIn w) (r .tree) (seatAt words s .track .cursor) (t .stations s) g (r .marking s l));
 }

@@ -10,6 +10,7 @@ use native.Mathlib.Omega.{arith}
 use native.Mathlib.Decide.{ℕ-discrete}
 use lib.Dec.{eqb}
 use borrow.Author.Tests.{eq-eqb, ne-eqb}
+use Rattle.words.specs.Layout.{stations}
 use Rattle.points.specs.declared.point.Point.{Point}
 use Rattle.table.specs.Call.{Call, add, remove, contains, nearest, Answer}
 use Rattle.table.specs.Table.{Station, idle, unfinished, waiting, Table}
@@ -35,7 +36,7 @@ movesAt false tree queue seat = walkMoves tree seat
 unfoldable pub movesLeft : ℕ → Option Tree → List Free → Seat → ℕ
 movesLeft places tree queue seat = cond (eqb (seat .state) 1) (movesAt (eqb (seat .call .kind) 4) tree queue seat) (stepMoves * places)
 
-module _ {words : List ℕ} {t : Table} (r : Related words t) (s : ℕ) (l : s < 8) where
+module _ {words : List ℕ} {t : Table} (r : Related words t) (s : ℕ) (l : s < stations) where
   abbrev seat : Seat
   seat = seatAt words s
 
@@ -130,15 +131,15 @@ module _ {v w : List ℕ} {t u : Table} (a : Related v t) (b : Related w u) (pla
   seat-kept x e = rw (places, tree, queue, e) refl
 
   -- where the other seats stay, all together have less by what one station has less
-  pub potential-less : (s by : ℕ) → s < 8 → ((x : ℕ) → x < 8 → x ≢ s → seatAt w x ≡ seatAt v x) → by + next s ≤ before s → by + potential b ≤ potential a
+  pub potential-less : (s by : ℕ) → s < stations → ((x : ℕ) → x < stations → x ≢ s → seatAt w x ≡ seatAt v x) → by + next s ≤ before s → by + potential b ≤ potential a
   unfolding potential
   potential-less s by l others own = sum-less 8 s by before next l (λ x k. each x k (ℕ-discrete x s)) own
     where
-      each : (x : ℕ) → x < 8 → Dec (x ≡ s) → next x ≤ before x
+      each : (x : ℕ) → x < stations → Dec (x ≡ s) → next x ≤ before x
       each x k (yes e) = subst (λ (y : ℕ). next y ≤ before y) (sym e) (omega (arith, own))
       each x k (no d) = omega (arith, seat-kept x (others x k d))
 
   -- where every seat stays, as much is left
-  pub potential-kept : ((x : ℕ) → x < 8 → seatAt w x ≡ seatAt v x) → potential b ≤ potential a
+  pub potential-kept : ((x : ℕ) → x < stations → seatAt w x ≡ seatAt v x) → potential b ≤ potential a
   unfolding potential
   potential-kept same = sum-le 8 before next (λ x l. omega (arith, seat-kept x (same x l)))

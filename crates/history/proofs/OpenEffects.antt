@@ -1,129 +1,107 @@
--- What opening writes: no change counted, no record held, every station idle and nowhere, every row spare and linked to the next.
-use Prim.Native.Nat.{ℕ, _+_, _*_, _-_, _≤_, _<_}
-use mathlib.Core.Path.{_≡_, ap, _∙_, sym}
+-- What opening writes: no change counted, no record held, every station idle and nowhere, every row spare and linked to the next; words beyond stay.
+use Prim.Native.Nat.{ℕ, zero, suc, _+_, _*_, _-_, _≤_, _<_}
+use mathlib.Core.Path.{_≡_, ap, _∙_}
 use mathlib.Core.Bool.{true, cond}
 use mathlib.Core.List.{List}
 use native.Mathlib.Omega.{arith}
-use lib.Dec.{eqb, leb}
+use lib.Dec.{eqb}
 use lib.ListN.{length}
-use borrow.Author.Tests.{leb-true}
 use Rattle.points.specs.Word.{NONE}
-use Rattle.points.proofs.Tests.{and-l, and-r}
-use Rattle.stations.specs.declared.common.Opening.the-variants.{Opened}
-use Rattle.rows.specs.declared.row.Row.the-variants.{Spare}
-use Rattle.words.specs.Layout.{atMark, atPlaces, atLimit, atCursor, atPhase, atSince, atMissed, atStation, records, wordsFor, Room}
-use Rattle.words.specs.Words.{get}
-use Rattle.rows.specs.Row.{rowAt}
-use Rattle.stations.specs.Common.{openedIn, placesIn, limitIn}
-use Rattle.stations.proofs.OpeningLaws.{IsOpen, opened-of}
+use Rattle.words.specs.Layout.{stations, records, mostPlaces, wordsFor, Fits}
+use Rattle.words.specs.Agree.{inCommon, inStation, Beyond}
+use Rattle.words.proofs.AgreeLaws.{station-common, elsewhere, agree-trans}
+use Rattle.words.proofs.BeyondLaws.{rows-end, fits-of, beyond-trans, beyond-common}
+use Rattle.stations.specs.Common.{Opened, openedIn, placesIn, limitIn, recordsCleared, putOpening}
+use Rattle.stations.specs.Counts.{countsAt, putCounts}
+use Rattle.stations.specs.Station.{stateAt}
+use Rattle.stations.specs.Track.{nowhere, trackAt}
+use Rattle.stations.proofs.OpeningLaws.{openedIn-agree, places-tells, length-putOpening}
+use Rattle.stations.proofs.OpenLaws.{length-cleared, state-cleared, cleared-beyond, opening-beyond, state-putOpening, opened-begun}
+use Rattle.stations.proofs.CountLaws.{counts-agree}
+use Rattle.stations.proofs.TrackLaws.{track-agree}
+use Rattle.stations.proofs.RecordLaws.{stateAt-agree}
 use Rattle.stations.proofs.StationLaws.{there-of}
-use Rattle.stations.proofs.RecordLaws.{stateAt-is}
-use Rattle.stations.specs.Target.{targetAt}
-use Rattle.stations.proofs.TargetLaws.{target-agree}
-use Rattle.calls.specs.Open.{cleared, stationsCleared, rowsSpare, headWords, openedWords}
-use Rattle.history.specs.View.{countsAt, placeAt, seatAt, noPlace, Place}
-use Rattle.history.proofs.Frame.{place-same, counts-same}
-use Rattle.history.proofs.PlaceEffects.{Moved}
-use Rattle.history.proofs.OpenWords.{Zero, clear, Headed, length-six, headed, placeCleared, stations-cleared}
+use Rattle.rows.specs.declared.row.Row.the-variants.{Spare}
+use Rattle.rows.specs.Row.{rowAt}
+use Rattle.calls.specs.Open.{tracksCleared, rowsSpare, newCounts, headWords, openedWords}
+use Rattle.history.specs.View.{seatAt}
+use Rattle.history.proofs.TrackEffects.{Counting, counting, Moved, moved-at, moved-none, moved-next}
 use Rattle.history.proofs.OpenRows.{Spares, rows-spare}
 
 -- a new history: opened, nothing counted, every station idle and nowhere, every row spare and linked to the next
 pub record OpenedAs (words : List ℕ) (places limit : ℕ) : Type 0 where
   pub opened : openedIn words ≡ Opened places limit
   pub counts : countsAt words ≡ record { changes = 0; held = 0; root = NONE; head = 0; tail = 2 * places - 1; removals = 0 }
-  pub states : (s : ℕ) → s < 8 → seatAt words s .state ≡ 0
-  pub seats : (s : ℕ) → s < 8 → placeAt words s ≡ noPlace (targetAt words s)
+  pub states : (s : ℕ) → s < stations → seatAt words s .state ≡ 0
+  pub seats : (s : ℕ) → s < stations → trackAt words s ≡ nowhere
   pub rows : (r : ℕ) → r < 2 * places → rowAt words (2 * places) r ≡ Spare (cond (eqb (r + 1) (2 * places)) NONE (r + 1)) 0
 
-module _ (words : List ℕ) (places limit : ℕ) (p : placesIn places ≡ true) (m : limitIn limit ≡ true) (l : wordsFor places ≤ length words) where
-  -- the words after each of the four parts of opening
-  abbrev blank : List ℕ
-  blank = cleared records words
+-- no call at the first n stations
+tracks-cleared : (n : ℕ) (w : List ℕ) → n ≤ stations → records ≤ length w → Moved (λ target track. nowhere) (tracksCleared n w) w n
+unfolding tracksCleared
+tracks-cleared zero w h long = moved-none (λ target track. nowhere) w
+tracks-cleared (suc n) w h long =
+    let m = tracks-cleared n w (omega arith) long in
+    let here = there-of (tracksCleared n w) n (record { station = omega arith; long = omega (arith, m .only .lengths) }) in
+    moved-next (moved-at (λ target track. nowhere) (tracksCleared n w) n here) m
 
+module _ (words : List ℕ) (places limit : ℕ) (p : placesIn places ≡ true) (m : limitIn limit ≡ true) (l : wordsFor places ≤ length words) where
+  -- the words after each of the parts of opening
   abbrev begun : List ℕ
-  begun = headWords places limit blank
+  begun = putOpening (recordsCleared words) places limit
+
+  abbrev counted : List ℕ
+  counted = putCounts begun (newCounts places)
 
   abbrev placed : List ℕ
-  placed = stationsCleared 8 begun
+  placed = tracksCleared stations counted
 
   abbrev whole : List ℕ
   whole = rowsSpare (2 * places) (2 * places) placed
 
-  zero-words : Zero blank words records
-  zero-words = clear words records (omega arith)
-
   length-begun : length begun ≡ length words
-  unfolding headWords
-  length-begun = length-six blank places limit (omega (arith, zero-words .lengths)) ∙ zero-words .lengths
+  length-begun = length-putOpening (recordsCleared words) places limit ∙ length-cleared words
 
-  head-words : Headed begun places limit
-  unfolding headWords
-  head-words = headed blank places limit (omega (arith, zero-words .lengths)) (zero-words .zeros)
+  counts-written : Counting counted begun (newCounts places)
+  counts-written = counting begun (newCounts places) (omega (arith, length-begun))
 
-  place-words : Moved placeCleared placed begun 8
-  place-words = stations-cleared 8 begun (omega arith) (omega (arith, length-begun))
+  length-counted : length counted ≡ length words
+  length-counted = counts-written .only .lengths ∙ length-begun
+
+  tracks-written : Moved (λ target track. nowhere) placed counted stations
+  tracks-written = tracks-cleared stations counted (omega arith) (omega (arith, length-counted))
 
   length-placed : length placed ≡ length words
-  length-placed = place-words .only .lengths ∙ length-begun
+  length-placed = tracks-written .only .lengths ∙ length-counted
 
-  few : places ≤ 4096
-  few = leb-true places 4096 (and-r (leb 1 places) (leb places 4096) p)
+  fits : Fits placed (2 * places)
+  fits = fits-of placed places (places-tells places p .1) (omega (arith, length-placed))
 
-  room : Room placed (2 * places)
-  room = record { most = omega (arith, few); fits = omega (arith, length-placed) }
+  rows-written : Spares (2 * places) whole placed (2 * places)
+  rows-written = rows-spare (2 * places) (2 * places) placed fits (omega arith)
 
-  row-words : Spares (2 * places) whole placed (2 * places)
-  row-words = rows-spare (2 * places) (2 * places) placed room (omega arith)
-
-  length-whole : length whole ≡ length words
-  length-whole = row-words .lengths ∙ length-placed
-
-  -- the words before the places
-  first-words : (k : ℕ) → k < 16 → get whole k ≡ get begun k
-  first-words k h = row-words .words k (omega arith) ∙ place-words .first k h
-
-  is-open : IsOpen whole places limit
-  is-open = record {
-    first = first-words atMark (omega arith) ∙ head-words .first;
-    places-word = first-words atPlaces (omega arith) ∙ head-words .places-word;
-    limit-word = first-words atLimit (omega arith) ∙ head-words .limit-word;
-    places-least = leb-true 1 places (and-l (leb 1 places) (leb places 4096) p);
-    places-most = few;
-    limit-least = leb-true 1 limit (and-l (leb 1 limit) (leb limit 4000000000) m);
-    limit-most = leb-true limit 4000000000 (and-r (leb 1 limit) (leb limit 4000000000) m);
-    long = omega (arith, length-whole);
-  }
-
-  idle : (s : ℕ) → s < 8 → seatAt whole s .state ≡ 0
+  idle : (s : ℕ) → s < stations → seatAt whole s .state ≡ 0
   unfolding seatAt
   idle s h =
-      ap (λ t. t .word) (stateAt-is whole s (there-of whole s (record { station = h; long = omega (arith, length-whole) })))
-      ∙ row-words .words (atStation s) (omega arith)
-      ∙ place-words .only .others (atStation s) (λ a b. omega arith)
-      ∙ head-words .zeros (atStation s) (omega arith) (omega arith)
-
-  -- rows and places are written beside the targets
-  unaimed : (s : ℕ) → s < 8 → targetAt whole s ≡ targetAt placed s
-  unaimed s h = target-agree s (record { lengths = row-words .lengths; words = λ k a b. row-words .words k (omega arith) })
-
-  targets : (s : ℕ) → s < 8 → targetAt begun s ≡ targetAt whole s
-  unfolding placeAt
-  targets s h = sym (unaimed s h ∙ ap (λ (p : Place). p .target) (place-words .moved s h))
-
-  nowhere : (s : ℕ) → s < 8 → placeAt whole s ≡ noPlace (targetAt whole s)
-  unfolding placeAt
-  nowhere s h =
-      place-same whole placed s (row-words .words (atCursor s) (omega arith)) (row-words .words (atPhase s) (omega arith))
-      (row-words .words (atSince s) (omega arith)) (row-words .words (atMissed s) (omega arith)) (unaimed s h)
-      ∙ place-words .moved s h
-      ∙ (λ i. record { cursor = NONE; phase = head-words .zeros (atPhase s) (omega arith) (omega arith) i; since = NONE; missed = NONE; target = targets s h i })
+      ap (λ t. t .word)
+      (stateAt-agree s (agree-trans (rows-written .station s)
+      (agree-trans (elsewhere inCommon (inStation s) (tracks-written .only) (station-common s)) (elsewhere inCommon (inStation s) (counts-written .only) (station-common s)))))
+      ∙ ap (λ t. t .word) (state-putOpening (recordsCleared words) places limit s ∙ state-cleared words (omega arith) s h)
 
   pub open-written : OpenedAs (openedWords words places limit) places limit
-  unfolding openedWords
+  unfolding openedWords headWords newCounts
   open-written = record {
-    opened = opened-of whole places limit is-open;
-    counts = counts-same whole begun first-words ∙ head-words .counts;
+    opened = openedIn-agree (rows-written .common) ∙ tracks-written .opened ∙ counts-written .opened ∙ opened-begun (recordsCleared words) places limit p m (omega (arith, length-cleared words));
+    counts = counts-agree (rows-written .common) ∙ tracks-written .counts ∙ counts-written .counted;
     states = idle;
-    seats = nowhere;
-    rows = row-words .spare;
+    seats = λ s h. track-agree (rows-written .common) s ∙ tracks-written .moved s h;
+    rows = rows-written .spare;
   }
+
+  pub opened-beyond : Beyond (openedWords words places limit) words (wordsFor places)
+  unfolding openedWords headWords
+  opened-beyond =
+      beyond-trans (rw (rows-end places) at (rows-written .beyond))
+      (beyond-trans (beyond-common (tracks-written .only) (omega arith))
+      (beyond-trans (beyond-common (counts-written .only) (omega arith))
+      (beyond-trans (opening-beyond (recordsCleared words) places limit (omega arith)) (cleared-beyond words (omega arith)))))

@@ -5,6 +5,10 @@ use mathlib.Core.Path.{_≡_, ap}
 use mathlib.Core.Logic.{_≢_}
 use mathlib.Core.List.{List}
 use mathlib.Core.Option.{Option, some}
+use Rattle.words.specs.Layout.{stations}
+use Rattle.stations.specs.Counts.{countsAt}
+use Rattle.stations.specs.declared.track.Track.{Track}
+use Rattle.stations.specs.declared.counts.Counts.{Counts}
 use Rattle.table.specs.Call.{Call, add, remove, contains, nearest, Answer}
 use Rattle.table.specs.Table.{Station, idle, unfinished, waiting, Table}
 use Rattle.table.proofs.Simulation.{finished}
@@ -14,14 +18,14 @@ use Rattle.trees.specs.Route.{standsAt}
 use Rattle.trees.specs.Measure.{walkLeft, searchLeft, stepMoves, progressLeft}
 use Rattle.trees.proofs.ChoiceOf.{choiceOf}
 use Rattle.calls.specs.Reply.{Reply as WordReply}
-use Rattle.history.specs.View.{Seat, seatAt, Counts, Place, countsAt, progressOf}
+use Rattle.history.specs.View.{Seat, seatAt, progressOf}
 use Rattle.history.specs.Related.{Searching, Related}
 use native.Mathlib.Omega.{arith}
 use Rattle.points.specs.declared.point.Point.{Point}
 
 -- what is left to a walk: as much for each leaf at or below the row where it stands as a step takes
 abbrev pub walkMoves : Option Tree → Seat → ℕ
-walkMoves tree seat = stepMoves * walkLeft tree (standsAt tree (seat .place .cursor))
+walkMoves tree seat = stepMoves * walkLeft tree (standsAt tree (seat .track .cursor))
 
 -- at most n is left to a walk or to a search, counted so that a step that does not answer takes `stepMoves` at least
 abbrev pub LeftSays : Table → Option Tree → List Free → Seat → Station → ℕ → Type 0
@@ -40,7 +44,7 @@ pub record Left (words : List ℕ) (t : Table) (s n : ℕ) : Type 0 where
 pub record Aside {words words′ : List ℕ} {t : Table} (r : Related words t) (r′ : Related words′ t) (s : ℕ) : Type 0 where
   pub tree : r′ .tree ≡ r .tree
   pub queue : r′ .queue ≡ r .queue
-  pub others : (u : ℕ) → u < 8 → u ≢ s → seatAt words′ u ≡ seatAt words u
+  pub others : (u : ℕ) → u < stations → u ≢ s → seatAt words′ u ≡ seatAt words u
 
 -- ---- what an answer leaves to the searches of other stations
 
@@ -54,23 +58,23 @@ pub left-target : (tree : Option Tree) (queue : List Free) (seat : Seat) (p : Po
 left-target tree queue seat p e = ap (λ (x : Point). progressLeft (choiceOf x .side) tree queue (progressOf seat)) e
 
 -- what others have spent on a search since its submission, by the counts: four for each record held or removed since, and a look for each removed
-abbrev pub spentBy : Counts → Place → ℕ
-spentBy counts place = 4 * (counts .held + (counts .removals - place .since)) + stepMoves * (counts .removals - place .since)
+abbrev pub spentBy : Counts → Track → ℕ
+spentBy counts track = 4 * (counts .held + (counts .removals - track .since)) + stepMoves * (counts .removals - track .since)
 
 -- the search of any station but s has no more left, but for what was spent
 abbrev pub Beside : {words words′ : List ℕ} {t t′ : Table} → Related words t → Related words′ t′ → ℕ → Type 0
 Beside {words} {words′} {t} r r′ s =
-    (u : ℕ) → u < 8 → u ≢ s → (i : ℕ) (p : Point) (a : Answer) → t .stations u ≡ unfinished i (nearest p) (some a)
-    → leftAt (r′ .tree) (r′ .queue) (seatAt words′ u) + spentBy (countsAt words) (seatAt words u .place)
-    ≤ leftAt (r .tree) (r .queue) (seatAt words u) + spentBy (countsAt words′) (seatAt words′ u .place)
+    (u : ℕ) → u < stations → u ≢ s → (i : ℕ) (p : Point) (a : Answer) → t .stations u ≡ unfinished i (nearest p) (some a)
+    → leftAt (r′ .tree) (r′ .queue) (seatAt words′ u) + spentBy (countsAt words) (seatAt words u .track)
+    ≤ leftAt (r .tree) (r .queue) (seatAt words u) + spentBy (countsAt words′) (seatAt words′ u .track)
 
 -- so where tree, queue, counts and the other seats are as they were
 pub beside-still : {words words′ : List ℕ} {t t′ : Table} (r : Related words t) (r′ : Related words′ t′) (s : ℕ) → r′ .tree ≡ r .tree → r′ .queue ≡ r .queue
-    → countsAt words′ ≡ countsAt words → ((u : ℕ) → u < 8 → u ≢ s → seatAt words′ u ≡ seatAt words u) → Beside r r′ s
+    → countsAt words′ ≡ countsAt words → ((u : ℕ) → u < stations → u ≢ s → seatAt words′ u ≡ seatAt words u) → Beside r r′ s
 beside-still {words} {words′} r r′ s tree queue counts others u k d i p a q =
     let seat = others u k d in
     let left : leftAt (r′ .tree) (r′ .queue) (seatAt words′ u) ≡ leftAt (r .tree) (r .queue) (seatAt words u) = (λ j. leftAt (tree j) (queue j) (seat j)) in
-    let spent : spentBy (countsAt words′) (seatAt words′ u .place) ≡ spentBy (countsAt words) (seatAt words u .place) = (λ j. spentBy (counts j) (seat j .place)) in
+    let spent : spentBy (countsAt words′) (seatAt words′ u .track) ≡ spentBy (countsAt words) (seatAt words u .track) = (λ j. spentBy (counts j) (seat j .track)) in
     omega (arith, left, spent)
 
 -- the words after a step of station s from words that are related by r

@@ -9,15 +9,15 @@ use mathlib.Core.Option.{Option, none}
 use native.Mathlib.Omega.{arith}
 use lib.ListN.{length}
 use borrow.Author.Tests.{ne-eqb}
+use Rattle.words.specs.Layout.{stations}
+use Rattle.calls.specs.Walk.{walkedWords}
+use Rattle.stations.specs.Counts.{countsAt}
+use Rattle.stations.specs.Track.{standing}
 use Rattle.points.specs.Word.{NONE}
 use Rattle.stations.specs.declared.answer.Answer.{Answer as Given}
-use Rattle.words.specs.Layout.{atSince, atMissed}
-use Rattle.words.specs.Words.{get}
 use Rattle.stations.specs.Common.{leastSince}
 use Rattle.stations.specs.Answer.{answerSound}
-use Rattle.stations.specs.Station.{putPlace}
 use Rattle.stations.proofs.TakenLaws.{least-removals, least-since}
-use Rattle.stations.specs.Target.{targetAt}
 use Rattle.table.specs.Call.{Call, add, remove, contains, nearest, isSearch, pointOf}
 use Rattle.table.specs.Table.{unfinished, waiting, Table, put, withStations}
 use Rattle.table.proofs.Stations.{put-same, put-other}
@@ -27,7 +27,7 @@ use Rattle.trees.specs.Route.{OnRoute}
 use Rattle.trees.specs.Measure.{walkLeft, stepMoves}
 use Rattle.calls.specs.Answer.{answeredWords}
 use Rattle.history.specs.Index.{answerOf}
-use Rattle.history.specs.View.{Seat, countsAt, placeAt, seatAt, withPlace, marksIn, answeredSeat}
+use Rattle.history.specs.View.{Seat, seatAt, withTrack, marksIn, answeredSeat}
 use Rattle.history.specs.Related.{Works, Busy, Says, Marking, Related}
 use Rattle.history.proofs.BusyLaws.{busy-on}
 use Rattle.history.proofs.Effects.{answer-written, answer-rows, walk-written, walk-rows}
@@ -40,13 +40,13 @@ use Rattle.history.proofs.Outcome.{walkMoves, LeftSays, Left, Aside, be
 -- ---- what is released
 
 -- no more than the since of each seat
-pub least-seat : (w : List ℕ) (s : ℕ) → s < 8 → leastSince w ≤ seatAt w s .place .since
-unfolding seatAt placeAt
+pub least-seat : (w : List ℕ) (s : ℕ) → s < stations → leastSince w ≤ seatAt w s .track .since
+unfolding seatAt
 least-seat w s l = least-since w s l
 
 -- the same where removals and since words are the same
-pub least-same : (v w : List ℕ) → countsAt w .removals ≡ countsAt v .removals → ((s : ℕ) → s < 8 → seatAt w s .place .since ≡ seatAt v s .place .since) → leastSince w ≡ leastSince v
-unfolding countsAt seatAt placeAt
+pub least-same : (v w : List ℕ) → countsAt w .removals ≡ countsAt v .removals → ((s : ℕ) → s < stations → seatAt w s .track .since ≡ seatAt v s .track .since) → leastSince w ≡ leastSince v
+unfolding seatAt
 least-same v w e f =
     let a : leastSince v ≤ leastSince w = least-up w v (omega arith) (λ s l. omega (arith, f s l)) in
     let b : leastSince w ≤ leastSince v = least-up v w (omega arith) (λ s l. omega (arith, f s l)) in
@@ -72,7 +72,7 @@ left-tells t tree queue seat i (nearest p) n e l = absurd (true≢false (sym (ne
 -- it stands on another row of the way of its point
 works-walk : (t : Table) (tree : Option Tree) (queue : List Free) (seat : Seat) (i : ℕ) (c : Call) (to : ℕ) → isSearch c ≡ false → OnRoute tree (pointOf c) to
     → Works t tree queue seat i c none
-    → Works t tree queue (withPlace seat (record { cursor = to; phase = 0; since = seat .place .since; missed = seat .place .missed; target = seat .place .target })) i c none
+    → Works t tree queue (withTrack seat (standing to 0 (seat .track))) i c none
 works-walk t tree queue seat i (add p c) to e o w = record { since = w .since; missed = w .missed; unset = refl; walking = inr o; best = w .best }
 works-walk t tree queue seat i (remove p) to e o w = record { since = w .since; missed = w .missed; unset = refl; walking = inr o; best = w .best }
 works-walk t tree queue seat i (contains p) to e o w = record { since = w .since; missed = w .missed; unset = refl; walking = inr o; best = w .best }
@@ -80,11 +80,10 @@ works-walk t tree queue seat i (nearest p) to e o w = absurd (true≢false (sym 
 
 -- ---- the relation
 
-module _ {words : List ℕ} {t : Table} (s : ℕ) (l : s < 8) (r : Related words t) where
+module _ {words : List ℕ} {t : Table} (s : ℕ) (l : s < stations) (r : Related words t) where
   -- an answer waits at station s
   related-answered : (a : Given) → length (t .removals) ≤ NONE → answerSound a ≡ true
       → Related (answeredWords words s a) (withStations t (put (t .stations) s (waiting (answerOf a))))
-  unfolding countsAt
   related-answered a n e =
       related-seat words (answeredWords words s a) t (put (t .stations) s (waiting (answerOf a))) s (answeredSeat (seatAt words s) a) r
       (answer-written words (t .places) (t .limit) (r .opened) s l a e) (answer-rows words (t .places) (t .limit) (r .opened) s l a)
@@ -109,27 +108,31 @@ module _ {words : List ℕ} {t : Table} (s : ℕ) (l : s < 8) (r : Related words
       (marked : Marking (marksIn words) (r .tree) to (unfinished i c none)) where
     -- the seat of the walk
     abbrev walkSeat : Seat
-    walkSeat = withPlace (seatAt words s) (record { cursor = to; phase = 0; since = get words (atSince s); missed = get words (atMissed s); target = targetAt words s })
+    walkSeat = withTrack (seatAt words s) (standing to 0 (seatAt words s .track))
 
     walk-busy : Says t (r .tree) (r .queue) walkSeat (t .stations s)
-    unfolding seatAt placeAt
+    unfolding seatAt
     walk-busy =
         let b : Busy t (r .tree) (r .queue) (seatAt words s) i c none = rw q at (r .seats s l) in
-        rw q (busy-on b (walkSeat .place) (b .asof) (omega arith) (works-walk t (r .tree) (r .queue) (seatAt words s) i c to e o (b .works)))
+        rw q (busy-on b (walkSeat .track) (b .asof) (omega arith) (works-walk t (r .tree) (r .queue) (seatAt words s) i c to e o (b .works)))
+
+    walk-least : leastSince words ≤ walkSeat .track .since
+    unfolding seatAt
+    walk-least = least-since words s l
 
     -- a walk of station s goes on to a row on the way of its point
-    pub left-walks : (n : ℕ) → to ≢ NONE → stepMoves * walkLeft (r .tree) to ≤ n → Left (putPlace words s to 0) t s n
+    pub left-walks : (n : ℕ) → to ≢ NONE → stepMoves * walkLeft (r .tree) to ≤ n → Left (walkedWords words s to) t s n
     unfolding related-seat related-written
     left-walks n there few = record {
       related = next;
-      left = rw q (left-walk t (next .tree) (next .queue) (seatAt (putPlace words s to 0) s) i c n e (rw (seated, ne-eqb to NONE there) few));
+      left = rw q (left-walk t (next .tree) (next .queue) (seatAt (walkedWords words s to) s) i c n e (rw (seated, ne-eqb to NONE there) few));
     }
       where
-        next : Related (putPlace words s to 0) t
-        next = related-seat words (putPlace words s to 0) t (t .stations) s walkSeat r (walk-written words (t .places) (t .limit) (r .opened) s l to) (walk-rows words (t .places) (t .limit) (r .opened) s l to)
-            (least-since words s l) (λ u d. refl) walk-busy (rw q marked)
+        next : Related (walkedWords words s to) t
+        next = related-seat words (walkedWords words s to) t (t .stations) s walkSeat r (walk-written words (t .places) (t .limit) (r .opened) s l to) (walk-rows words (t .places) (t .limit) (r .opened) s l to)
+            walk-least (λ u d. refl) walk-busy (rw q marked)
 
-        seated : seatAt (putPlace words s to 0) s ≡ walkSeat
+        seated : seatAt (walkedWords words s to) s ≡ walkSeat
         seated = walk-written words (t .places) (t .limit) (r .opened) s l to .seated s l ∙ seat-put-same (λ u. seatAt words u) s walkSeat
 
     -- and nothing else moves

@@ -16,8 +16,9 @@ use Rattle.trees.specs.Row.{Entry}
 use Rattle.trees.specs.Choice.{bestSquare}
 use Rattle.trees.specs.Tour.{Best, pointOf, Progress, better, pickBest, considered, pickProgress, goTo}
 use Rattle.trees.proofs.ChoiceOf.{choiceOf}
-use Rattle.calls.specs.declared.search.Progress.{Progress as WordProgress}
-use Rattle.calls.specs.Search.{pickBest as pickWordBest, pickProgress as pickWordProgress, better as betterWord, considered as consideredWord, bestSquare as bestWordSquare, onward}
+use Rattle.calls.specs.declared.progress.Progress.{Progress as WordProgress}
+use Rattle.calls.specs.Tour.{bestSquare as bestWordSquare}
+use Rattle.calls.specs.Progress.{pickBest as pickWordBest, pickProgress as pickWordProgress, better as betterWord, considered as consideredWord, onward}
 use Rattle.history.specs.View.{phaseOf, bestOf}
 
 -- the progress over rows that one over words is

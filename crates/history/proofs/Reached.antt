@@ -6,6 +6,7 @@ use mathlib.Core.Bool.{Bool, true, false}
 use mathlib.Core.List.{List, [], _∷_}
 use mathlib.Core.Option.{Option, none, some}
 use lib.Dec.{ltb}
+use Rattle.words.specs.Layout.{stations}
 use Rattle.points.specs.declared.point.Point.{Point}
 use Rattle.points.specs.Point.{inRange}
 use Rattle.table.specs.Call.{Call, add, remove, contains, nearest, Answer, kindInRange, isChange}
@@ -58,7 +59,7 @@ set-alike t s i c a = changed-alike (isChange a) t c
 submit-alike : (t : Table) (s kind : ℕ) (p : Point) (c : ℕ) → Alike t (submit t s kind p c .next)
 unfolding submit enter
 submit-alike t s kind p c =
-    ask-all (λ r. Alike t (r .next)) (ltb s 8) 5 t _ (refl, refl)
+    ask-all (λ r. Alike t (r .next)) (ltb s stations) 5 t _ (refl, refl)
     (λ a. ask-all (λ r. Alike t (r .next)) (isIdle (t .stations s)) 6 t _ (refl, refl)
     (λ b. ask-all (λ r. Alike t (r .next)) (kindInRange kind) 7 t _ (refl, refl)
     (λ d. ask-all (λ r. Alike t (r .next)) (inRange p) 8 t _ (refl, refl)
@@ -66,7 +67,7 @@ submit-alike t s kind p c =
 
 take-alike : (t : Table) (s : ℕ) → Alike t (take t s .next)
 unfolding take takeAt
-take-alike t s = ask-all (λ r. Alike t (r .next)) (ltb s 8) 5 t _ (refl, refl) (λ a. go (t .stations s))
+take-alike t s = ask-all (λ r. Alike t (r .next)) (ltb s stations) 5 t _ (refl, refl) (λ a. go (t .stations s))
   where
     go : (x : Station) → Alike t (takeAt t s x .next)
     go idle = (refl, refl)
@@ -83,7 +84,7 @@ finished-alike t s c none = changed-alike (isChange (answerOf t c)) t c
 
 pub still-alike : (t : Table) (s : ℕ) → still t s .next ≡ t
 unfolding still stillAt
-still-alike t s = ask-all (λ r. r .next ≡ t) (ltb s 8) 5 t _ refl (λ a. go (t .stations s))
+still-alike t s = ask-all (λ r. r .next ≡ t) (ltb s stations) 5 t _ refl (λ a. go (t .stations s))
   where
     go : (x : Station) → stillAt t x .next ≡ t
     go idle = refl
@@ -153,4 +154,4 @@ history-related words places limit a evs = history-stands evs (begun a)
   where
     begun : Accepted words places limit → Stands (openedWords words places limit) places limit
     begun a =
-        record { table = opened places limit; sound = sound-opened places limit; related = related-open words places limit (a .places-in) (a .limit-in) (a .room); places-same = opened-places places limit; limit-same = opened-limit places limit }
+        record { table = opened places limit; sound = sound-opened places limit; related = related-open words places limit (a .places-in) (a .limit-in) (a .long); places-same = opened-places places limit; limit-same = opened-limit places limit }

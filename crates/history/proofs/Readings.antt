@@ -10,7 +10,7 @@ use Rattle.points.specs.Word.{NONE}
 use Rattle.table.specs.Record.{without}
 use Rattle.table.specs.Call.{add, remove, nearest, isSearch, answer, isChange}
 use Rattle.table.specs.Table.{Station, unfinished, Table, eight, searches, changed}
-use Rattle.table.proofs.Eager.{fresh}
+use Rattle.table.proofs.Eager.{unsettled}
 use Rattle.trees.specs.Row.{Heap}
 use Rattle.trees.specs.Route.{downRow, down}
 use Rattle.trees.specs.Stand.{Phase, Stand, pickStand, moveCursor, afterInsert, afterUnlink, missedAfter}
@@ -21,10 +21,10 @@ pub nearest-search : (p : Point) → isSearch (nearest p) ≡ true
 unfolding isSearch
 nearest-search p = refl
 
--- a nearest call with nothing set down is fresh
-pub nearest-fresh : (i : ℕ) (p : Point) → fresh (unfinished i (nearest p) none) ≡ true
-unfolding fresh isSearch
-nearest-fresh i p = refl
+-- a nearest call with nothing set down is unsettled
+pub nearest-unsettled : (i : ℕ) (p : Point) → unsettled (unfinished i (nearest p) none) ≡ true
+unfolding unsettled isSearch
+nearest-unsettled i p = refl
 
 -- codes 1 and 5 are changes, others are none
 pub added-change : (p : Point) (c : ℕ) → isChange (answer 1 p c 0) ≡ true

@@ -7,32 +7,32 @@ use mathlib.Core.Bool.{Bool, true, false, cond, _&&_, _||_}
 use mathlib.Core.List.{List}
 use lib.Dec.{eqb, leb, ltb}
 use lib.ListN.{length}
+use Rattle.stations.specs.Counts.{countsAt}
 use Rattle.points.specs.declared.point.Point.{Point}
 use Rattle.points.specs.Point.{inRange}
 use Rattle.points.specs.Word.{NONE}
 use Rattle.stations.specs.declared.call.Call.{Call}
 use Rattle.stations.specs.declared.answer.Waiting.{Waiting}
 use Rattle.stations.specs.declared.answer.Waiting.the-variants.{Nothing, Given}
-use Rattle.words.specs.Layout.{wordsFor, atHeld}
-use Rattle.words.specs.Words.{get}
+use Rattle.words.specs.Layout.{wordsFor, stations}
 use Rattle.rows.specs.Row.{rowAt}
 use Rattle.stations.specs.Common.{placesIn, limitIn, openedIn, takenIn, isOpened, rowsIn}
 use Rattle.stations.specs.Station.{isIdle, isUnfinished, stateAt}
-use Rattle.stations.specs.Call.{callAt}
+use Rattle.stations.specs.Call.{callAt, kindIn}
 use Rattle.stations.specs.Answer.{waitingAt}
 use Rattle.calls.specs.declared.take.Taking.{Taking}
 use Rattle.calls.specs.declared.take.Taking.the-variants.{Refused as Refusal, Given as Taken}
 use Rattle.calls.specs.Reply.{Reply, done, refused, pickReply, ask}
 use Rattle.calls.specs.Link.{isLeaf, isCut}
 use Rattle.calls.specs.Open.{openedWords, openOf}
-use Rattle.calls.specs.Submit.{kindIn, curveFits, submittedWords, submitOf}
+use Rattle.calls.specs.Submit.{curveFits, submittedWords, submitOf}
 use Rattle.calls.specs.Search.{seek, progressAt, searchOf}
-use Rattle.calls.specs.Insert.{roomAt, roomSound, insertOf}
+use Rattle.calls.specs.Insert.{siteAt, siteSound, insertOf}
 use Rattle.calls.specs.Unlink.{aroundAt, aroundSound, unlinkOf}
 use Rattle.calls.specs.Walk.{wayOf, codeAt, conclude, standsAt, walkOf}
 use Rattle.calls.specs.Step.{recordsSound, workOf, askUnfinished, stepOf}
 use Rattle.calls.specs.Withdraw.{withdrawnWords, withdrawOf}
-use Rattle.calls.specs.Take.{takingOf, takeOf, numberOf, takenWords, takeWords}
+use Rattle.calls.specs.Take.{takingOf, takeOf, numberOf, emptiedWords, takeWords}
 use Rattle.calls.specs.declared.report.Report.{Report}
 use Rattle.calls.specs.Report.{reportOf}
 use Rattle.calls.specs.Tree.{treeIn}
@@ -59,11 +59,11 @@ search-settles words rows s call = pick-settles (seek words rows call (progressA
 
 insert-settles : (words : List ℕ) (rows s : ℕ) (call : Call) (at : ℕ) → Settles 11 words (insertOf words rows s call at)
 unfolding insertOf
-insert-settles words rows s call at = pick-settles (roomSound (roomAt words rows at)) (is-done refl) (is-refused refl)
+insert-settles words rows s call at = pick-settles (siteSound (siteAt words rows at)) (is-done refl) (is-refused refl)
 
 unlink-settles : (words : List ℕ) (rows s : ℕ) (call : Call) (at : ℕ) → Settles 11 words (unlinkOf words rows s call at)
 unfolding unlinkOf
-unlink-settles words rows s call at = pick-settles (aroundSound (aroundAt words rows at) && leb 1 (get words atHeld)) (is-done refl) (is-refused refl)
+unlink-settles words rows s call at = pick-settles (aroundSound (aroundAt words rows at) && leb 1 (countsAt words .held)) (is-done refl) (is-refused refl)
 
 walk-settles : (words : List ℕ) (rows s : ℕ) (call : Call) → Settles 11 words (walkOf words rows s call)
 unfolding walkOf conclude
@@ -93,7 +93,7 @@ open-number words places limit = go (placesIn places) (limitIn limit) (leb (word
 
 pub submit-number : (words : List ℕ) (s kind : ℕ) (p : Point) (c : ℕ) → submitOf words s kind p c .number ≡ firstNo (submitQuestions words s kind p c)
 unfolding submitOf firstNo
-submit-number words s kind p c = go (isOpened (openedIn words)) (ltb s 8) (isIdle (stateAt words s)) (kindIn kind) (inRange p) (curveFits kind c)
+submit-number words s kind p c = go (isOpened (openedIn words)) (ltb s stations) (isIdle (stateAt words s)) (kindIn kind) (inRange p) (curveFits kind c)
   where
     go : (o l i k r f : Bool)
         → ask o 4 words (ask l 5 words (ask i 6 words (ask k 7 words (ask r 8 words (ask f 9 words (done (submittedWords words s kind p c))))))) .number
@@ -113,7 +113,7 @@ settled-number words r (is-refused e) = rw e
 
 pub step-number : (words : List ℕ) (s : ℕ) → stepOf words s .number ≡ firstNo (stepQuestions words s)
 unfolding stepOf firstNo
-step-number words s = go (isOpened (openedIn words)) (ltb s 8) (isUnfinished (stateAt words s)) (recordsSound words s)
+step-number words s = go (isOpened (openedIn words)) (ltb s stations) (isUnfinished (stateAt words s)) (recordsSound words s)
   where
     work : Reply
     work = workOf words (rowsIn words) s (callAt words s)
@@ -127,7 +127,7 @@ step-number words s = go (isOpened (openedIn words)) (ltb s 8) (isUnfinished (st
 
 pub withdraw-number : (words : List ℕ) (s : ℕ) → withdrawOf words s .number ≡ firstNo (withdrawQuestions words s)
 unfolding withdrawOf firstNo
-withdraw-number words s = go (isOpened (openedIn words)) (ltb s 8) (isUnfinished (stateAt words s)) (recordsSound words s)
+withdraw-number words s = go (isOpened (openedIn words)) (ltb s stations) (isUnfinished (stateAt words s)) (recordsSound words s)
   where
     go : (o l u r : Bool)
         → ask o 4 words (ask l 5 words (ask u 10 words (ask r 11 words (done (withdrawnWords words s (callAt words s)))))) .number
@@ -140,7 +140,7 @@ withdraw-number words s = go (isOpened (openedIn words)) (ltb s 8) (isUnfinished
 
 pub take-number : (words : List ℕ) (s : ℕ) → numberOf (takeOf words s) ≡ firstNo (takeQuestions words s)
 unfolding takeOf firstNo
-take-number words s = go (isOpened (openedIn words)) (ltb s 8) (waitingAt words s)
+take-number words s = go (isOpened (openedIn words)) (ltb s stations) (waitingAt words s)
   where
     go : (o l : Bool) (w : Waiting) → numberOf (cond o (cond l (takingOf w) (Refusal 5)) (Refusal 4)) ≡ orElse o 4 (orElse l 5 (orElse (isGiven w) 12 0))
     go true true Nothing = refl
@@ -208,7 +208,7 @@ unfolding submitOf
 submit-refused words s kind p c =
     refused-keeps words (submitOf words s kind p c)
     (ask-keeps words (isOpened (openedIn words)) 4 _
-    (ask-keeps words (ltb s 8) 5 _
+    (ask-keeps words (ltb s stations) 5 _
     (ask-keeps words (isIdle (stateAt words s)) 6 _
     (ask-keeps words (kindIn kind) 7 _ (ask-keeps words (inRange p) 8 _ (ask-keeps words (curveFits kind c) 9 _ (inl refl)))))))
 
@@ -216,7 +216,7 @@ submit-refused words s kind p c =
 unfinished-keeps : (words : List ℕ) (s : ℕ) (r : Reply) → Keeps words r → Keeps words (askUnfinished words s r)
 unfinished-keeps words s r k =
     ask-keeps words (isOpened (openedIn words)) 4 _
-    (ask-keeps words (ltb s 8) 5 _ (ask-keeps words (isUnfinished (stateAt words s)) 10 _ (ask-keeps words (recordsSound words s) 11 _ k)))
+    (ask-keeps words (ltb s stations) 5 _ (ask-keeps words (isUnfinished (stateAt words s)) 10 _ (ask-keeps words (recordsSound words s) 11 _ k)))
 
 pub step-refused : (words : List ℕ) (s : ℕ) → ¬ (stepOf words s .number ≡ 0) → stepOf words s .words ≡ words
 unfolding stepOf
@@ -232,6 +232,6 @@ pub take-refused : (words : List ℕ) (s : ℕ) → ¬ (numberOf (takeOf words s
 unfolding takeWords
 take-refused words s n = go (takeOf words s) refl
   where
-    go : (x : Taking) → takeOf words s ≡ x → takenWords words s x ≡ words
+    go : (x : Taking) → takeOf words s ≡ x → emptiedWords words s x ≡ words
     go (Refusal k) e = refl
     go (Taken a) e = absurd (n (ap numberOf e))

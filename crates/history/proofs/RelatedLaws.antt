@@ -8,11 +8,11 @@ use native.Mathlib.Omega.{arith}
 use lib.ListN.{length}
 use native.Mathlib.Numerals.{add-one}
 use borrow.Author.Tests.{le-leb, lt-ltb}
+use Rattle.words.specs.Layout.{mostLimit, stations}
+use Rattle.stations.specs.Counts.{countsAt}
+use Rattle.stations.specs.Track.{trackAt}
 use Rattle.points.specs.Word.{NONE}
-use Rattle.stations.specs.declared.common.Opening.the-variants.{Opened}
-use Rattle.words.specs.Layout.{atPlaces, atLimit, atChanges, atHeld, atRoot, atHead, atTail, atRemovals, atSince}
-use Rattle.words.specs.Words.{get, more}
-use Rattle.stations.specs.Common.{openedIn, leastSince, takenIn, isOpened, rowsIn}
+use Rattle.stations.specs.Common.{openedIn, leastSince, takenIn, isOpened, rowsIn, placesAt, limitAt}
 use Rattle.stations.proofs.OpeningLaws.{IsOpen, opened-tells}
 use Rattle.stations.proofs.TakenLaws.{awaiting-is, taken-is}
 use Rattle.table.specs.Call.{Call, add, remove, contains, nearest, isSearch, Answer}
@@ -21,25 +21,15 @@ use Rattle.table.proofs.Sound.{Sound, removals-changes}
 use Rattle.table.proofs.Taken.{SinceSays, IsLeast, taken-oldest}
 use Rattle.trees.specs.Tree.{Tree, topOf}
 use Rattle.trees.specs.Queue.{Free, headOf, tailOf}
-use Rattle.history.specs.View.{Seat, countsAt, placeAt, seatAt}
+use Rattle.history.specs.View.{Seat, seatAt}
 use Rattle.history.specs.Related.{Idle, Busy, Waits, Says, Related}
 use Rattle.history.proofs.LeastLaws.{least-words}
-
--- the rows of an opened slice
-pub rows-in : (words : List ℕ) (places limit : ℕ) → openedIn words ≡ Opened places limit → rowsIn words ≡ 2 * places
-unfolding rowsIn
-rows-in words places limit o =
-    let w = opened-tells words places limit o in
-    rw (w .places-word, le-leb places 4096 (w .places-most))
-
--- one more, below the greatest word
-pub more-is : (x : ℕ) → x < NONE → more x ≡ suc x
-unfolding more
-more-is x l = rw (lt-ltb x NONE l) (add-one x)
+pub use Rattle.words.proofs.WordLaws.{more-is}
+pub use Rattle.stations.proofs.OpeningLaws.{rows-in}
 
 -- what a seat of an unfinished call keeps for its since: the table's for a nearest, none for another call
 busy-since : (t : Table) (tree : Option Tree) (queue : List Free) (seat : Seat) (i : ℕ) (c : Call) (o : Option Answer) → length (t .removals) ≤ NONE → Busy t tree queue seat i c o
-    → SinceSays (t .removals) (seat .place .since) (unfinished i c o)
+    → SinceSays (t .removals) (seat .track .since) (unfinished i c o)
 unfolding isSearch
 busy-since t tree queue seat i (add p c) o l b = (λ e. absurd (false≢true e), λ e. omega (arith, b .works .since))
 busy-since t tree queue seat i (remove p) o l b = (λ e. absurd (false≢true e), λ e. omega (arith, b .works .since))
@@ -48,7 +38,7 @@ busy-since t tree queue seat i (nearest p) o l b = (λ e. b .works .since, λ e.
 
 -- the since word of a seat is the number that the table's station says
 pub says-since : (t : Table) (tree : Option Tree) (queue : List Free) (seat : Seat) (x : Station) → length (t .removals) ≤ NONE → Says t tree queue seat x
-    → SinceSays (t .removals) (seat .place .since) x
+    → SinceSays (t .removals) (seat .track .since) x
 says-since t tree queue seat idle l b = omega (arith, b .quiet .since)
 says-since t tree queue seat (waiting a) l b = omega (arith, b .quiet .since)
 says-since t tree queue seat (unfinished i c o) l b = busy-since t tree queue seat i c o l b
@@ -67,10 +57,10 @@ module _ {words : List ℕ} {t : Table} (r : Related words t) where
   -- ---- the words of the common record
 
   -- places and limit of the opening
-  pub word-places : get words atPlaces ≡ t .places
+  pub word-places : placesAt words ≡ t .places
   word-places = related-is-open .places-word
 
-  pub word-limit : get words atLimit ≡ t .limit
+  pub word-limit : limitAt words ≡ t .limit
   word-limit = related-is-open .limit-word
 
   -- there are two rows for each place
@@ -78,61 +68,55 @@ module _ {words : List ℕ} {t : Table} (r : Related words t) where
   related-rows = rows-in words (t .places) (t .limit) (r .opened)
 
   -- the counts, and the root, head and tail links
-  pub word-changes : get words atChanges ≡ t .changes
-  unfolding countsAt
+  pub word-changes : countsAt words .changes ≡ t .changes
   word-changes = r .counted .changes
 
-  pub word-held : get words atHeld ≡ length (t .held)
-  unfolding countsAt
+  pub word-held : countsAt words .held ≡ length (t .held)
   word-held = r .counted .held ∙ r .number
 
-  pub word-root : get words atRoot ≡ topOf (r .tree)
-  unfolding countsAt
+  pub word-root : countsAt words .root ≡ topOf (r .tree)
   word-root = r .counted .root
 
-  pub word-head : get words atHead ≡ headOf (r .queue)
-  unfolding countsAt
+  pub word-head : countsAt words .head ≡ headOf (r .queue)
   word-head = r .counted .head
 
-  pub word-tail : get words atTail ≡ tailOf (r .queue)
-  unfolding countsAt
+  pub word-tail : countsAt words .tail ≡ tailOf (r .queue)
   word-tail = r .counted .tail
 
-  pub word-removals : get words atRemovals ≡ length (t .removals)
-  unfolding countsAt
+  pub word-removals : countsAt words .removals ≡ length (t .removals)
   word-removals = r .counted .removals
 
   -- ---- the seats
 
   -- the seat of an idle station
-  pub related-idle : {s : ℕ} → s < 8 → t .stations s ≡ idle → Idle (seatAt words s)
+  pub related-idle : {s : ℕ} → s < stations → t .stations s ≡ idle → Idle (seatAt words s)
   related-idle {s} l e = subst (Says t (r .tree) (r .queue) (seatAt words s)) e (r .seats s l)
 
   -- of an unfinished call
-  pub related-busy : {s i : ℕ} {c : Call} {o : Option Answer} → s < 8 → t .stations s ≡ unfinished i c o → Busy t (r .tree) (r .queue) (seatAt words s) i c o
+  pub related-busy : {s i : ℕ} {c : Call} {o : Option Answer} → s < stations → t .stations s ≡ unfinished i c o → Busy t (r .tree) (r .queue) (seatAt words s) i c o
   related-busy {s} l e = subst (Says t (r .tree) (r .queue) (seatAt words s)) e (r .seats s l)
 
   -- and of a waiting answer
-  pub related-waits : {s : ℕ} {a : Answer} → s < 8 → t .stations s ≡ waiting a → Waits (seatAt words s) a
+  pub related-waits : {s : ℕ} {a : Answer} → s < stations → t .stations s ≡ waiting a → Waits (seatAt words s) a
   related-waits {s} l e = subst (Says t (r .tree) (r .queue) (seatAt words s)) e (r .seats s l)
 
   -- ---- the places taken
 
   -- the number of removals is never the word for none
-  pub removals-word : Sound t → length (t .removals) ≤ 4000000000
+  pub removals-word : Sound t → length (t .removals) ≤ mostLimit
   removals-word h = omega (arith, removals-changes t h, h .spent, related-is-open .limit-most)
 
   -- the since words say what the table's stations say
-  pub related-since : Sound t → (s : ℕ) → s < 8 → SinceSays (t .removals) (get words (atSince s)) (t .stations s)
-  unfolding seatAt placeAt
+  pub related-since : Sound t → (s : ℕ) → s < stations → SinceSays (t .removals) (trackAt words s .since) (t .stations s)
+  unfolding seatAt
   related-since h s l = says-since t (r .tree) (r .queue) (seatAt words s) (t .stations s) (omega (arith, removals-word h)) (r .seats s l)
 
   -- what is released is the least since in the table's sense
-  pub related-least : IsLeast (length (t .removals)) (λ s. get words (atSince s)) (leastSince words)
+  pub related-least : IsLeast (length (t .removals)) (λ s. trackAt words s .since) (leastSince words)
   related-least = rw word-removals at (least-words words)
 
   -- The number of places taken that a report gives is the table's.
   pub related-taken : Sound t → takenIn words ≡ taken t
   related-taken h =
-      let e : taken t ≡ length (t .held) + (length (t .removals) - leastSince words) = taken-oldest t (λ s. get words (atSince s)) (related-since h) h (leastSince words) related-least in
+      let e : taken t ≡ length (t .held) + (length (t .removals) - leastSince words) = taken-oldest t (λ s. trackAt words s .since) (related-since h) h (leastSince words) related-least in
       omega (arith, taken-is words, awaiting-is words, word-held, word-removals)

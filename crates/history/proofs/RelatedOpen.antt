@@ -7,7 +7,10 @@ use mathlib.Core.Option.{none}
 use native.Mathlib.Omega.{arith}
 use native.Mathlib.Numerals.{add-one}
 use lib.ListN.{length}
-use Rattle.words.specs.Layout.{wordsFor}
+use Rattle.stations.specs.Track.{trackAt}
+use Rattle.stations.specs.declared.track.Track.{Track}
+use Rattle.stations.specs.declared.counts.Counts.{Counts}
+use Rattle.words.specs.Layout.{wordsFor, stations}
 use Rattle.stations.specs.Common.{placesIn, limitIn, leastSince}
 use Rattle.stations.proofs.OpeningLaws.{opened-tells}
 use Rattle.stations.proofs.TakenLaws.{least-removals}
@@ -17,7 +20,7 @@ use Rattle.trees.specs.Queue.{headOf, tailOf, spareRows}
 use Rattle.trees.specs.Store.{Store}
 use Rattle.trees.proofs.Open.{openedNext, open-head, open-tail, store-open}
 use Rattle.calls.specs.Open.{openedWords}
-use Rattle.history.specs.View.{Counts, Place, countsAt, placeAt, seatAt}
+use Rattle.history.specs.View.{seatAt}
 use Rattle.history.specs.Related.{Quiet, Related}
 use Rattle.history.proofs.Effects.{OpenedAs, open-written}
 
@@ -33,7 +36,6 @@ open-queue (suc k) l = (open-head k, omega (arith, open-tail k))
 module _ {words : List ℕ} {places limit : ℕ} (w : OpenedAs words places limit) where
   -- no removal was made
   open-least : leastSince words ≡ 0
-  unfolding countsAt
   open-least = omega (arith, least-removals words, ap (λ (c : Counts). c .removals) (w .counts))
 
   -- every row is spare
@@ -41,12 +43,12 @@ module _ {words : List ℕ} {places limit : ℕ} (w : OpenedAs words places limi
   open-store = rw open-least (store-open places (spareHeap places) (omega (arith, opened-tells words places limit (w .opened) .places-most)) (λ i l. refl))
 
   -- no call stands anywhere
-  open-quiet : (s : ℕ) → s < 8 → Quiet (placeAt words s)
+  open-quiet : (s : ℕ) → s < stations → Quiet (trackAt words s)
   open-quiet s l = record {
-    cursor = ap (λ (p : Place). p .cursor) (w .seats s l);
-    phase = ap (λ (p : Place). p .phase) (w .seats s l);
-    since = ap (λ (p : Place). p .since) (w .seats s l);
-    missed = ap (λ (p : Place). p .missed) (w .seats s l);
+    cursor = ap (λ (p : Track). p .cursor) (w .seats s l);
+    phase = ap (λ (p : Track). p .phase) (w .seats s l);
+    since = ap (λ (p : Track). p .since) (w .seats s l);
+    missed = ap (λ (p : Track). p .missed) (w .seats s l);
   }
 
   open-related : Related words (opened places limit)

@@ -6,6 +6,7 @@ use mathlib.Core.Logic.{_↔_, inl, inr}
 use mathlib.Core.Bool.{true, false≢true}
 use mathlib.Core.List.{List, map, List·Memᴰ, Memᴰ·map, Memᴰ·of-map}
 use mathlib.Core.Option.{none, some}
+use Rattle.words.specs.Layout.{stations}
 use Rattle.points.specs.declared.point.Point.{Point}
 use Rattle.table.specs.Record.{Same}
 use Rattle.table.specs.Call.{Call, add, remove, contains, nearest, isSearch, nearestAnswer}
@@ -36,7 +37,7 @@ entries-same r entries f q = (
 settled-busy : {words : List ℕ} {t : Table} (s : ℕ) {i : ℕ} {p : Point} → Sound t → (r : Related words t) → Busy t (r .tree) (r .queue) (seatAt words s) i (nearest p) none
     → Busy t (r .tree) (r .queue) (seatAt words s) i (nearest p) (some (answerOf t (nearest p)))
 unfolding answerOf
-settled-busy {words} {t} s {p = p} h r b = busy-on b (seatAt words s .place) (b .asof) (b .phase) (record {
+settled-busy {words} {t} s {p = p} h r b = busy-on b (seatAt words s .track) (b .asof) (b .phase) (record {
   since = b .works .since;
   aimed = b .works .aimed;
   entries = b .works .entries;
@@ -52,7 +53,7 @@ unfolding setDown changedIf
 set-stations t s i c e = rw (search-quiet t c e)
 
 -- the relation with the answer set down
-settled-related : {words : List ℕ} {t : Table} {s i : ℕ} {p : Point} → Sound t → s < 8 → t .stations s ≡ unfinished i (nearest p) none → Related words t
+settled-related : {words : List ℕ} {t : Table} {s i : ℕ} {p : Point} → Sound t → s < stations → t .stations s ≡ unfinished i (nearest p) none → Related words t
     → Related words (withStations t (put (t .stations) s (unfinished i (nearest p) (some (answerOf t (nearest p))))))
 settled-related {words} {t} {s} {i} {p} h l q r =
     let x : Station = unfinished i (nearest p) (some (answerOf t (nearest p))) in
@@ -85,7 +86,7 @@ settled-related {words} {t} {s} {i} {p} h l q r =
     }
 
 -- The moment of a nearest call keeps the relation; no word changes.
-pub related-settles : {words : List ℕ} {t : Table} {s i : ℕ} {c : Call} → Sound t → s < 8 → isSearch c ≡ true → t .stations s ≡ unfinished i c none → Related words t
+pub related-settles : {words : List ℕ} {t : Table} {s i : ℕ} {c : Call} → Sound t → s < stations → isSearch c ≡ true → t .stations s ≡ unfinished i c none → Related words t
     → Related words (setDown t s i c (answerOf t c))
 unfolding isSearch
 related-settles {words} {t} {s} {i} {c} h l e q r = rw (set-stations t s i c e) (go c e q)

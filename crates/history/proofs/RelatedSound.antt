@@ -9,16 +9,17 @@ use native.Mathlib.Omega.{arith}
 use lib.Dec.{eqb}
 use lib.ListN.{length}
 use borrow.Author.Tests.{eqb-true, eq-eqb, le-leb}
+use Rattle.words.specs.Layout.{stations}
+use Rattle.stations.specs.declared.track.Track.{Track}
+use Rattle.stations.specs.Track.{trackAt}
 use Rattle.points.specs.declared.point.Point.{Point}
 use Rattle.points.specs.Point.{inRange}
 use Rattle.points.specs.Word.{NONE}
 use Rattle.stations.specs.declared.call.Best.{Best as WordBest}
-use Rattle.words.specs.Layout.{atCursor, atMissed}
-use Rattle.words.specs.Words.{get}
 use Rattle.words.specs.Range.{curveIn}
 use Rattle.stations.specs.Common.{sinceIn, commonSound}
 use Rattle.stations.specs.Call.{bestSound, curveFor, callSound}
-use Rattle.stations.proofs.CommonLaws.{common-of}
+use Rattle.stations.proofs.CommonLaws.{since-none, since-some, common-of}
 use Rattle.words.proofs.RangeLaws.{curve-tells}
 use Rattle.stations.proofs.SoundLaws.{best-none, best-record, call-of}
 use Rattle.table.specs.Call.{Call, add, remove, contains, nearest, Answer}
@@ -32,65 +33,57 @@ use Rattle.trees.specs.Store.{Store}
 use Rattle.trees.specs.Search.{Found}
 use Rattle.trees.proofs.ChoiceOf.{choiceOf}
 use Rattle.calls.specs.Step.{recordsSound}
-use Rattle.history.specs.View.{Place, Seat, placeAt, seatAt, bestOf}
+use Rattle.history.specs.View.{Seat, seatAt, bestOf}
 use Rattle.history.specs.Related.{kindOf, curveOf, Quiet, Walks, Busy, Says, Related}
 use Rattle.history.proofs.RelatedLaws.{related-is-open, related-rows, related-busy, word-places, word-limit, word-changes, word-held, word-root, word-head, word-tail, word-removals}
 use Rattle.history.proofs.RelatedRows.{Link, link-in, standing-link, walking-link, missed-link, head-inside, tail-inside, root-link}
 
 -- ---- the common record
 
--- what a place has in range
-pub record PlaceIn (rows removals : ℕ) (place : Place) : Type 0 where
-  pub cursor : Link rows (place .cursor)
-  pub phase : place .phase ≤ 1
-  pub since : sinceIn removals (place .since) ≡ true
-  pub missed : Link rows (place .missed)
+-- what a track has in range
+pub record TrackIn (rows removals : ℕ) (track : Track) : Type 0 where
+  pub cursor : Link rows (track .cursor)
+  pub phase : track .phase ≤ 1
+  pub since : sinceIn removals (track .since) ≡ true
+  pub missed : Link rows (track .missed)
 
--- a since word that is none, or at most the removals
-since-none : (removals x : ℕ) → x ≡ NONE → sinceIn removals x ≡ true
-since-none removals x e = rw (eq-eqb x NONE e)
-
-since-some : (removals x : ℕ) → x ≤ removals → sinceIn removals x ≡ true
-since-some removals x l = rw (le-leb x removals l) (or-true (eqb x NONE))
-
-quiet-place : (rows removals : ℕ) (place : Place) → Quiet place → PlaceIn rows removals place
-quiet-place rows removals place q =
-    record { cursor = inl (q .cursor); phase = omega (arith, q .phase); since = since-none removals (place .since) (q .since); missed = inl (q .missed) }
+quiet-track : (rows removals : ℕ) (track : Track) → Quiet track → TrackIn rows removals track
+quiet-track rows removals track q =
+    record { cursor = inl (q .cursor); phase = omega (arith, q .phase); since = since-none removals (track .since) (q .since); missed = inl (q .missed) }
 
 module _ {h : Heap} {tree : Option Tree} {q : List Free} {released : ℕ} (t : Table) (st : Store (t .places) h tree q (t .changes) (length (t .removals)) released) where
-  walk-place : (seat : Seat) (p : Point) (o : Option Answer) → seat .place .phase ≤ 1 → Walks tree seat p o → PlaceIn (2 * t .places) (length (t .removals)) (seat .place)
-  walk-place seat p o l w = record {
-    cursor = walking-link st p (seat .place .cursor) (w .walking);
+  walk-track : (seat : Seat) (p : Point) (o : Option Answer) → seat .track .phase ≤ 1 → Walks tree seat p o → TrackIn (2 * t .places) (length (t .removals)) (seat .track)
+  walk-track seat p o l w = record {
+    cursor = walking-link st p (seat .track .cursor) (w .walking);
     phase = l;
-    since = since-none (length (t .removals)) (seat .place .since) (w .since);
+    since = since-none (length (t .removals)) (seat .track .since) (w .since);
     missed = inl (w .missed);
   }
 
-  busy-place : (seat : Seat) (i : ℕ) (c : Call) (o : Option Answer) → Busy t tree q seat i c o → PlaceIn (2 * t .places) (length (t .removals)) (seat .place)
-  busy-place seat i (add p c) o b = walk-place seat p o (b .phase) (b .works)
-  busy-place seat i (remove p) o b = walk-place seat p o (b .phase) (b .works)
-  busy-place seat i (contains p) o b = walk-place seat p o (b .phase) (b .works)
-  busy-place seat i (nearest p) o b = record {
-    cursor = standing-link st (seat .place .cursor) (b .works .search .stands);
+  busy-track : (seat : Seat) (i : ℕ) (c : Call) (o : Option Answer) → Busy t tree q seat i c o → TrackIn (2 * t .places) (length (t .removals)) (seat .track)
+  busy-track seat i (add p c) o b = walk-track seat p o (b .phase) (b .works)
+  busy-track seat i (remove p) o b = walk-track seat p o (b .phase) (b .works)
+  busy-track seat i (contains p) o b = walk-track seat p o (b .phase) (b .works)
+  busy-track seat i (nearest p) o b = record {
+    cursor = standing-link st (seat .track .cursor) (b .works .search .stands);
     phase = b .phase;
-    since = since-some (length (t .removals)) (seat .place .since) (omega (arith, b .works .since, since-le i (t .removals)));
-    missed = missed-link st (seat .place .since) (seat .place .missed) (b .works .search .rest) (b .works .search .missing);
+    since = since-some (length (t .removals)) (seat .track .since) (omega (arith, b .works .since, since-le i (t .removals)));
+    missed = missed-link st (seat .track .since) (seat .track .missed) (b .works .search .rest) (b .works .search .missing);
   }
 
-  -- whatever the station says, its place is in range
-  pub says-place : (seat : Seat) (x : Station) → Says t tree q seat x → PlaceIn (2 * t .places) (length (t .removals)) (seat .place)
-  says-place seat idle b = quiet-place (2 * t .places) (length (t .removals)) (seat .place) (b .quiet)
-  says-place seat (waiting a) b = quiet-place (2 * t .places) (length (t .removals)) (seat .place) (b .quiet)
-  says-place seat (unfinished i c o) b = busy-place seat i c o b
+  -- whatever the station says, its track is in range
+  pub says-track : (seat : Seat) (x : Station) → Says t tree q seat x → TrackIn (2 * t .places) (length (t .removals)) (seat .track)
+  says-track seat idle b = quiet-track (2 * t .places) (length (t .removals)) (seat .track) (b .quiet)
+  says-track seat (waiting a) b = quiet-track (2 * t .places) (length (t .removals)) (seat .track) (b .quiet)
+  says-track seat (unfinished i c o) b = busy-track seat i c o b
 
--- the place of each station is in range
-pub related-place : {words : List ℕ} {t : Table} (r : Related words t) (s : ℕ) → s < 8 → PlaceIn (2 * t .places) (length (t .removals)) (placeAt words s)
+-- the track of each station is in range
+pub related-track : {words : List ℕ} {t : Table} (r : Related words t) (s : ℕ) → s < stations → TrackIn (2 * t .places) (length (t .removals)) (trackAt words s)
 unfolding seatAt
-related-place {words} {t} r s l = says-place t (r .store) (seatAt words s) (t .stations s) (r .seats s l)
+related-track {words} {t} r s l = says-track t (r .store) (seatAt words s) (t .stations s) (r .seats s l)
 
 -- the common record is in range
 pub related-common : {words : List ℕ} {t : Table} → Sound t → (r : Related words t) → commonSound words (2 * t .places) ≡ true
-unfolding placeAt
 related-common {words} {t} h r =
     let o = related-is-open r in
     common-of words (2 * t .places) (record {
@@ -103,10 +96,12 @@ related-common {words} {t} h r =
         head = rw (word-head r) (head-inside (r .store) (o .places-least));
         tail = rw (word-tail r) (tail-inside (r .store) (o .places-least));
       };
-      cursor = λ s l. link-in (2 * t .places) (get words (atCursor s)) (related-place r s l .cursor);
-      phase = λ s l. related-place r s l .phase;
-      since = λ s l. rw (word-removals r) (related-place r s l .since);
-      missed = λ s l. link-in (2 * t .places) (get words (atMissed s)) (related-place r s l .missed);
+      tracks = λ s l. record {
+        cursor = link-in (2 * t .places) (trackAt words s .cursor) (related-track r s l .cursor);
+        phase = related-track r s l .phase;
+        since = rw (word-removals r) (related-track r s l .since);
+        missed = link-in (2 * t .places) (trackAt words s .missed) (related-track r s l .missed);
+      };
     })
 
 -- ---- the station's call
@@ -153,7 +148,7 @@ module _ {t : Table} {tree : Option Tree} {q : List Free} {seat : Seat} {i : ℕ
   })
 
 -- Both records of a station with an unfinished call are in range.
-pub related-sound : {words : List ℕ} {t : Table} {s i : ℕ} {c : Call} {o : Option Answer} → Sound t → (r : Related words t) → s < 8 → t .stations s ≡ unfinished i c o
+pub related-sound : {words : List ℕ} {t : Table} {s i : ℕ} {c : Call} {o : Option Answer} → Sound t → (r : Related words t) → s < stations → t .stations s ≡ unfinished i c o
     → recordsSound words s ≡ true
 unfolding recordsSound seatAt
 related-sound {words} {t} {s} {i} {c} {o} h r l e =

@@ -6,6 +6,7 @@ use mathlib.Core.List.{List}
 use native.Mathlib.Omega.{arith}
 use lib.Dec.{eqb, leb, ltb}
 use borrow.Author.Tests.{ltb-true, leb-true, le-leb, eq-eqb, ne-eqb}
+use Rattle.words.specs.Layout.{stations}
 use Rattle.points.specs.declared.point.Point.{Point}
 use Rattle.points.specs.Point.{inRange}
 use Rattle.words.specs.Range.{curveIn}
@@ -19,7 +20,8 @@ use Rattle.table.proofs.Tests.{and-left, and-right}
 use Rattle.table.proofs.Sound.{Sound}
 use Rattle.table.proofs.Simulation.{Matches}
 use Rattle.calls.specs.Reply.{Reply as WordReply, ask as askWords}
-use Rattle.calls.specs.Submit.{kindIn, curveFits as curveFitsWords, submitOf}
+use Rattle.calls.specs.Submit.{curveFits as curveFitsWords, submitOf}
+use Rattle.stations.specs.Call.{kindIn}
 use Rattle.history.specs.Index.{replyOf, wordIndex}
 use Rattle.history.specs.View.{seatAt}
 use Rattle.history.specs.Related.{Related}
@@ -45,7 +47,7 @@ unfolding curveFits
 fits-same kind c = rw (curve-same c)
 
 -- the station is idle exactly if the table's is
-idle-same : {words : List ℕ} {t : Table} (s : ℕ) → Related words t → s < 8 → idleState (stateAt words s) ≡ isIdle (t .stations s)
+idle-same : {words : List ℕ} {t : Table} (s : ℕ) → Related words t → s < stations → idleState (stateAt words s) ≡ isIdle (t .stations s)
 unfolding isIdle seatAt
 idle-same {words} {t} s r l = go (t .stations s) refl
   where
@@ -68,9 +70,9 @@ pub related-submits : {words : List ℕ} {t : Table} (s kind : ℕ) (p : Point) 
 unfolding submitOf submit kindInRange
 related-submits {words} {t} s kind p c h r =
     rw (related-passes r)
-    (asked (ltb s 8) (ltb s 8) 5 _ _ r refl (λ l.
-    asked (idleState (stateAt words s)) (isIdle (t .stations s)) 6 _ _ r (idle-same s r (ltb-true s 8 l)) (λ i.
+    (asked (ltb s stations) (ltb s stations) 5 _ _ r refl (λ l.
+    asked (idleState (stateAt words s)) (isIdle (t .stations s)) 6 _ _ r (idle-same s r (ltb-true s stations l)) (λ i.
     asked (kindIn kind) (kindInRange kind) 7 _ _ r refl (λ k.
     asked (inRange p) (inRange p) 8 _ _ r refl (λ ranged.
     asked (curveFitsWords kind c) (curveFits kind c) 9 _ _ r (fits-same kind c) (λ fits.
-    record { number = refl; given = refl; next = related-submitted s kind p c h r (ltb-true s 8 l) k ranged (fits-same kind c ∙ fits) }))))))
+    record { number = refl; given = refl; next = related-submitted s kind p c h r (ltb-true s stations l) k ranged (fits-same kind c ∙ fits) }))))))

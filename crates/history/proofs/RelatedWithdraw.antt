@@ -7,6 +7,7 @@ use mathlib.Core.Option.{Option}
 use native.Mathlib.Omega.{arith}
 use lib.Dec.{ltb}
 use borrow.Author.Tests.{eq-eqb, ne-eqb, lt-ltb, ltb-true}
+use Rattle.words.specs.Layout.{stations}
 use Rattle.points.specs.Point.{inRange}
 use Rattle.stations.specs.Station.{stateAt}
 use Rattle.stations.specs.Call.{callAt}
@@ -30,7 +31,7 @@ use Rattle.history.proofs.OwnSeat.{next-answered}
 
 -- ---- an unfinished call
 
-module _ {words : List ℕ} {t : Table} {s i : ℕ} {c : Call} {o : Option Answer} (h : Sound t) (l : s < 8) (q : t .stations s ≡ unfinished i c o) (r : Related words t) where
+module _ {words : List ℕ} {t : Table} {s i : ℕ} {c : Call} {o : Option Answer} (h : Sound t) (l : s < stations) (q : t .stations s ≡ unfinished i c o) (r : Related words t) where
   pub point-is : callAt words s .point ≡ pointOf c
   unfolding seatAt
   point-is = related-busy r l q .point
@@ -51,7 +52,7 @@ module _ {words : List ℕ} {t : Table} {s i : ℕ} {c : Call} {o : Option Answe
 
   pub withdrawal-done : withdrawOf words s ≡ done (withdrawnWords words s (callAt words s))
   unfolding withdrawOf seatAt
-  withdrawal-done = rw (related-passes r, lt-ltb s 8 l, eq-eqb (stateAt words s .word) 1 (related-busy r l q .state), related-sound h r l q)
+  withdrawal-done = rw (related-passes r, lt-ltb s stations l, eq-eqb (stateAt words s .word) 1 (related-busy r l q .state), related-sound h r l q)
 
 -- ---- any station
 
@@ -62,20 +63,20 @@ module _ {words : List ℕ} {t : Table} (s : ℕ) (h : Sound t) (r : Related wor
   refused-alike : (n : ℕ) → withdrawOf words s ≡ refused n words → retract t s ≡ refuse n t → Agreeing
   refused-alike n e f = rw (e, f) (record { number = refl; given = refl; next = r })
 
-  quiet-refused : s < 8 → (k : ℕ) → ¬ (k ≡ 1) → stateAt words s .word ≡ k → withdrawOf words s ≡ refused 10 words
+  quiet-refused : s < stations → (k : ℕ) → ¬ (k ≡ 1) → stateAt words s .word ≡ k → withdrawOf words s ≡ refused 10 words
   unfolding withdrawOf
-  quiet-refused l k n e = rw (related-passes r, lt-ltb s 8 l, ne-eqb (stateAt words s .word) 1 (λ z. n (sym e ∙ z)))
+  quiet-refused l k n e = rw (related-passes r, lt-ltb s stations l, ne-eqb (stateAt words s .word) 1 (λ z. n (sym e ∙ z)))
 
   -- A withdrawal is refused alike or answers 11, whatever is set down.
   pub related-withdraws : Agreeing
   unfolding retract retractAt withdrawOf seatAt
-  related-withdraws = go (ltb s 8) refl
+  related-withdraws = go (ltb s stations) refl
     where
-      at : s < 8 → (x : Station) → t .stations s ≡ x → Agreeing
-      at l idle e = refused-alike 10 (quiet-refused l 0 (λ z. omega (arith, z)) (related-idle r l e .state)) (rw (lt-ltb s 8 l, e))
-      at l (waiting a) e = refused-alike 10 (quiet-refused l 2 (λ z. omega (arith, z)) (related-waits r l e .state)) (rw (lt-ltb s 8 l, e))
-      at l (unfinished i c o) e = rw (withdrawal-done h l e r, lt-ltb s 8 l, e) (record { number = refl; given = refl; next = withdrawn-next h l e r .related })
+      at : s < stations → (x : Station) → t .stations s ≡ x → Agreeing
+      at l idle e = refused-alike 10 (quiet-refused l 0 (λ z. omega (arith, z)) (related-idle r l e .state)) (rw (lt-ltb s stations l, e))
+      at l (waiting a) e = refused-alike 10 (quiet-refused l 2 (λ z. omega (arith, z)) (related-waits r l e .state)) (rw (lt-ltb s stations l, e))
+      at l (unfinished i c o) e = rw (withdrawal-done h l e r, lt-ltb s stations l, e) (record { number = refl; given = refl; next = withdrawn-next h l e r .related })
 
-      go : (b : Bool) → ltb s 8 ≡ b → Agreeing
-      go true q = at (ltb-true s 8 q) (t .stations s) refl
+      go : (b : Bool) → ltb s stations ≡ b → Agreeing
+      go true q = at (ltb-true s stations q) (t .stations s) refl
       go false q = refused-alike 5 (rw (related-passes r, q)) (rw q)

@@ -8,32 +8,34 @@ use mathlib.Core.List.{List}
 use native.Mathlib.Omega.{arith}
 use lib.Dec.{ltb}
 use borrow.Author.Tests.{ltb-true, eqb-true}
+use Rattle.words.specs.Layout.{stations}
+use Rattle.stations.specs.Counts.{countsAt}
 use Rattle.points.specs.declared.point.Point.{Point}
 use Rattle.points.specs.Point.{inRange}
-use Rattle.stations.specs.declared.common.Opening.the-variants.{Opened}
 use Rattle.stations.specs.declared.answer.Answer.{Answer}
 use Rattle.stations.specs.declared.answer.Waiting.{Waiting}
 use Rattle.stations.specs.declared.answer.Waiting.the-variants.{Nothing, Given}
-use Rattle.stations.specs.Common.{openedIn, isOpened}
+use Rattle.stations.specs.Common.{openedIn, isOpened, Opened}
 use Rattle.stations.specs.Station.{isIdle, isWaiting, stateAt}
 use Rattle.stations.specs.Answer.{waitingAt}
 use Rattle.stations.proofs.WaitingLaws.{waiting-tells}
 use Rattle.calls.specs.Reply.{Reply, ask}
 use Rattle.calls.specs.declared.take.Taking.{Taking}
 use Rattle.calls.specs.declared.take.Taking.the-variants.{Refused as Refusal, Given as Taken}
-use Rattle.calls.specs.Submit.{kindIn, curveFits, submittedWords, submitOf}
-use Rattle.calls.specs.Take.{takingOf, takeOf, takenWords, takeWords}
-use Rattle.history.specs.View.{countsAt, seatAt, SameRows}
+use Rattle.calls.specs.Submit.{curveFits, submittedWords, submitOf}
+use Rattle.stations.specs.Call.{kindIn}
+use Rattle.calls.specs.Take.{takingOf, takeOf, emptiedWords, takeWords}
+use Rattle.history.specs.View.{seatAt, SameRows}
 use Rattle.history.proofs.Effects.{submit-written, submit-rows, take-written, take-rows}
 use Rattle.history.proofs.SaysLaws.{seat-put-other}
 
 -- nothing changes but the seat of station s, which had no unfinished call
 pub record Reseated (words words′ : List ℕ) (rows s : ℕ) : Type 0 where
-  pub station : s < 8
+  pub station : s < stations
   pub rests : seatAt words s .state ≢ 1
   pub same : SameRows words words′ rows
   pub counts : countsAt words′ ≡ countsAt words
-  pub others : (u : ℕ) → u < 8 → u ≢ s → seatAt words′ u ≡ seatAt words u
+  pub others : (u : ℕ) → u < stations → u ≢ s → seatAt words′ u ≡ seatAt words u
 
 -- or nothing at all
 abbrev pub Reseats : List ℕ → List ℕ → ℕ → ℕ → Type 0
@@ -55,15 +57,15 @@ waiting-rests words s e z = let y : stateAt words s .word ≡ 2 = eqb-true (stat
 
 -- a taking that gives an answer
 record Gives (words : List ℕ) (s : ℕ) : Type 0 where
-  station : s < 8
+  station : s < stations
   waits : isWaiting (stateAt words s) ≡ true
 
 taken-gives : (words : List ℕ) (s : ℕ) (a : Answer) → takeOf words s ≡ Taken a → Gives words s
 unfolding takeOf
-taken-gives words s a e = go (isOpened (openedIn words)) (ltb s 8) refl (waitingAt words s) refl e
+taken-gives words s a e = go (isOpened (openedIn words)) (ltb s stations) refl (waitingAt words s) refl e
   where
-    go : (o b : Bool) → ltb s 8 ≡ b → (x : Waiting) → waitingAt words s ≡ x → cond o (cond b (takingOf x) (Refusal 5)) (Refusal 4) ≡ Taken a → Gives words s
-    go true true l (Given y) f e = record { station = ltb-true s 8 l; waits = waiting-tells words s y f .waiting }
+    go : (o b : Bool) → ltb s stations ≡ b → (x : Waiting) → waitingAt words s ≡ x → cond o (cond b (takingOf x) (Refusal 5)) (Refusal 4) ≡ Taken a → Gives words s
+    go true true l (Given y) f e = record { station = ltb-true s stations l; waits = waiting-tells words s y f .waiting }
     go true true l Nothing f e = let z : _≡_ {A = ℕ} 0 1 = cc in absurd (omega arith)
     go true false l x f e = let z : _≡_ {A = ℕ} 0 1 = cc in absurd (omega arith)
     go false b l x f e = let z : _≡_ {A = ℕ} 0 1 = cc in absurd (omega arith)
@@ -73,13 +75,13 @@ module _ (words : List ℕ) (places limit : ℕ) (o : openedIn words ≡ Opened 
   unfolding submitOf
   submit-reseats kind p c =
       ask-reseats words (2 * places) s (isOpened (openedIn words)) 4 _
-      (λ a. ask-reseats words (2 * places) s (ltb s 8) 5 _
+      (λ a. ask-reseats words (2 * places) s (ltb s stations) 5 _
       (λ l. ask-reseats words (2 * places) s (isIdle (stateAt words s)) 6 _
       (λ i. ask-reseats words (2 * places) s (kindIn kind) 7 _
       (λ k. ask-reseats words (2 * places) s (inRange p) 8 _
-      (λ ranged. ask-reseats words (2 * places) s (curveFits kind c) 9 _ (λ f. inr (begun (ltb-true s 8 l) i ranged)))))))
+      (λ ranged. ask-reseats words (2 * places) s (curveFits kind c) 9 _ (λ f. inr (begun (ltb-true s stations l) i ranged)))))))
     where
-      begun : s < 8 → isIdle (stateAt words s) ≡ true → inRange p ≡ true → Reseated words (submittedWords words s kind p c) (2 * places) s
+      begun : s < stations → isIdle (stateAt words s) ≡ true → inRange p ≡ true → Reseated words (submittedWords words s kind p c) (2 * places) s
       begun l i ranged =
           let w = submit-written words places limit o s l kind p c ranged in
           record {
@@ -94,7 +96,7 @@ module _ (words : List ℕ) (places limit : ℕ) (o : openedIn words ≡ Opened 
   unfolding takeWords
   take-reseats = go (takeOf words s) refl
     where
-      go : (x : Taking) → takeOf words s ≡ x → Reseats words (takenWords words s x) (2 * places) s
+      go : (x : Taking) → takeOf words s ≡ x → Reseats words (emptiedWords words s x) (2 * places) s
       go (Refusal n) e = inl refl
       go (Taken a) e =
           let g = taken-gives words s a e in

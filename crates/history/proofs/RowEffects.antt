@@ -5,20 +5,23 @@ use mathlib.Core.Bool.{Bool, true, false}
 use mathlib.Core.List.{List}
 use lib.Dec.{eqb}
 use borrow.Author.Tests.{eqb-true, eqb-false}
+use Rattle.stations.specs.Counts.{countsAt}
 use Rattle.points.specs.Word.{NONE}
-use Rattle.stations.specs.declared.common.Opening.the-variants.{Opened}
 use Rattle.rows.specs.declared.row.Row.{Row as WordRow}
 use Rattle.words.specs.Agree.{inCommon, inStation, inRow, OnlyIn}
-use Rattle.words.specs.Layout.{Room}
+use Rattle.words.specs.Layout.{Fits}
 use Rattle.rows.specs.Row.{rowAt, putRow, isRow, inRows}
-use Rattle.stations.specs.Common.{openedIn}
+use Rattle.stations.specs.Common.{openedIn, Opened}
 use Rattle.words.proofs.AgreeLaws.{common-row, station-row, elsewhere}
 use Rattle.rows.proofs.RowLaws.{row-sound, putRow-none, putRow-only, rowAt-putRow-same, rowAt-putRow-other}
-use Rattle.stations.proofs.OpeningLaws.{opened-tells, opened-room}
+use Rattle.stations.proofs.OpeningLaws.{opened-tells, opened-fits}
 use Rattle.calls.proofs.UnseenLaws.{reads-unseen}
 use Rattle.trees.specs.Row.{Row, spareRow, removedRow, leafRow, cutRow, Heap}
-use Rattle.history.specs.View.{countsAt, seatAt, wordRow, Reads, heapPut, Written}
-use Rattle.history.proofs.Frame.{seat-same, counts-agree, place-agree}
+use Rattle.stations.proofs.CountLaws.{counts-agree}
+use Rattle.stations.proofs.TrackLaws.{track-agree}
+use Rattle.stations.proofs.TargetLaws.{targetAt-agree}
+use Rattle.history.specs.View.{seatAt, wordRow, Reads, heapPut, Written}
+use Rattle.history.proofs.Frame.{seat-same}
 
 -- a row in range is written over a heap
 pub reads-put : (words : List ℕ) (places limit : ℕ) (h : Heap) (r : ℕ) (row : Row) → openedIn words ≡ Opened places limit → r < 2 * places → inRows (2 * places) (wordRow row) ≡ true
@@ -26,11 +29,11 @@ pub reads-put : (words : List ℕ) (places limit : ℕ) (h : Heap) (r : ℕ) (ro
 unfolding heapPut
 reads-put words places limit h r row o l e w q k = go (eqb q r) refl
   where
-    room : Room words (2 * places)
-    room = opened-room words places limit (opened-tells words places limit o)
+    fits : Fits words (2 * places)
+    fits = opened-fits words places limit o
 
     go : (b : Bool) → eqb q r ≡ b → rowAt (putRow words r (wordRow row)) (2 * places) q ≡ wordRow (elim b [ true ↦ row | false ↦ h q ])
-    go true f = rw (eqb-true q r f) (rowAt-putRow-same words r (wordRow row) (2 * places) room l e)
+    go true f = rw (eqb-true q r f) (rowAt-putRow-same words r (wordRow row) (2 * places) fits l e)
     go false f = rowAt-putRow-other words r (wordRow row) (2 * places) q (eqb-false q r f) ∙ w q k
 
 -- writing at none writes nothing
@@ -44,7 +47,7 @@ region-written {v} {w} r only =
     record {
       opened = reads-unseen (inRow r) inCommon only (common-row r) .opened;
       counted = counts-agree common;
-      seated = λ s l. seat-same v w s (place-agree common s l) (reads-unseen (inRow r) (inStation s) only (station-row s r));
+      seated = λ s l. seat-same v w s (track-agree common s) (targetAt-agree common s) (reads-unseen (inRow r) (inStation s) only (station-row s r));
     }
 
 pub row-written : (words : List ℕ) (r : ℕ) (row : WordRow) → Written words (putRow words r row) (countsAt words) (λ s. seatAt words s)

@@ -6,10 +6,10 @@ use mathlib.Core.Bool.{Bool, true, false≢true}
 use mathlib.Core.List.{List}
 use native.Mathlib.Decide.{ℕ-discrete}
 use borrow.Author.Tests.{eq-eqb, ne-eqb}
+use Rattle.stations.specs.Counts.{countsAt}
 use Rattle.points.specs.declared.point.Point.{Point}
 use Rattle.points.specs.declared.cut.Cut.{Cut as PointCut}
 use Rattle.points.specs.Word.{NONE}
-use Rattle.stations.specs.declared.common.Opening.the-variants.{Opened}
 use Rattle.rows.specs.declared.row.Row.{Row as WordRow}
 use Rattle.rows.specs.declared.row.Row.the-variants.{Bad, Spare, Removed, Leaf, Cut}
 use Rattle.words.specs.Agree.{inRow}
@@ -19,10 +19,10 @@ use Rattle.words.proofs.AgreeLaws.{row-row}
 use Rattle.rows.proofs.RowLaws.{putRow-only}
 use Rattle.rows.proofs.GradeLaws.{admits-putRow, begin-only, begin-rows}
 use Rattle.calls.proofs.UnseenLaws.{reads-unseen}
-use Rattle.stations.specs.Common.{openedIn}
+use Rattle.stations.specs.Common.{openedIn, Opened}
 use Rattle.trees.specs.Row.{Row, Heap, Wrote}
 use Rattle.calls.specs.Link.{isCut}
-use Rattle.history.specs.View.{countsAt, seatAt, wordRow, Reads, heapPut, marksIn, Written}
+use Rattle.history.specs.View.{seatAt, wordRow, Reads, heapPut, marksIn, Written}
 use Rattle.history.proofs.Frame.{slot-fits}
 use Rattle.history.proofs.Effects.{reads-put, put-none, region-written, row-written}
 

@@ -5,6 +5,7 @@ use mathlib.Core.Bool.{Bool, true, false}
 use mathlib.Core.List.{List}
 use native.Mathlib.Omega.{arith}
 use lib.Dec.{ltb}
+use Rattle.words.specs.Layout.{stations}
 use Rattle.stations.specs.declared.answer.Waiting.{Waiting}
 use Rattle.stations.specs.declared.answer.Waiting.the-variants.{Nothing, Given}
 use Rattle.stations.specs.Common.{openedIn, isOpened}
@@ -30,13 +31,13 @@ use Rattle.history.proofs.Solo.{solo-steps}
 -- questions 4 and 5 pass
 pub record Passes (words : List ℕ) (s : ℕ) : Type 0 where
   pub opened : isOpened (openedIn words) ≡ true
-  pub station : ltb s 8 ≡ true
+  pub station : ltb s stations ≡ true
 
 step-passes : (words : List ℕ) (s : ℕ) → stepOf words s .number ≡ 0 → Passes words s
 unfolding stepOf
-step-passes words s e = go (isOpened (openedIn words)) refl (ltb s 8) refl
+step-passes words s e = go (isOpened (openedIn words)) refl (ltb s stations) refl
   where
-    go : (a : Bool) → isOpened (openedIn words) ≡ a → (b : Bool) → ltb s 8 ≡ b → Passes words s
+    go : (a : Bool) → isOpened (openedIn words) ≡ a → (b : Bool) → ltb s stations ≡ b → Passes words s
     go true p true q = record { opened = p; station = q }
     go false p b q = let z : _≡_ {A = ℕ} 4 0 = rw p at e in absurd (omega arith)
     go true p false q = let z : _≡_ {A = ℕ} 5 0 = rw (p, q) at e in absurd (omega arith)
@@ -44,9 +45,9 @@ step-passes words s e = go (isOpened (openedIn words)) refl (ltb s 8) refl
 -- a taking is accepted exactly if an answer waits
 answered-given : (words : List ℕ) (s : ℕ) → Answered words s → isGiven (waitingAt words s) ≡ true
 unfolding takeOf
-answered-given words s e = go (isOpened (openedIn words)) refl (ltb s 8) refl (waitingAt words s) refl
+answered-given words s e = go (isOpened (openedIn words)) refl (ltb s stations) refl (waitingAt words s) refl
   where
-    go : (a : Bool) → isOpened (openedIn words) ≡ a → (b : Bool) → ltb s 8 ≡ b → (x : Waiting) → waitingAt words s ≡ x → isGiven x ≡ true
+    go : (a : Bool) → isOpened (openedIn words) ≡ a → (b : Bool) → ltb s stations ≡ b → (x : Waiting) → waitingAt words s ≡ x → isGiven x ≡ true
     go true p true q (Given a) f = refl
     go true p true q Nothing f = let z : _≡_ {A = ℕ} 12 0 = rw (p, q, f) at e in absurd (omega arith)
     go true p false q x f = let z : _≡_ {A = ℕ} 5 0 = rw (p, q) at e in absurd (omega arith)

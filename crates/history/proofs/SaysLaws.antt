@@ -9,8 +9,10 @@ use mathlib.Core.Option.{Option}
 use native.Mathlib.Omega.{arith}
 use lib.Dec.{eqb}
 use borrow.Author.Tests.{eqb-true, eqb-false, eq-eqb, ne-eqb}
-use Rattle.words.specs.Layout.{atRemovals, atSince}
-use Rattle.words.specs.Words.{get}
+use Rattle.words.specs.Layout.{stations}
+use Rattle.stations.specs.Counts.{countsAt}
+use Rattle.stations.specs.declared.counts.Counts.{Counts}
+use Rattle.stations.specs.Track.{trackAt}
 use Rattle.stations.specs.Common.{leastSince}
 use Rattle.stations.proofs.TakenLaws.{least-removals}
 use Rattle.table.specs.Call.{Call, add, remove, contains, nearest, Answer}
@@ -20,7 +22,7 @@ use Rattle.trees.specs.Tree.{Tree}
 use Rattle.trees.specs.Queue.{Free}
 use Rattle.trees.specs.Below.{Marks, Covered}
 use Rattle.trees.proofs.Room.{store-release}
-use Rattle.history.specs.View.{Counts, Seat, countsAt, placeAt, seatAt, seatPut, marksIn, SameRows, Written}
+use Rattle.history.specs.View.{Seat, seatAt, seatPut, marksIn, SameRows, Written}
 use Rattle.history.specs.Related.{Works, Says, Marking, Related}
 use Rattle.history.proofs.BusyLaws.{busy-on}
 
@@ -54,7 +56,7 @@ module _ (t t′ : Table) (changes : t′ .changes ≡ t .changes) (removals : t
   pub says-kept : (x : Station) → Says t tree queue seat x → Says t′ tree queue seat x
   says-kept idle b = b
   says-kept (waiting a) b = b
-  says-kept (unfinished i c o) b = busy-on b (seat .place) (rw changes (b .asof)) (b .phase) (works-kept i c o (b .works))
+  says-kept (unfinished i c o) b = busy-on b (seat .track) (rw changes (b .asof)) (b .phase) (works-kept i c o (b .works))
 
 -- ---- one seat anew
 
@@ -84,23 +86,23 @@ seat-put-each P seats s x h u k = go (eqb u s) refl
     go false q = rw (seat-put-other seats s u x (eqb-false u s q)) k
 
 -- a seat and a station put anew: the others say what they said
-pub says-put : (t t′ : Table) → t′ .changes ≡ t .changes → t′ .removals ≡ t .removals → (tree : Option Tree) (queue : List Free) (seats : ℕ → Seat) (stations : ℕ → Station)
-    → ((u : ℕ) → u < 8 → Says t tree queue (seats u) (stations u)) → (s : ℕ) (x : Seat) (y : Station) → Says t′ tree queue x y
-    → (u : ℕ) → u < 8 → Says t′ tree queue (seatPut seats s x u) (put stations s y u)
-says-put t t′ changes removals tree queue seats stations says s x y b u l = elim (put-cases stations s u y) [
+pub says-put : (t t′ : Table) → t′ .changes ≡ t .changes → t′ .removals ≡ t .removals → (tree : Option Tree) (queue : List Free) (seats : ℕ → Seat) (said : ℕ → Station)
+    → ((u : ℕ) → u < stations → Says t tree queue (seats u) (said u)) → (s : ℕ) (x : Seat) (y : Station) → Says t′ tree queue x y
+    → (u : ℕ) → u < stations → Says t′ tree queue (seatPut seats s x u) (put said s y u)
+says-put t t′ changes removals tree queue seats said says s x y b u l = elim (put-cases said s u y) [
   | inl w ↦
       let v : seatPut seats s x u ≡ x = rw (w .0) (seat-put-same seats s x) in
       subst (Says t′ tree queue (seatPut seats s x u)) (sym (w .1)) (subst (λ z. Says t′ tree queue z y) (sym v) b)
   | inr w ↦
-      let v : Says t′ tree queue (seats u) (stations u) = says-kept t t′ changes removals tree queue (seats u) (stations u) (says u l) in
-      subst (Says t′ tree queue (seatPut seats s x u)) (sym (w .1)) (subst (λ z. Says t′ tree queue z (stations u)) (sym (seat-put-other seats s u x (w .0))) v)
+      let v : Says t′ tree queue (seats u) (said u) = says-kept t t′ changes removals tree queue (seats u) (said u) (says u l) in
+      subst (Says t′ tree queue (seatPut seats s x u)) (sym (w .1)) (subst (λ z. Says t′ tree queue z (said u)) (sym (seat-put-other seats s u x (w .0))) v)
 ]
 
 -- a seat and a station put anew: the other adds have marked what they had
-pub marking-put : (marks : Marks) (tree : Option Tree) (seats : ℕ → Seat) (stations : ℕ → Station)
-    → ((u : ℕ) → u < 8 → Marking marks tree (seats u .place .cursor) (stations u)) → (s : ℕ) (x : Seat) (y : Station) → Marking marks tree (x .place .cursor) y
-    → (u : ℕ) → u < 8 → Marking marks tree (seatPut seats s x u .place .cursor) (put stations s y u)
-marking-put marks tree seats stations each s x y b u l = elim (put-cases stations s u y) [
+pub marking-put : (marks : Marks) (tree : Option Tree) (seats : ℕ → Seat) (said : ℕ → Station)
+    → ((u : ℕ) → u < stations → Marking marks tree (seats u .track .cursor) (said u)) → (s : ℕ) (x : Seat) (y : Station) → Marking marks tree (x .track .cursor) y
+    → (u : ℕ) → u < stations → Marking marks tree (seatPut seats s x u .track .cursor) (put said s y u)
+marking-put marks tree seats said each s x y b u l = elim (put-cases said s u y) [
   | inl w ↦ let v : seatPut seats s x u ≡ x = rw (w .0) (seat-put-same seats s x) in rw (w .1, v) b
   | inr w ↦ rw (w .1, seat-put-other seats s u x (w .0)) (each u l)
 ]
@@ -109,13 +111,12 @@ marking-put marks tree seats stations each s x y b u l = elim (put-cases station
 
 module _ {words words′ : List ℕ} {counts : Counts} {seats : ℕ → Seat} (w : Written words words′ counts seats) where
   -- a word of the common record as it was written
-  pub written-removals : get words′ atRemovals ≡ counts .removals
-  unfolding countsAt
+  pub written-removals : countsAt words′ .removals ≡ counts .removals
   written-removals = ap (λ (c : Counts). c .removals) (w .counted)
 
-  pub written-since : (s : ℕ) → s < 8 → get words′ (atSince s) ≡ seats s .place .since
-  unfolding seatAt placeAt
-  written-since s l = ap (λ (x : Seat). x .place .since) (w .seated s l)
+  pub written-since : (s : ℕ) → s < stations → trackAt words′ s .since ≡ seats s .track .since
+  unfolding seatAt
+  written-since s l = ap (λ (x : Seat). x .track .since) (w .seated s l)
 
 -- the marks as one function
 pub same-marks : {words words′ : List ℕ} {rows : ℕ} → SameRows words words′ rows → marksIn words′ ≡ marksIn words
@@ -124,8 +125,8 @@ same-marks same = λ i. λ x side p. same .marks x side p i
 -- Where the rows and the counts are as they were, the table differs in its stations alone, no removal is awaited anew, the seats say what
 -- the stations say, and every add has marked its way, words and table are related again.
 unfoldable pub related-written : {words words′ : List ℕ} {t t′ : Table} {seats : ℕ → Seat} (r : Related words t) → Written words words′ (countsAt words) seats → SameRows words words′ (2 * t .places)
-    → Alike t t′ → leastSince words ≤ leastSince words′ → ((s : ℕ) → s < 8 → Says t′ (r .tree) (r .queue) (seats s) (t′ .stations s))
-    → ((s : ℕ) → s < 8 → Marking (marksIn words) (r .tree) (seats s .place .cursor) (t′ .stations s)) → Related words′ t′
+    → Alike t t′ → leastSince words ≤ leastSince words′ → ((s : ℕ) → s < stations → Says t′ (r .tree) (r .queue) (seats s) (t′ .stations s))
+    → ((s : ℕ) → s < stations → Marking (marksIn words) (r .tree) (seats s .track .cursor) (t′ .stations s)) → Related words′ t′
 related-written {words} {words′} {t} {t′} {seats} r w rows a le says marking = record {
   opened = rw (a .places, a .limit) (w .opened ∙ r .opened);
   heap = r .heap;
@@ -145,5 +146,5 @@ related-written {words} {words′} {t} {t′} {seats} r w rows a le says marking
   number = rw (a .held) (r .number);
   seats = λ s l. subst (λ x. Says t′ (r .tree) (r .queue) x (t′ .stations s)) (sym (w .seated s l)) (says s l);
   covered = subst (λ m. Covered m (r .tree)) (sym (same-marks rows)) (r .covered);
-  marking = λ s l. subst (λ m. Marking m (r .tree) (seatAt words′ s .place .cursor) (t′ .stations s)) (sym (same-marks rows)) (rw (w .seated s l) (marking s l));
+  marking = λ s l. subst (λ m. Marking m (r .tree) (seatAt words′ s .track .cursor) (t′ .stations s)) (sym (same-marks rows)) (rw (w .seated s l) (marking s l));
 }

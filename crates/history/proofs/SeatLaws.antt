@@ -8,11 +8,12 @@ use mathlib.Core.List.{List}
 use native.Mathlib.Omega.{arith}
 use lib.Dec.{eqb}
 use borrow.Author.Tests.{eqb-true, eqb-false}
-use Rattle.words.specs.Layout.{atSince}
-use Rattle.words.specs.Words.{get}
+use Rattle.words.specs.Layout.{stations}
+use Rattle.stations.specs.Counts.{countsAt}
+use Rattle.stations.specs.Track.{trackAt}
 use Rattle.stations.specs.Common.{leastSince}
 use Rattle.table.specs.Table.{Station, Table, withStations}
-use Rattle.history.specs.View.{Seat, countsAt, placeAt, seatAt, seatPut, marksIn, SameRows, Written}
+use Rattle.history.specs.View.{Seat, seatAt, seatPut, marksIn, SameRows, Written}
 use Rattle.history.specs.Related.{Says, Marking, Related}
 use Rattle.stations.proofs.TakenLaws.{least-removals, least-since, least-greatest}
 use Rattle.history.proofs.SaysLaws.{says-kept, written-removals, related-written}
@@ -30,26 +31,26 @@ seat-cases seats s x u = go (eqb u s) refl
 
 module _ {words words′ : List ℕ} {seats : ℕ → Seat} (w : Written words words′ (countsAt words) seats) where
   -- where each seat has a since word no less than the least one, that is no less
-  pub least-written : ((u : ℕ) → u < 8 → leastSince words ≤ seats u .place .since) → leastSince words ≤ leastSince words′
-  unfolding countsAt seatAt placeAt
+  pub least-written : ((u : ℕ) → u < stations → leastSince words ≤ seats u .track .since) → leastSince words ≤ leastSince words′
+  unfolding seatAt
   least-written f = least-greatest words′ (leastSince words) (omega (arith, least-removals words, written-removals w))
-      (λ u l. let e : get words′ (atSince u) ≡ seats u .place .since = ap (λ (z : Seat). z .place .since) (w .seated u l) in omega (arith, f u l))
+      (λ u l. let e : trackAt words′ u .since ≡ seats u .track .since = ap (λ (z : Seat). z .track .since) (w .seated u l) in omega (arith, f u l))
 
 module _ (words words′ : List ℕ) (t : Table) (f : ℕ → Station) (s : ℕ) (x : Seat) (r : Related words t)
     (w : Written words words′ (countsAt words) (seatPut (λ u. seatAt words u) s x)) (same : SameRows words words′ (2 * t .places))
-    (later : leastSince words ≤ x .place .since) (others : (u : ℕ) → u ≢ s → f u ≡ t .stations u) (says : Says t (r .tree) (r .queue) x (f s))
-    (marking : Marking (marksIn words) (r .tree) (x .place .cursor) (f s)) where
-  pub put-since : (u : ℕ) → u < 8 → leastSince words ≤ seatPut (λ v. seatAt words v) s x u .place .since
-  unfolding seatAt placeAt
+    (later : leastSince words ≤ x .track .since) (others : (u : ℕ) → u ≢ s → f u ≡ t .stations u) (says : Says t (r .tree) (r .queue) x (f s))
+    (marking : Marking (marksIn words) (r .tree) (x .track .cursor) (f s)) where
+  pub put-since : (u : ℕ) → u < stations → leastSince words ≤ seatPut (λ v. seatAt words v) s x u .track .since
+  unfolding seatAt
   put-since u l = elim (seat-cases (λ v. seatAt words v) s x u) [ inl c ↦ rw (c .1) later | inr c ↦ rw (c .1) (least-since words u l) ]
 
-  pub put-says : (u : ℕ) → u < 8 → Says (withStations t f) (r .tree) (r .queue) (seatPut (λ v. seatAt words v) s x u) (f u)
+  pub put-says : (u : ℕ) → u < stations → Says (withStations t f) (r .tree) (r .queue) (seatPut (λ v. seatAt words v) s x u) (f u)
   put-says u l = elim (seat-cases (λ v. seatAt words v) s x u) [
     | inl c ↦ rw (c .1, c .0) (says-kept t (withStations t f) refl refl (r .tree) (r .queue) x (f s) says)
     | inr c ↦ rw (c .1, others u (c .0)) (says-kept t (withStations t f) refl refl (r .tree) (r .queue) (seatAt words u) (t .stations u) (r .seats u l))
   ]
 
-  pub put-marking : (u : ℕ) → u < 8 → Marking (marksIn words) (r .tree) (seatPut (λ v. seatAt words v) s x u .place .cursor) (f u)
+  pub put-marking : (u : ℕ) → u < stations → Marking (marksIn words) (r .tree) (seatPut (λ v. seatAt words v) s x u .track .cursor) (f u)
   put-marking u l = elim (seat-cases (λ v. seatAt words v) s x u) [
     | inl c ↦ rw (c .1, c .0) marking
     | inr c ↦ rw (c .1, others u (c .0)) (r .marking u l)

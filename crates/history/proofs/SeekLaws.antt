@@ -28,8 +28,10 @@ use Rattle.trees.proofs.ChoiceOf.{choiceOf}
 use Rattle.trees.proofs.MarkLaws.{closed-covered}
 use Rattle.trees.proofs.MissingLaws.{missing-in}
 use Rattle.trees.proofs.SearchMoves.{search-look, search-tour}
-use Rattle.calls.specs.declared.search.Progress.{Progress as WordProgress}
-use Rattle.calls.specs.Search.{look as lookWord, tour as tourWord, toured as touredWord, toursOf, seek as seekWord, isFinished}
+use Rattle.calls.specs.declared.progress.Progress.{Progress as WordProgress}
+use Rattle.calls.specs.Search.{toursOf, seek as seekWord, isFinished}
+use Rattle.calls.specs.Tour.{tour as tourWord, toured as touredWord}
+use Rattle.calls.specs.Look.{look as lookWord}
 use Rattle.history.specs.View.{Reads, marksIn, opensIn}
 use Rattle.history.proofs.ProgressWords.{viewOf, Fit, Shows, Keeps}
 use Rattle.history.proofs.LookWords.{look-words}

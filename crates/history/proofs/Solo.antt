@@ -6,6 +6,7 @@ use mathlib.Core.Bool.{Bool, true, false, true≢false}
 use mathlib.Core.List.{List}
 use native.Mathlib.Omega.{arith}
 use native.Mathlib.Decide.{decLt}
+use Rattle.words.specs.Layout.{stations}
 use Rattle.stations.specs.Station.{hasStation, isUnfinished, stateAt}
 use Rattle.stations.proofs.StationLaws.{there-tells}
 use Rattle.stations.proofs.AbsentLaws.{stateAt-absent}
@@ -34,7 +35,7 @@ after-within zero words s w = (w .0, inl (w .1))
 after-within (suc n) words s w = (w .0, inr (after-within n (stepOf words s .words) s (w .2)))
 
 -- a station that is not one of the eight has no state
-pub outside-state : (words : List ℕ) (s : ℕ) → 8 ≤ s → isUnfinished (stateAt words s) ≡ false
+pub outside-state : (words : List ℕ) (s : ℕ) → stations ≤ s → isUnfinished (stateAt words s) ≡ false
 outside-state words s g = rw (stateAt-absent words s (go (hasStation words s) refl))
   where
     go : (b : Bool) → hasStation words s ≡ b → hasStation words s ≡ false
@@ -47,7 +48,7 @@ AnsweredBelow most words s = (n : ℕ) × (n < most) × AnsweredAfter n words s
 
 -- a station with an unfinished call, after a history
 solo-stands : {words : List ℕ} {places limit : ℕ} (w : Stands words places limit) (s : ℕ) → isUnfinished (stateAt words s) ≡ true → AnsweredBelow (16 * places + 64) words s
-solo-stands {words} {places} {limit} w s u = go (decLt s 8)
+solo-stands {words} {places} {limit} w s u = go (decLt s stations)
   where
     v : Stands words places limit
     v = settled-stands w .0
@@ -55,14 +56,14 @@ solo-stands {words} {places} {limit} w s u = go (decLt s 8)
     t : Table
     t = v .table
 
-    by-station : s < 8 → (x : Station) → t .stations s ≡ x → AnsweredBelow (16 * places + 64) words s
+    by-station : s < stations → (x : Station) → t .stations s ≡ x → AnsweredBelow (16 * places + 64) words s
     by-station l idle q = absurd (true≢false (sym u ∙ quiet-state s l idle q tt (v .related)))
     by-station l (waiting a) q = absurd (true≢false (sym u ∙ quiet-state s l (waiting a) q tt (v .related)))
     by-station l (unfinished i c o) q =
         let w = stepped-ends t s i c o (v .sound) (settled-stands w .1) l q words (stepMoves * t .places) (most-left s i c o (v .sound) l q (v .related)) in
         (w .before, omega (arith, w .few, v .places-same), w .answered)
 
-    go : Dec (s < 8) → AnsweredBelow (16 * places + 64) words s
+    go : Dec (s < stations) → AnsweredBelow (16 * places + 64) words s
     go (yes l) = by-station l (t .stations s) refl
     go (no g) = absurd (true≢false (sym u ∙ outside-state words s (omega arith)))
 

@@ -9,6 +9,8 @@ use mathlib.Core.List.{List, [], _∷_}
 use mathlib.Core.Option.{Option}
 use native.Mathlib.Omega.{arith}
 use native.Mathlib.Decide.{decLt}
+use Rattle.words.specs.Layout.{stations}
+use Rattle.stations.specs.Counts.{countsAt}
 use Rattle.stations.specs.Station.{isUnfinished, stateAt}
 use Rattle.table.specs.Call.{Call, Answer}
 use Rattle.table.specs.Table.{Station, idle, unfinished, waiting, Table}
@@ -18,7 +20,7 @@ use Rattle.table.proofs.Eager.{Settled}
 use Rattle.calls.specs.Open.{openOf}
 use Rattle.calls.specs.Step.{stepOf}
 use Rattle.history.specs.Index.{wordIndex}
-use Rattle.history.specs.View.{countsAt, seatAt, SameRows}
+use Rattle.history.specs.View.{seatAt, SameRows}
 use Rattle.history.specs.Related.{Related}
 use Rattle.history.specs.After.{after}
 use Rattle.history.specs.Somebody.{mostUnanswered, dealtStep, dealtSteps, Undisturbed, SomeAnswered}
@@ -70,7 +72,7 @@ pub record Fallen (words : List ℕ) (places limit n s : ℕ) : Type 0 where
   pub within : Within (stepOf words s .words) places limit fewer
   pub counted : stepMoves * dealtStep words (singleStep s) + fewer ≤ n
 
-module _ {words : List ℕ} {places limit n : ℕ} (s : ℕ) (l : s < 8) (w : Within words places limit n) (settled : Settled (w .stands .table))
+module _ {words : List ℕ} {places limit n : ℕ} (s : ℕ) (l : s < stations) (w : Within words places limit n) (settled : Settled (w .stands .table))
     (still : answered wordIndex words (singleStep s) ≡ false) where
   abbrev t : Table
   t = w .stands .table
@@ -105,7 +107,7 @@ pub step-falls : {words : List ℕ} {places limit n : ℕ} (s : ℕ) → Within 
 unfolding same-within
 step-falls {words} {places} {limit} {n} s w still = go (isUnfinished (stateAt words s)) refl (decLt s 8)
   where
-    go : (b : Bool) → isUnfinished (stateAt words s) ≡ b → Dec (s < 8) → Fallen words places limit n s
+    go : (b : Bool) → isUnfinished (stateAt words s) ≡ b → Dec (s < stations) → Fallen words places limit n s
     go false u d = record {
       fewer = n;
       within = subst (λ (x : List ℕ). Within x places limit n) (sym (step-refused words s (quiet-refused s (w .stands .related) u))) w;

@@ -4,6 +4,7 @@ use mathlib.Core.Path.{_≡_, sym, ap, _∙_}
 use mathlib.Core.List.{List}
 use mathlib.Core.Option.{Option, none, some}
 use native.Mathlib.Omega.{arith}
+use Rattle.stations.specs.Counts.{countsAt}
 use Rattle.points.specs.Word.{NONE}
 use Rattle.rows.specs.Row.{rowAt}
 use Rattle.table.specs.Table.{Table}
@@ -12,7 +13,7 @@ use Rattle.trees.proofs.Path.{shape-frame}
 use Rattle.trees.proofs.QueueLaws.{linked-frame, queue-unique}
 use Rattle.trees.proofs.Room.{queue-rows}
 use Rattle.trees.proofs.ShapeLaws.{shape-unique}
-use Rattle.history.specs.View.{countsAt, wordRow, SameRows}
+use Rattle.history.specs.View.{wordRow, SameRows}
 use Rattle.history.specs.Related.{Related}
 use Rattle.history.proofs.AuditRows.{valueOf, value-word}
 

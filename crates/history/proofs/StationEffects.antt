@@ -4,40 +4,44 @@ use Prim.Native.Nat.{ℕ, _*_, _<_}
 use mathlib.Core.Path.{_≡_, ap, _∙_}
 use mathlib.Core.Bool.{true, cond}
 use mathlib.Core.List.{List}
-use native.Mathlib.Omega.{arith}
 use lib.Dec.{eqb}
 use lib.ListN.{length}
 use Rattle.points.specs.declared.point.Point.{Point}
 use Rattle.points.specs.Point.{inRange}
 use Rattle.points.specs.Word.{NONE}
-use Rattle.stations.specs.declared.common.Opening.the-variants.{Opened}
+use Rattle.words.specs.Layout.{stations}
+use Rattle.words.specs.Agree.{inCommon, inStation, AgreeIn, OnlyIn}
+use Rattle.words.proofs.AgreeLaws.{only-trans, common-station, elsewhere}
 use Rattle.stations.specs.declared.answer.Answer.{Answer}
-use Rattle.words.specs.Layout.{atChanges, atRoot, atRemovals, atSince, atMissed}
-use Rattle.words.specs.Words.{get}
-use Rattle.words.specs.Agree.{inCommon, inStation, OnlyIn}
-use Rattle.stations.specs.Common.{openedIn}
-use Rattle.stations.specs.Station.{hasStation, submitted, answered, taken, stateAt, putState, putPlace}
+use Rattle.stations.specs.declared.track.Track.{Track}
+use Rattle.stations.specs.Common.{Opened, openedIn}
+use Rattle.stations.specs.Counts.{countsAt}
+use Rattle.stations.specs.Station.{hasStation, submitted, answered, emptied, stateAt, putState}
 use Rattle.stations.specs.Target.{targetAt}
+use Rattle.stations.specs.Track.{nowhere, standing, trackAt, putTrack}
 use Rattle.stations.specs.Call.{putBest, putCall}
 use Rattle.stations.specs.Answer.{answerSound, putAnswer}
-use Rattle.words.proofs.AgreeLaws.{only-trans, common-station, elsewhere}
-use Rattle.stations.proofs.OpeningLaws.{opened-tells, opened-room}
-use Rattle.stations.proofs.StationLaws.{there-room, there-length, putState-only, putBest-only, putCall-only, putAnswer-only, putPlace-only, putMissed-only}
+use Rattle.stations.proofs.OpeningLaws.{opened-station}
+use Rattle.stations.proofs.StationLaws.{there-length, putState-only, putBest-only, putCall-only, putAnswer-only}
+use Rattle.stations.proofs.CountLaws.{counts-agree}
+use Rattle.stations.proofs.TrackLaws.{track-agree, track-back, putTrack-only}
+use Rattle.stations.proofs.TargetLaws.{targetAt-agree}
 use Rattle.stations.proofs.RecordLaws.{callAt-putState, answerAt-putState, stateAt-putBest, answerAt-putBest, callAt-putAnswer, answerAt-putCall}
 use Rattle.stations.proofs.ReadBackLaws.{stateAt-putState-same, callAt-putBest, answerAt-putAnswer-same, callAt-putCall-same}
 use Rattle.stations.proofs.SoundLaws.{noBest-point, answer-tells}
-use Rattle.calls.specs.declared.search.Progress.{Progress}
+use Rattle.stations.proofs.FieldLaws.{target-putTrack}
+use Rattle.calls.specs.declared.progress.Progress.{Progress}
 use Rattle.calls.specs.Answer.{letGo, answeredWords}
-use Rattle.calls.specs.Submit.{callFor, sinceFor, begunWords, submittedWords}
-use Rattle.calls.specs.Search.{keptWords}
-use Rattle.history.specs.View.{Place, countsAt, placeAt, seatAt, withPlace, seatPut, noPlace, SameRows, Written, answeredSeat}
-use Rattle.history.proofs.Frame.{seat-of, place-agree, common-stations}
-use Rattle.history.proofs.OwnEffects.{Own, own-trans, own-station, own-rows, own-written, own-aimed, own-place, own-missed, own-placed}
-use Rattle.history.proofs.OwnEffects.{withMissed, withStand, withAim, aimed-only, place-aimed, place-putPlace, place-putMissed, placed-only, place-placed}
+use Rattle.calls.specs.Submit.{callFor, sinceFor, begunTrack, begunWords, submittedWords}
+use Rattle.calls.specs.Search.{keptTrack, keptWords}
+use Rattle.calls.specs.Walk.{walkedWords}
+use Rattle.history.specs.View.{seatAt, withTrack, seatPut, SameRows, Written, answeredSeat}
+use Rattle.history.proofs.Frame.{seat-of, common-stations}
+use Rattle.history.proofs.OwnEffects.{Own, own-trans, own-station, own-rows, own-written, own-track, own-aimed, aimed-only, track-aimed, target-aimed}
 
-module _ (words : List ℕ) (places limit : ℕ) (o : openedIn words ≡ Opened places limit) (s : ℕ) (l : s < 8) where
+module _ (words : List ℕ) (places limit : ℕ) (o : openedIn words ≡ Opened places limit) (s : ℕ) (l : s < stations) where
   here : hasStation words s ≡ true
-  here = there-room words (2 * places) s (opened-room words places limit (opened-tells words places limit o)) l
+  here = opened-station words places limit o s l
 
   still : (v : List ℕ) → length v ≡ length words → hasStation v s ≡ true
   still v e = there-length v words s e ∙ here
@@ -45,52 +49,48 @@ module _ (words : List ℕ) (places limit : ℕ) (o : openedIn words ≡ Opened 
   -- submission: first the station's record, then its words in the common record
   module _ (kind : ℕ) (p : Point) (c : ℕ) where
     abbrev called : List ℕ
-    called = putCall words s (callFor (get words atChanges) kind p c)
+    called = putCall words s (callFor (countsAt words .changes) kind p c)
 
     abbrev asked : List ℕ
     asked = putState called s (submitted (stateAt words s))
 
     asked-only : OnlyIn asked words (inStation s)
-    asked-only = only-trans (putState-only called s (submitted (stateAt words s))) (putCall-only words s (callFor (get words atChanges) kind p c))
+    asked-only = only-trans (putState-only called s (submitted (stateAt words s))) (putCall-only words s (callFor (countsAt words .changes) kind p c))
 
-    begun-only : OnlyIn (begunWords asked s kind) asked inCommon
-    unfolding begunWords
-    begun-only = placed-only asked s (get asked atRoot) 0 (sinceFor (get asked atRemovals) kind) NONE
+    asked-common : AgreeIn asked words inCommon
+    asked-common = elsewhere (inStation s) inCommon asked-only (common-station s)
+
+    abbrev begun : List ℕ
+    begun = putTrack asked s (begunTrack (countsAt asked) kind)
+
+    begun-only : OnlyIn begun asked inCommon
+    begun-only = putTrack-only asked s (begunTrack (countsAt asked) kind)
 
     own-submit : Own (submittedWords words s kind p c) words s
     unfolding submittedWords begunWords
-    own-submit =
-        own-trans (own-aimed (begunWords asked s kind) s kind p)
-        (own-trans (own-placed asked s (get asked atRoot) 0 (sinceFor (get asked atRemovals) kind) NONE) (own-station s asked-only))
+    own-submit = own-trans (own-aimed begun s kind p) (own-trans (own-track asked s (begunTrack (countsAt asked) kind)) (own-station s asked-only))
 
     pub submit-written : inRange p ≡ true → Written words (submittedWords words s kind p c) (countsAt words)
         (seatPut (λ u. seatAt words u) s
         (record {
-          place = record {
-            cursor = get words atRoot;
-            phase = 0;
-            since = sinceFor (get words atRemovals) kind;
-            missed = NONE;
-            target = cond (eqb kind 4) p (targetAt words s);
-          };
+          track = record { cursor = countsAt words .root; phase = 0; since = sinceFor (countsAt words .removals) kind; missed = NONE };
+          target = cond (eqb kind 4) p (seatAt words s .target);
           state = 1;
-          call = callFor (get words atChanges) kind p c;
+          call = callFor (countsAt words .changes) kind p c;
           answer = seatAt words s .answer;
         }))
-    unfolding submittedWords begunWords seatAt placeAt callFor
+    unfolding submittedWords begunWords begunTrack callFor seatAt
     submit-written r =
-        let call = callFor (get words atChanges) kind p c in
-        let common = elsewhere (inStation s) inCommon asked-only (common-station s) in
-        let root : get asked atRoot ≡ get words atRoot = common .words atRoot (omega arith) (omega arith) in
-        let removals : get asked atRemovals ≡ get words atRemovals = common .words atRemovals (omega arith) (omega arith) in
-        let aim : targetAt asked s ≡ targetAt words s = ap (λ (x : Place). x .target) (place-agree common s l) in
-        let reads = common-stations (only-trans (aimed-only (begunWords asked s kind) s kind p) begun-only) s in
+        let call = callFor (countsAt words .changes) kind p c in
+        let aim : targetAt begun s ≡ targetAt words s = target-putTrack asked s (begunTrack (countsAt asked) kind) s ∙ targetAt-agree asked-common s in
+        let reads = common-stations (only-trans (aimed-only begun s kind p) begun-only) s in
         let there : hasStation called s ≡ true = still called (putCall-only words s call .lengths) in
-        own-written (submittedWords words s kind p c) words s _ l own-submit
+        own-written (submittedWords words s kind p c) words s _ own-submit
         (seat-of (submittedWords words s kind p c) s _
-        (place-aimed (begunWords asked s kind) s kind p (still (begunWords asked s kind) (begun-only .lengths ∙ asked-only .lengths)) r
-        ∙ ap (withAim kind p) (place-placed asked s (get asked atRoot) 0 (sinceFor (get asked atRemovals) kind) NONE (still asked (asked-only .lengths)))
-        ∙ (λ i. record { cursor = root i; phase = 0; since = sinceFor (removals i) kind; missed = NONE; target = cond (eqb kind 4) p (aim i) }))
+        (track-aimed begun s kind p
+        ∙ track-back asked s (begunTrack (countsAt asked) kind) (still asked (asked-only .lengths))
+        ∙ ap (λ counts. begunTrack counts kind) (counts-agree asked-common))
+        (target-aimed begun s kind p (still begun (begun-only .lengths ∙ asked-only .lengths)) r ∙ ap (cond (eqb kind 4) p) aim)
         (ap (λ x. x .word) (reads .state ∙ stateAt-putState-same called s there (submitted (stateAt words s))))
         (reads .call ∙ callAt-putState called s (submitted (stateAt words s)) ∙ callAt-putCall-same words s here call r noBest-point)
         (reads .answer ∙ answerAt-putState called s (submitted (stateAt words s)) ∙ answerAt-putCall words s call))
@@ -99,21 +99,24 @@ module _ (words : List ℕ) (places limit : ℕ) (o : openedIn words ≡ Opened 
     submit-rows = own-rows own-submit (2 * places)
 
   -- taking
-  own-take : Own (putState words s (taken (stateAt words s))) words s
-  own-take = own-station s (putState-only words s (taken (stateAt words s)))
+  abbrev empty : List ℕ
+  empty = putState words s (emptied (stateAt words s))
 
-  pub take-written : Written words (putState words s (taken (stateAt words s))) (countsAt words)
-      (seatPut (λ u. seatAt words u) s (record { place = placeAt words s; state = 0; call = seatAt words s .call; answer = seatAt words s .answer }))
+  own-take : Own empty words s
+  own-take = own-station s (putState-only words s (emptied (stateAt words s)))
+
+  pub take-written : Written words empty (countsAt words)
+      (seatPut (λ u. seatAt words u) s
+      (record { track = seatAt words s .track; target = seatAt words s .target; state = 0; call = seatAt words s .call; answer = seatAt words s .answer }))
   unfolding seatAt
   take-written =
-      let v = putState words s (taken (stateAt words s)) in
-      let common = elsewhere (inStation s) inCommon (putState-only words s (taken (stateAt words s))) (common-station s) in
-      own-written v words s _ l own-take
-      (seat-of v s _ (place-agree common s l) (ap (λ x. x .word) (stateAt-putState-same words s here (taken (stateAt words s))))
-      (callAt-putState words s (taken (stateAt words s)))
-      (answerAt-putState words s (taken (stateAt words s))))
+      let common : AgreeIn empty words inCommon = elsewhere (inStation s) inCommon (putState-only words s (emptied (stateAt words s))) (common-station s) in
+      own-written empty words s _ own-take
+      (seat-of empty s _ (track-agree common s) (targetAt-agree common s) (ap (λ x. x .word) (stateAt-putState-same words s here (emptied (stateAt words s))))
+      (callAt-putState words s (emptied (stateAt words s)))
+      (answerAt-putState words s (emptied (stateAt words s))))
 
-  pub take-rows : SameRows words (putState words s (taken (stateAt words s))) (2 * places)
+  pub take-rows : SameRows words empty (2 * places)
   take-rows = own-rows own-take (2 * places)
 
   -- an answer
@@ -129,17 +132,17 @@ module _ (words : List ℕ) (places limit : ℕ) (o : openedIn words ≡ Opened 
 
     own-answer : Own (answeredWords words s a) words s
     unfolding answeredWords letGo
-    own-answer = own-trans (own-placed waits s NONE 0 NONE NONE) (own-station s waits-only)
+    own-answer = own-trans (own-track waits s nowhere) (own-station s waits-only)
 
     pub answer-written : answerSound a ≡ true → Written words (answeredWords words s a) (countsAt words)
         (seatPut (λ u. seatAt words u) s (answeredSeat (seatAt words s) a))
-    unfolding answeredWords letGo seatAt placeAt
+    unfolding answeredWords letGo seatAt
     answer-written e =
-        let aim : targetAt waits s ≡ targetAt words s = ap (λ (x : Place). x .target) (place-agree (elsewhere (inStation s) inCommon waits-only (common-station s)) s l) in
-        let reads = common-stations (placed-only waits s NONE 0 NONE NONE) s in
+        let common : AgreeIn waits words inCommon = elsewhere (inStation s) inCommon waits-only (common-station s) in
+        let reads = common-stations (putTrack-only waits s nowhere) s in
         let there : hasStation told s ≡ true = still told (putAnswer-only words s a .lengths) in
-        own-written (answeredWords words s a) words s _ l own-answer
-        (seat-of (answeredWords words s a) s _ (place-placed waits s NONE 0 NONE NONE (still waits (waits-only .lengths)) ∙ ap noPlace aim)
+        own-written (answeredWords words s a) words s _ own-answer
+        (seat-of (answeredWords words s a) s _ (track-back waits s nowhere (still waits (waits-only .lengths))) (target-putTrack waits s nowhere s ∙ targetAt-agree common s)
         (ap (λ x. x .word) (reads .state ∙ stateAt-putState-same told s there (answered (stateAt words s))))
         (reads .call ∙ callAt-putState told s (answered (stateAt words s)) ∙ callAt-putAnswer words s a)
         (reads .answer ∙ answerAt-putState told s (answered (stateAt words s)) ∙ answerAt-putAnswer-same words s here a (answer-tells a e .point)))
@@ -152,31 +155,29 @@ module _ (words : List ℕ) (places limit : ℕ) (o : openedIn words ≡ Opened 
     abbrev chosen : List ℕ
     chosen = putBest words s (p .best)
 
-    abbrev sought : List ℕ
-    sought = putPlace chosen s (p .cursor) (p .phase)
+    abbrev kept : Track
+    kept = keptTrack p (trackAt words s)
 
     own-kept : Own (keptWords words s p) words s
     unfolding keptWords
-    own-kept = own-trans (own-missed sought s (p .missed)) (own-trans (own-place chosen s (p .cursor) (p .phase)) (own-station s (putBest-only words s (p .best))))
+    own-kept = own-trans (own-track chosen s kept) (own-station s (putBest-only words s (p .best)))
 
     pub kept-written : inRange (p .best .point) ≡ true → Written words (keptWords words s p) (countsAt words)
         (seatPut (λ u. seatAt words u) s
         (record {
-          place = record { cursor = p .cursor; phase = p .phase; since = get words (atSince s); missed = p .missed; target = targetAt words s };
+          track = record { cursor = p .cursor; phase = p .phase; since = seatAt words s .track .since; missed = p .missed };
+          target = seatAt words s .target;
           state = seatAt words s .state;
           call = record { kind = seatAt words s .call .kind; point = seatAt words s .call .point; curve = seatAt words s .call .curve; asof = seatAt words s .call .asof; best = p .best };
           answer = seatAt words s .answer;
         }))
-    unfolding keptWords seatAt placeAt
+    unfolding keptWords keptTrack seatAt
     kept-written e =
         let only = putBest-only words s (p .best) in
-        let stands = putPlace-only chosen s (p .cursor) (p .phase) in
-        let common = elsewhere (inStation s) inCommon only (common-station s) in
-        let reads = common-stations (only-trans (putMissed-only sought s (p .missed)) stands) s in
-        own-written (keptWords words s p) words s _ l own-kept
-        (seat-of (keptWords words s p) s _
-        (place-putMissed sought s (still sought (stands .lengths ∙ only .lengths)) (p .missed)
-        ∙ ap (withMissed (p .missed)) (place-putPlace chosen s (still chosen (only .lengths)) (p .cursor) (p .phase) ∙ ap (withStand (p .cursor) (p .phase)) (place-agree common s l)))
+        let common : AgreeIn chosen words inCommon = elsewhere (inStation s) inCommon only (common-station s) in
+        let reads = common-stations (putTrack-only chosen s kept) s in
+        own-written (keptWords words s p) words s _ own-kept
+        (seat-of (keptWords words s p) s _ (track-back chosen s kept (still chosen (only .lengths))) (target-putTrack chosen s kept s ∙ targetAt-agree common s)
         (ap (λ x. x .word) (reads .state ∙ stateAt-putBest words s (p .best)))
         (reads .call ∙ callAt-putBest words s here (p .best) e)
         (reads .answer ∙ answerAt-putBest words s (p .best)))
@@ -186,13 +187,16 @@ module _ (words : List ℕ) (places limit : ℕ) (o : openedIn words ≡ Opened 
 
   -- a walk goes on
   module _ (to : ℕ) where
-    pub walk-written : Written words (putPlace words s to 0) (countsAt words)
-        (seatPut (λ u. seatAt words u) s (withPlace (seatAt words s) (record { cursor = to; phase = 0; since = get words (atSince s); missed = get words (atMissed s); target = targetAt words s })))
-    unfolding seatAt placeAt
-    walk-written =
-        let reads = common-stations (putPlace-only words s to 0) s in
-        own-written (putPlace words s to 0) words s _ l (own-place words s to 0)
-        (seat-of (putPlace words s to 0) s _ (place-putPlace words s here to 0) (ap (λ x. x .word) (reads .state)) (reads .call) (reads .answer))
+    abbrev stands : Track
+    stands = standing to 0 (trackAt words s)
 
-    pub walk-rows : SameRows words (putPlace words s to 0) (2 * places)
-    walk-rows = own-rows (own-place words s to 0) (2 * places)
+    pub walk-written : Written words (walkedWords words s to) (countsAt words) (seatPut (λ u. seatAt words u) s (withTrack (seatAt words s) (standing to 0 (seatAt words s .track))))
+    unfolding walkedWords seatAt
+    walk-written =
+        let reads = common-stations (putTrack-only words s stands) s in
+        own-written (walkedWords words s to) words s _ (own-track words s stands)
+        (seat-of (walkedWords words s to) s _ (track-back words s stands here) (target-putTrack words s stands s) (ap (λ x. x .word) (reads .state)) (reads .call) (reads .answer))
+
+    pub walk-rows : SameRows words (walkedWords words s to) (2 * places)
+    unfolding walkedWords
+    walk-rows = own-rows (own-track words s stands) (2 * places)

@@ -1,4 +1,4 @@
--- An add that finds its point not held, a change left and room: the record is inserted, and the step answers 1 (`insert-outcome`).
+-- An add that finds its point not held, a change left and site: the record is inserted, and the step answers 1 (`insert-outcome`).
 use Prim.Native.Nat.{ℕ, suc, _+_, _-_, _*_, _≤_, _<_}
 use mathlib.Core.Path.{_≡_, refl, sym, _∙_, ap, subst}
 use mathlib.Core.Logic.{_↔_, _⊎_, inl, inr}
@@ -9,10 +9,12 @@ use native.Mathlib.Omega.{arith}
 use native.Mathlib.Numerals.{add-one}
 use lib.ListN.{length}
 use borrow.Author.Tests.{ne-eqb}
+use Rattle.words.specs.Layout.{mostLimit, stations}
+use Rattle.stations.specs.Counts.{countsAt}
+use Rattle.stations.specs.declared.counts.Counts.{Counts}
 use Rattle.points.specs.declared.point.Point.{Point}
 use Rattle.points.specs.Word.{NONE}
-use Rattle.words.specs.Layout.{atChanges, atHeld, atRoot, atTail, atRemovals}
-use Rattle.words.specs.Words.{get, more}
+use Rattle.words.specs.Words.{more}
 use Rattle.stations.specs.Common.{leastSince}
 use Rattle.stations.specs.Call.{callAt}
 use Rattle.stations.proofs.TakenLaws.{awaiting-is, taken-is}
@@ -23,7 +25,7 @@ use Rattle.table.specs.Call.{add, answer}
 use Rattle.table.specs.Table.{unfinished, waiting, Table, put, withStations, taken}
 use Rattle.table.proofs.Sound.{Sound}
 use Rattle.table.proofs.Eager.{Settled}
-use Rattle.table.proofs.Answers.{add-room, finished-change}
+use Rattle.table.proofs.Answers.{add-new, finished-change}
 use Rattle.trees.specs.Row.{Entry, Heap, leafRow, nextOf}
 use Rattle.trees.specs.Tree.{Tree, topOf, Holds, countOf, entriesOf}
 use Rattle.trees.specs.Queue.{headOf}
@@ -36,10 +38,10 @@ use Rattle.trees.proofs.ReadLaws.{cut-has, cut-reads}
 use Rattle.trees.proofs.ShapeLaws.{entries-held}
 use Rattle.trees.proofs.RouteLaws.{on-route-has}
 use Rattle.trees.proofs.Insert.{insert}
-use Rattle.calls.specs.declared.insert.Room.{Room}
+use Rattle.calls.specs.declared.insert.Site.{Site}
 use Rattle.calls.specs.Answer.{answer as given, answeredWords}
-use Rattle.calls.specs.Insert.{roomAt, roomSound, insertRoot as rootAfter, insertHead as headAfter, insertRows, insertCounts, cursorsMoved, insertWords, insertOf}
-use Rattle.history.specs.View.{Counts, Seat, countsAt, seatAt, marksIn}
+use Rattle.calls.specs.Insert.{siteAt, siteSound, insertRoot as rootAfter, insertHead as headAfter, insertRows, insertCounts, cursorsMoved, insertWords, insertOf}
+use Rattle.history.specs.View.{Seat, seatAt, marksIn}
 use Rattle.history.specs.Related.{recordOf, Busy, Related}
 use Rattle.history.proofs.Readings.{added-change, addedTable, changed-add}
 use Rattle.history.proofs.Effects.{movedCursor, insert-written, insert-same-rows}
@@ -50,7 +52,7 @@ use Rattle.history.proofs.OtherSeats.{says-insert, marking-insert, left
 use Rattle.history.proofs.RowWrites.{Holding, held-first}
 use Rattle.history.proofs.RowKinds.{kindAt}
 use Rattle.history.proofs.InsertMarks.{marks-inserted, mark-new, mark-old}
-use Rattle.history.proofs.InsertRows.{next-word, Finds, beside-finds, besideRoom, room-beside, sound-beside, beside-writes, alone-finds, aloneRoom, room-alone, sound-alone, alone-writes}
+use Rattle.history.proofs.InsertRows.{next-word, Finds, beside-finds, besideSite, room-beside, sound-beside, beside-writes, alone-finds, aloneSite, room-alone, sound-alone, alone-writes}
 
 -- ---- records
 
@@ -86,40 +88,40 @@ record Gains (words words′ : List ℕ) (tree : Option Tree) (new : Entry) (pla
 -- ---- the relation after an insert
 
 -- the words after an insert, given what was read, what is written and what that makes of tree and queue
-next-inserted : {words : List ℕ} {t : Table} {h′ : Heap} {a b : ℕ} {new : Entry} (place : Option Leaf) (room : Room) → Sound t → Settled t → (r : Related words t)
-    → new .added ≡ more (get words atChanges) → t .changes < NONE → countOf (r .tree) < NONE
-    → (leafOf place ≡ NONE → cutFor place b ≡ NONE) → room .at ≡ leafOf place → room .second ≡ cutFor place b
-    → rootAfter room (get words atRoot) ≡ insertRoot place a b (topOf (r .tree)) → headAfter room ≡ insertHead (r .heap) place a b
-    → Holding (cursorsMoved (room .at) (room .second) 8 (insertCounts words room))
-    (insertRows (cursorsMoved (room .at) (room .second) 8 (insertCounts words room)) room (new .added) (new .point) (new .curve)) (t .places) (t .limit) h′
+next-inserted : {words : List ℕ} {t : Table} {h′ : Heap} {a b : ℕ} {new : Entry} (place : Option Leaf) (site : Site) → Sound t → Settled t → (r : Related words t)
+    → new .added ≡ more (countsAt words .changes) → t .changes < NONE → countOf (r .tree) < NONE
+    → (leafOf place ≡ NONE → cutFor place b ≡ NONE) → site .at ≡ leafOf place → site .second ≡ cutFor place b
+    → rootAfter site (countsAt words .root) ≡ insertRoot place a b (topOf (r .tree)) → headAfter site ≡ insertHead (r .heap) place a b
+    → Holding (cursorsMoved (site .at) (site .second) stations (insertCounts words site))
+    (insertRows (cursorsMoved (site .at) (site .second) stations (insertCounts words site)) site (new .added) (new .point) (new .curve)) (t .places) (t .limit) h′
     → Inserted (t .places) (r .heap) h′ (r .tree) (r .queue) (t .changes) (length (t .removals)) (leastSince words) new place a b
-    → Gains words (insertRows (cursorsMoved (room .at) (room .second) 8 (insertCounts words room)) room (new .added) (new .point) (new .curve)) (r .tree) new place b
-    → Next r 8 (insertWords words room (new .point) (new .curve)) (addedTable t (new .point) (new .curve))
-unfolding countsAt insertWords
-next-inserted {words} {t} {h′} {a} {b} {new} place room sound settled r number below few still at second root head v w gains =
+    → Gains words (insertRows (cursorsMoved (site .at) (site .second) stations (insertCounts words site)) site (new .added) (new .point) (new .curve)) (r .tree) new place b
+    → Next r stations (insertWords words site (new .point) (new .curve)) (addedTable t (new .point) (new .curve))
+unfolding insertWords
+next-inserted {words} {t} {h′} {a} {b} {new} place site sound settled r number below few still at second root head v w gains =
     rw (← number) (record { related = inserted; beside = beside })
   where
     base : List ℕ
-    base = cursorsMoved (room .at) (room .second) 8 (insertCounts words room)
+    base = cursorsMoved (site .at) (site .second) stations (insertCounts words site)
 
     written : List ℕ
-    written = insertRows base room (new .added) (new .point) (new .curve)
+    written = insertRows base site (new .added) (new .point) (new .curve)
 
     counts : countsAt written ≡ record {
-      changes = more (get words atChanges);
-      held = more (get words atHeld);
-      root = rootAfter room (get words atRoot);
-      head = headAfter room;
-      tail = get words atTail;
-      removals = get words atRemovals;
+      changes = more (countsAt words .changes);
+      held = more (countsAt words .held);
+      root = rootAfter site (countsAt words .root);
+      head = headAfter site;
+      tail = countsAt words .tail;
+      removals = countsAt words .removals;
     }
-    counts = v .written .counted ∙ insert-written words (t .places) (t .limit) (r .opened) room .counted
+    counts = v .written .counted ∙ insert-written words (t .places) (t .limit) (r .opened) site .counted
 
-    seated : (s : ℕ) → s < 8 → seatAt written s ≡ movedCursor (room .at) (room .second) (seatAt words s)
-    seated s l = v .written .seated s l ∙ insert-written words (t .places) (t .limit) (r .opened) room .seated s l
+    seated : (s : ℕ) → s < stations → seatAt written s ≡ movedCursor (site .at) (site .second) (seatAt words s)
+    seated s l = v .written .seated s l ∙ insert-written words (t .places) (t .limit) (r .opened) site .seated s l
 
     least : leastSince written ≡ leastSince words
-    least = least-same words written (ap (λ (c : Counts). c .removals) counts) (λ s l. ap (λ (x : Seat). x .place .since) (seated s l))
+    least = least-same words written (ap (λ (c : Counts). c .removals) counts) (λ s l. ap (λ (x : Seat). x .track .since) (seated s l))
 
     inserted : Related written (addedTable t (new .point) (new .curve))
     inserted = record {
@@ -147,7 +149,7 @@ next-inserted {words} {t} {h′} {a} {b} {new} place room sound settled r number
     }
 
     -- a search has four moves more at most, which were spent with the record
-    beside : Beside r inserted 8
+    beside : Beside r inserted stations
     beside u k d i p x q =
         let same : seatAt written u ≡ movedCursor (leafOf place) (cutFor place b) (seatAt words u) = seated u k ∙ (λ j. movedCursor (at j) (second j) (seatAt words u)) in
         let fewer = left-insert t (addedTable t (new .point) (new .curve)) w (add-one (t .changes)) refl (seatAt words u) (r .store) i p x (least-seat words u k) (related-busy r k q) in
@@ -155,7 +157,7 @@ next-inserted {words} {t} {h′} {a} {b} {new} place room sound settled r number
           arith,
           fewer,
           ap (λ (z : Seat). leftAt (w .tree) (w .queue) z) same,
-          ap (λ (z : Seat). z .place .since) same,
+          ap (λ (z : Seat). z .track .since) same,
           ap (λ (c : Counts). c .held) counts,
           ap (λ (c : Counts). c .removals) counts,
           ap more (r .counted .held) ∙ more-is (countOf (r .tree)) few,
@@ -166,105 +168,103 @@ next-inserted {words} {t} {h′} {a} {b} {new} place room sound settled r number
 
 module _ {words : List ℕ} {t : Table} (r : Related words t) (sound : Sound t) where
   -- the changes fit a word with room to spare
-  changes-word : t .changes ≤ 4000000000
+  changes-word : t .changes ≤ mostLimit
   changes-word = omega (arith, sound .spent, related-is-open r .limit-most)
 
   -- with a place free there is room in the queue
   related-room : ¬ (taken t ≡ t .places) → countOf (r .tree) + (length (t .removals) - leastSince words) < t .places
-  unfolding countsAt
-  related-room n = omega (arith, n, sound .room, related-taken r sound, taken-is words, awaiting-is words, r .counted .held, r .counted .removals)
+  related-room n = omega (arith, n, sound .bounded, related-taken r sound, taken-is words, awaiting-is words, r .counted .held, r .counted .removals)
 
 -- an add has marked its way down to the leaf where its walk ended
 abbrev pub PassedTo : Marks → Option Tree → Point → Option Leaf → Type 0
 PassedTo marks tree p none = Unit {0}
 PassedTo marks tree p (some l) = Passed marks tree p (l .row)
 
-module _ {words : List ℕ} {t : Table} {s i : ℕ} {p : Point} {c : ℕ} (sound : Sound t) (settled : Settled t) (l : s < 8) (q : t .stations s ≡ unfinished i (add p c) none) (r : Related words t) (free : curveAt p (t .held) ≡ none)
+module _ {words : List ℕ} {t : Table} {s i : ℕ} {p : Point} {c : ℕ} (sound : Sound t) (settled : Settled t) (l : s < stations) (q : t .stations s ≡ unfinished i (add p c) none) (r : Related words t) (free : curveAt p (t .held) ≡ none)
     (left : ¬ (t .changes ≡ t .limit)) (place-left : ¬ (taken t ≡ t .places)) where
   busy : Busy t (r .tree) (r .queue) (seatAt words s) i (add p c) none
   busy = related-busy r l q
 
   -- the answer is written after the record
-  next-after : {w w′ : List ℕ} {t′ : Table} (v : Next r 8 w (addedTable t p c)) → Next (v .related) s w′ t′ → Next r s w′ t′
+  next-after : {w w′ : List ℕ} {t′ : Table} (v : Next r stations w (addedTable t p c)) → Next (v .related) s w′ t′ → Next r s w′ t′
   next-after v z = record {
     related = z .related;
     beside = λ u k d j y a e. omega (arith, v .beside u k (λ x. omega arith) j y a e, z .beside u k d j y a e);
   }
 
   -- once the record is inserted the answer waits
-  inserted-outcome : {n : ℕ} (at : ℕ) (room : Room) → roomAt words (2 * t .places) at ≡ room → roomSound room ≡ true → Next r 8 (insertWords words room p c) (addedTable t p c)
+  inserted-outcome : {n : ℕ} (at : ℕ) (site : Site) → siteAt words (2 * t .places) at ≡ site → siteSound site ≡ true → Next r stations (insertWords words site p c) (addedTable t p c)
       → Outcome r s (add p c) none n (insertOf words (2 * t .places) s (callAt words s) at)
   unfolding insertOf seatAt
-  inserted-outcome at room e ok v =
+  inserted-outcome at site e ok v =
       rw (e, ok, busy .point, busy .curve)
-      (ends refl (subst (λ (u : Table). Next r s (answeredWords (insertWords words room p c) s (given 1 p c 0)) u)
-      (sym (finished-change t s (add p c) (answer 1 p c 0) (add-room t p c free left place-left) (added-change p c) ∙ ap (λ (u : Table). withStations u (put (t .stations) s (waiting (answer 1 p c 0)))) (changed-add t p c)))
+      (ends refl (subst (λ (u : Table). Next r s (answeredWords (insertWords words site p c) s (given 1 p c 0)) u)
+      (sym (finished-change t s (add p c) (answer 1 p c 0) (add-new t p c free left place-left) (added-change p c) ∙ ap (λ (u : Table). withStations u (put (t .stations) s (waiting (answer 1 p c 0)))) (changed-add t p c)))
       (next-after v (next-answered s l (v .related) (given 1 p c 0) (omega (arith, removals-word r sound))
       (answer-of (given 1 p c 0) (record { code = refl; point = busy .ranged; curve = curve-tells c (busy .fits) .1; square = omega arith }))))))
 
   abbrev entry : Entry
-  entry = record { point = p; curve = c; added = more (get words atChanges) }
+  entry = record { point = p; curve = c; added = more (countsAt words .changes) }
 
-  entry-number : more (get words atChanges) ≡ suc (t .changes)
-  unfolding countsAt
+  entry-number : more (countsAt words .changes) ≡ suc (t .changes)
   entry-number = ap more (r .counted .changes) ∙ more-is (t .changes) (omega (arith, changes-word r sound))
 
   -- the slice with the counts and cursors of the insert has the same rows
-  begun : (room : Room) → let base : List ℕ = cursorsMoved (room .at) (room .second) 8 (insertCounts words room) in Holding base base (t .places) (t .limit) (r .heap)
-  begun room =
-      held-first (cursorsMoved (room .at) (room .second) 8 (insertCounts words room)) (t .places) (t .limit) (r .heap)
-      (insert-written words (t .places) (t .limit) (r .opened) room .opened ∙ r .opened)
-      (λ x lx. insert-same-rows words (t .places) (t .limit) (r .opened) room .row x lx ∙ r .reads x lx)
+  begun : (site : Site) → let base : List ℕ = cursorsMoved (site .at) (site .second) stations (insertCounts words site) in Holding base base (t .places) (t .limit) (r .heap)
+  begun site =
+      held-first (cursorsMoved (site .at) (site .second) stations (insertCounts words site)) (t .places) (t .limit) (r .heap)
+      (insert-written words (t .places) (t .limit) (r .opened) site .opened ∙ r .opened)
+      (λ x lx. insert-same-rows words (t .places) (t .limit) (r .opened) site .row x lx ∙ r .reads x lx)
 
   few : countOf (r .tree) < NONE
   few = omega (arith, related-room r sound place-left, related-is-open r .places-most)
 
   -- into the empty tree
   alone-outcome : {n : ℕ} → r .tree ≡ none → Outcome r s (add p c) none n (insertOf words (2 * t .places) s (callAt words s) NONE)
-  unfolding countsAt rootAfter headAfter
+  unfolding rootAfter headAfter
   alone-outcome e =
       let h : Heap = r .heap in
       let a : ℕ = headOf (r .queue) in
       let f = alone-finds (subst (λ (x : Option Tree). Store (t .places) h x (r .queue) (t .changes) (length (t .removals)) (leastSince words)) e (r .store)) (omega (arith, related-room r sound place-left)) in
-      let w = alone-writes words (t .places) h a (f .0) (r .reads) (r .store .fits) entry (busy .ranged) (busy .fits) (begun (aloneRoom h a)) in
+      let w = alone-writes words (t .places) h a (f .0) (r .reads) (r .store .fits) entry (busy .ranged) (busy .fits) (begun (aloneSite h a)) in
       let v : Inserted (t .places) h (w .0) (r .tree) (r .queue) (t .changes) (length (t .removals)) (leastSince words) entry none a (nextOf (h a)) =
       insert (w .0) entry (r .tree) none (r .store) (related-room r sound place-left) e tt (busy .ranged) entry-number (w .2) in
-      inserted-outcome NONE (aloneRoom h a) (room-alone words (t .places) h a (f .0) (r .reads) (r .store .fits) (r .counted .head))
+      inserted-outcome NONE (aloneSite h a) (room-alone words (t .places) h a (f .0) (r .reads) (r .store .fits) (r .counted .head))
       (sound-alone words (t .places) h a (f .0) (r .reads) (r .store .fits) (f .1))
-      (next-inserted none (aloneRoom h a) sound settled r refl (omega (arith, changes-word r sound)) few (λ d. refl) refl refl refl (next-word (h a)) (w .1) v
+      (next-inserted none (aloneSite h a) sound settled r refl (omega (arith, changes-word r sound)) few (λ d. refl) refl refl refl (next-word (h a)) (w .1) v
       (record { grown = λ x m side q g. absurd (rw e at m); marked = tt }))
 
   -- beside a leaf
   beside-outcome : {n : ℕ} (leaf : Leaf) → OnRoute (r .tree) p (leaf .row) → r .heap (leaf .row) ≡ leafRow (leaf .parent) (leaf .entry) → ¬ (p ≡ leaf .entry .point)
       → Passed (marksIn words) (r .tree) p (leaf .row) → Outcome r s (add p c) none n (insertOf words (2 * t .places) s (callAt words s) (leaf .row))
-  unfolding countsAt rootAfter headAfter
+  unfolding rootAfter headAfter
   beside-outcome leaf on reads other passed =
       let h : Heap = r .heap in
       let a : ℕ = headOf (r .queue) in
       let b : ℕ = nextOf (h a) in
       let f : Finds (t .places) h a b leaf = finds (r .tree) (r .store) (related-room r sound place-left) on in
-      let room : Room = besideRoom words (2 * t .places) h a b leaf in
+      let site : Site = besideSite words (2 * t .places) h a b leaf in
       let there : ¬ (leaf .row ≡ NONE) = λ d. omega (arith, d, f .leaf-row, r .store .fits) in
-      let w = beside-writes words f (r .reads) (r .store .fits) entry (busy .ranged) (busy .fits) (begun room) in
+      let w = beside-writes words f (r .reads) (r .store .fits) entry (busy .ranged) (busy .fits) (begun site) in
       let v : Inserted (t .places) h (w .0) (r .tree) (r .queue) (t .changes) (length (t .removals)) (leastSince words) entry (some leaf) a b =
       insert (w .0) entry (r .tree) (some leaf) (r .store) (related-room r sound place-left) (on, reads) other (busy .ranged) entry-number (w .2) in
-      inserted-outcome (leaf .row) room (room-beside words f (r .reads) (r .store .fits) (r .counted .head)) (sound-beside words f (r .reads) (r .store .fits))
-      (next-inserted (some leaf) room sound settled r refl (omega (arith, changes-word r sound)) few (λ d. absurd (there d)) refl refl
+      inserted-outcome (leaf .row) site (room-beside words f (r .reads) (r .store .fits) (r .counted .head)) (sound-beside words f (r .reads) (r .store .fits))
+      (next-inserted (some leaf) site sound settled r refl (omega (arith, changes-word r sound)) few (λ d. absurd (there d)) refl refl
       (rw (ne-eqb (leaf .row) NONE there, r .counted .root)) (rw (ne-eqb (leaf .row) NONE there) (next-word (h b))) (w .1) v (gains f))
     where
       gains : {a b : ℕ} (f : Finds (t .places) (r .heap) a b leaf)
           → Gains words
-          (insertRows (cursorsMoved (leaf .row) b 8 (insertCounts words (besideRoom words (2 * t .places) (r .heap) a b leaf))) (besideRoom words (2 * t .places) (r .heap) a b leaf) (entry .added) p c)
+          (insertRows (cursorsMoved (leaf .row) b stations (insertCounts words (besideSite words (2 * t .places) (r .heap) a b leaf))) (besideSite words (2 * t .places) (r .heap) a b leaf) (entry .added) p c)
           (r .tree) entry (some leaf) b
       gains {a} {b} f =
-          let room : Room = besideRoom words (2 * t .places) (r .heap) a b leaf in
-          let base : List ℕ = cursorsMoved (leaf .row) b 8 (insertCounts words room) in
+          let site : Site = besideSite words (2 * t .places) (r .heap) a b leaf in
+          let base : List ℕ = cursorsMoved (leaf .row) b stations (insertCounts words site) in
           record {
             grown = λ x m side q g.
                 let k = cut-reads (r .tree) (r .store) m in
                 marks-inserted words f (r .reads) (r .store .fits) base entry x (r .store .inside x (cut-has (r .tree) x m)) (ap kindAt (k .reads)) side q
-                ∙ insert-same-rows words (t .places) (t .limit) (r .opened) room .marks x side q ∙ g;
-            marked = (mark-new words f (r .reads) (r .store .fits) base entry (begun room .opened), mark-old words f (r .reads) (r .store .fits) base entry (begun room .opened), passed);
+                ∙ insert-same-rows words (t .places) (t .limit) (r .opened) site .marks x side q ∙ g;
+            marked = (mark-new words f (r .reads) (r .store .fits) base entry (begun site .opened), mark-old words f (r .reads) (r .store .fits) base entry (begun site .opened), passed);
           }
 
       finds : (tree : Option Tree) → Store (t .places) (r .heap) tree (r .queue) (t .changes) (length (t .removals)) (leastSince words)

@@ -7,6 +7,7 @@ use mathlib.Core.Bool.{Bool, true, false}
 use mathlib.Core.List.{List}
 use native.Mathlib.Omega.{arith}
 use lib.Dec.{ltb}
+use Rattle.words.specs.Layout.{stations}
 use Rattle.stations.specs.Station.{isUnfinished, stateAt}
 use Rattle.table.specs.Table.{Station, idle, unfinished, waiting, Table}
 use Rattle.table.specs.Event.{Event, singleStep}
@@ -36,7 +37,7 @@ not-11 (inr (inr q)) e = omega arith
 
 still-number : (t : Table) (s : ℕ) → StepNumber (still t s .number)
 unfolding still stillAt
-still-number t s = ask-all (λ r. StepNumber (r .number)) (ltb s 8) 5 t _ (inr (inl refl)) (λ l. go (t .stations s))
+still-number t s = ask-all (λ r. StepNumber (r .number)) (ltb s stations) 5 t _ (inr (inl refl)) (λ l. go (t .stations s))
   where
     go : (x : Station) → StepNumber (stillAt t x .number)
     go idle = inr (inr refl)
@@ -66,9 +67,9 @@ step-never-11 words places limit e evs s = not-11 (step-numbers words places lim
 -- a step of a station without an unfinished call is refused
 pub quiet-refused : {words : List ℕ} {t : Table} (s : ℕ) → Related words t → isUnfinished (stateAt words s) ≡ false → stepOf words s .number ≢ 0
 unfolding stepOf
-quiet-refused {words} s r u z = go (ltb s 8) refl
+quiet-refused {words} s r u z = go (ltb s stations) refl
   where
-    go : (b : Bool) → ltb s 8 ≡ b → ⊥
+    go : (b : Bool) → ltb s stations ≡ b → ⊥
     go true e = let y : _≡_ {A = ℕ} 10 0 = rw (related-passes r, e, u) at z in omega arith
     go false e = let y : _≡_ {A = ℕ} 5 0 = rw (related-passes r, e) at z in omega arith
 

@@ -6,12 +6,13 @@ use mathlib.Core.List.{List}
 use mathlib.Core.Option.{Option, none, some}
 use native.Mathlib.Omega.{arith}
 use borrow.Author.Tests.{eq-eqb, ne-eqb}
+use Rattle.words.specs.Layout.{stations}
 use Rattle.stations.specs.Call.{callAt}
 use Rattle.table.specs.Call.{Call, add, remove, contains, nearest, isSearch, Answer}
 use Rattle.table.specs.Table.{unfinished, Table}
 use Rattle.table.proofs.Sound.{Sound}
-use Rattle.table.proofs.Eager.{Settled, fresh}
-use Rattle.table.proofs.Taken.{search-room}
+use Rattle.table.proofs.Eager.{Settled, unsettled}
+use Rattle.table.proofs.Taken.{search-places}
 use Rattle.calls.specs.Step.{workOf, stepOf}
 use Rattle.calls.specs.Walk.{walkOf}
 use Rattle.calls.specs.Search.{searchOf}
@@ -28,12 +29,12 @@ use Rattle.history.proofs.StepWalk.{walk-outcome}
 use Rattle.history.proofs.Readings.{nearest-search}
 
 -- a settled table has an answer set down for an unfinished nearest
-settled-set : (t : Table) (s i : ℕ) (c : Call) → Settled t → s < 8 → t .stations s ≡ unfinished i c none → isSearch c ≡ true → ⊥
-unfolding fresh
-settled-set t s i c k l q e = true≢false (sym e ∙ sym (ap fresh q) ∙ k s l)
+settled-set : (t : Table) (s i : ℕ) (c : Call) → Settled t → s < stations → t .stations s ≡ unfinished i c none → isSearch c ≡ true → ⊥
+unfolding unsettled
+settled-set t s i c k l q e = true≢false (sym e ∙ sym (ap unsettled q) ∙ k s l)
 
 -- the seat of a station with an unfinished call
-pub busy : {words : List ℕ} {t : Table} (s i : ℕ) (c : Call) (o : Option Answer) → s < 8 → t .stations s ≡ unfinished i c o → (r : Related words t)
+pub busy : {words : List ℕ} {t : Table} (s i : ℕ) (c : Call) (o : Option Answer) → s < stations → t .stations s ≡ unfinished i c o → (r : Related words t)
     → Busy t (r .tree) (r .queue) (seatAt words s) i c o
 busy s i c o l q r = rw q at (r .seats s l)
 
@@ -46,14 +47,14 @@ module _ (words : List ℕ) (rows s : ℕ) where
   work-walk n = rw (ne-eqb (callAt words s .kind) 4 n)
 
 -- an add, a remove or a contains
-walks : {words : List ℕ} {t : Table} (s i m : ℕ) (c : Call) (o : Option Answer) → Sound t → Settled t → s < 8 → t .stations s ≡ unfinished i c o → isSearch c ≡ false → o ≡ none
+walks : {words : List ℕ} {t : Table} (s i m : ℕ) (c : Call) (o : Option Answer) → Sound t → Settled t → s < stations → t .stations s ≡ unfinished i c o → isSearch c ≡ false → o ≡ none
     → ¬ (callAt words s .kind ≡ 4) → (r : Left words t s m) → Outcome (r .related) s c o m (stepOf words s)
 walks {words} {t} s i m c o h k l q e u n r =
     let p : t .stations s ≡ unfinished i c none = q ∙ ap (unfinished i c) u in
     rw (u, step-work h l q (r .related), work-walk words (2 * t .places) s n) (walk-outcome h k l p e r)
 
 -- a step of an unfinished call goes on with less left, or ends; it is never refused
-pub step-outcome : {words : List ℕ} {t : Table} (s i m : ℕ) (c : Call) (o : Option Answer) → Sound t → Settled t → s < 8 → t .stations s ≡ unfinished i c o → (r : Left words t s m)
+pub step-outcome : {words : List ℕ} {t : Table} (s i m : ℕ) (c : Call) (o : Option Answer) → Sound t → Settled t → s < stations → t .stations s ≡ unfinished i c o → (r : Left words t s m)
     → Outcome (r .related) s c o m (stepOf words s)
 unfolding isSearch seatAt
 step-outcome {words} {t} s i m (add p d) o h k l q r =
@@ -71,15 +72,15 @@ step-outcome {words} {t} s i m (nearest p) (some a) h k l q r =
     rw (step-work h l q (r .related), work-search words (2 * t .places) s (b .kind)) (search-outcome h l q r)
 
 -- never more is left than one step takes for each place
-pub left-most : {words : List ℕ} {t : Table} (s i : ℕ) (c : Call) (o : Option Answer) → Sound t → s < 8 → t .stations s ≡ unfinished i c o → (r : Related words t)
+pub left-most : {words : List ℕ} {t : Table} (s i : ℕ) (c : Call) (o : Option Answer) → Sound t → s < stations → t .stations s ≡ unfinished i c o → (r : Related words t)
     → LeftSays t (r .tree) (r .queue) (seatAt words s) (unfinished i c o) (stepMoves * t .places)
-left-most {words} s i (add p d) o h l q r = omega (arith, walk-bound (r .tree) (standsAt (r .tree) (seatAt words s .place .cursor)) (r .store))
-left-most {words} s i (remove p) o h l q r = omega (arith, walk-bound (r .tree) (standsAt (r .tree) (seatAt words s .place .cursor)) (r .store))
-left-most {words} s i (contains p) o h l q r = omega (arith, walk-bound (r .tree) (standsAt (r .tree) (seatAt words s .place .cursor)) (r .store))
+left-most {words} s i (add p d) o h l q r = omega (arith, walk-bound (r .tree) (standsAt (r .tree) (seatAt words s .track .cursor)) (r .store))
+left-most {words} s i (remove p) o h l q r = omega (arith, walk-bound (r .tree) (standsAt (r .tree) (seatAt words s .track .cursor)) (r .store))
+left-most {words} s i (contains p) o h l q r = omega (arith, walk-bound (r .tree) (standsAt (r .tree) (seatAt words s .track .cursor)) (r .store))
 left-most {words} {t} s i (nearest p) o h l q r =
     let b = busy s i (nearest p) o l q r in
-    (b .works, omega (arith, left-counted (b .works .search), b .works .since, r .number, search-room t h s i (nearest p) o l q (nearest-search p)))
+    (b .works, omega (arith, left-counted (b .works .search), b .works .since, r .number, search-places t h s i (nearest p) o l q (nearest-search p)))
 
-pub most-left : {words : List ℕ} {t : Table} (s i : ℕ) (c : Call) (o : Option Answer) → Sound t → s < 8 → t .stations s ≡ unfinished i c o → Related words t
+pub most-left : {words : List ℕ} {t : Table} (s i : ℕ) (c : Call) (o : Option Answer) → Sound t → s < stations → t .stations s ≡ unfinished i c o → Related words t
     → Left words t s (stepMoves * t .places)
 most-left s i c o h l q r = record { related = r; left = rw q (left-most s i c o h l q r) }

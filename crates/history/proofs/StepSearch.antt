@@ -7,12 +7,12 @@ use mathlib.Core.List.{List, map, List·Memᴰ}
 use mathlib.Core.Option.{some}
 use native.Mathlib.Omega.{arith}
 use lib.ListN.{length}
+use Rattle.words.specs.Layout.{stations}
+use Rattle.stations.specs.Track.{trackAt}
 use Rattle.points.specs.declared.point.Point.{Point}
 use Rattle.points.specs.Point.{inRange}
 use Rattle.points.specs.Word.{NONE}
 use Rattle.stations.specs.declared.answer.Answer.{Answer as WordAnswer}
-use Rattle.words.specs.Layout.{atSince}
-use Rattle.words.specs.Words.{get}
 use Rattle.stations.specs.Common.{leastSince}
 use Rattle.stations.specs.Call.{callAt}
 use Rattle.stations.specs.Answer.{answerSound}
@@ -30,12 +30,12 @@ use Rattle.trees.specs.Search.{Search, Nearest}
 use Rattle.trees.specs.Measure.{searchLeft, stepMoves}
 use Rattle.trees.proofs.ChoiceOf.{choiceOf}
 use Rattle.trees.proofs.SearchLaws.{search-finish}
-use Rattle.calls.specs.declared.search.Progress.{Progress as WordProgress}
+use Rattle.calls.specs.declared.progress.Progress.{Progress as WordProgress}
 use Rattle.calls.specs.Answer.{answeredWords}
 use Rattle.calls.specs.Reply.{done, ask}
 use Rattle.calls.specs.Search.{seek, progressAt, isFinished, foundAnswer, keptWords, pickWords, searchWords, searchTo, searchOf}
 use Rattle.history.specs.Index.{answerOf}
-use Rattle.history.specs.View.{Seat, countsAt, placeAt, seatAt, progressOf, answeredSeat}
+use Rattle.history.specs.View.{Seat, seatAt, progressOf, answeredSeat}
 use Rattle.history.specs.Related.{recordOf, Busy, Searching, Waits, Says, Related}
 use Rattle.history.proofs.Effects.{answer-written, answer-rows, kept-written, kept-rows}
 use Rattle.history.proofs.Outcome.{LeftSays, Left, Aside, Outcome, goesOn, ends, beside-still, Next}
@@ -48,13 +48,14 @@ use Rattle.history.proofs.FoundAnswer.{found-is, found-sound}
 -- the seat of a search that goes on
 abbrev keptSeat : Seat → WordProgress → Seat
 keptSeat seat g = record {
-  place = record { cursor = g .cursor; phase = g .phase; since = seat .place .since; missed = g .missed; target = seat .place .target };
+  track = record { cursor = g .cursor; phase = g .phase; since = seat .track .since; missed = g .missed };
+  target = seat .target;
   state = seat .state;
   call = record { kind = seat .call .kind; point = seat .call .point; curve = seat .call .curve; asof = seat .call .asof; best = g .best };
   answer = seat .answer;
 }
 
-module _ {words : List ℕ} {t : Table} {s i : ℕ} {p : Point} {a : Answer} (h : Sound t) (l : s < 8) (q : t .stations s ≡ unfinished i (nearest p) (some a)) (r : Related words t)
+module _ {words : List ℕ} {t : Table} {s i : ℕ} {p : Point} {a : Answer} (h : Sound t) (l : s < stations) (q : t .stations s ≡ unfinished i (nearest p) (some a)) (r : Related words t)
     (work : Searching t (r .tree) (r .queue) (seatAt words s) i p (some a)) where
   busy : Busy t (r .tree) (r .queue) (seatAt words s) i (nearest p) (some a)
   busy = subst (λ (x : Station). Says t (r .tree) (r .queue) (seatAt words s) x) q (r .seats s l)
@@ -65,17 +66,17 @@ module _ {words : List ℕ} {t : Table} {s i : ℕ} {p : Point} {a : Answer} (h 
 
   -- what holds of the progress of the call's search before its moves and after them
   abbrev Sought : WordProgress → ℕ → Type 0
-  Sought g m = Seeks (callAt words s) (get words (atSince s)) (λ e. List·Memᴰ e entries) (r .tree) (r .queue) (t .changes) (length (t .removals)) g m
+  Sought g m = Seeks (callAt words s) (trackAt words s .since) (λ e. List·Memᴰ e entries) (r .tree) (r .queue) (t .changes) (length (t .removals)) g m
 
   -- the search of one target as that of another that is the same, with the moves left
   abbrev Sighted : Point → Progress → ℕ → Type 0
   Sighted x g m =
-      (v : Search (choiceOf x) (callAt words s .asof) (get words (atSince s)) (λ e. List·Memᴰ e entries) (r .tree) (r .queue) (t .changes) (length (t .removals)) g)
+      (v : Search (choiceOf x) (callAt words s .asof) (trackAt words s .since) (λ e. List·Memᴰ e entries) (r .tree) (r .queue) (t .changes) (length (t .removals)) g)
       × (searchLeft v ≤ m)
 
   -- before the step
   begins : (n : ℕ) → searchLeft (work .search) ≤ n → Sought (progressAt words s (callAt words s)) n
-  unfolding seatAt placeAt progressAt
+  unfolding seatAt progressAt
   begins n f =
       let z = subst (λ (x : Point). Sighted x (progressOf (seatAt words s)) n) (sym (busy .point)) (work .search, f) in
       record { fit = record { sound = refl; phase = busy .phase; best = busy .kept }; search = z .0; left = z .1 }
@@ -87,7 +88,7 @@ module _ {words : List ℕ} {t : Table} {s i : ℕ} {p : Point} {a : Answer} (h 
     sighted = subst (λ (x : Point). Sighted x (viewOf g) m) (busy .point) (v .search, v .left)
 
     kept-works : Searching t (r .tree) (r .queue) (keptSeat (seatAt words s) g) i p (some a)
-    unfolding seatAt placeAt
+    unfolding seatAt
     kept-works = record { since = work .since; aimed = work .aimed; entries = work .entries; once = work .once; ranged = work .ranged; search = sighted .0; answer = work .answer }
 
     kept-busy : Busy t (r .tree) (r .queue) (keptSeat (seatAt words s) g) i (nearest p) (some a)
@@ -105,11 +106,11 @@ module _ {words : List ℕ} {t : Table} {s i : ℕ} {p : Point} {a : Answer} (h 
     }
 
     kept-seat : seatAt (keptWords words s g) s ≡ keptSeat (seatAt words s) g
-    unfolding seatAt placeAt
+    unfolding seatAt
     kept-seat = kept-written words (t .places) (t .limit) (r .opened) s l g (v .fit .best) .seated s l ∙ seat-put-same (λ u. seatAt words u) s (keptSeat (seatAt words s) g)
 
     kept-related : Related (keptWords words s g) t
-    unfolding seatAt placeAt
+    unfolding seatAt
     kept-related =
         related-seat words (keptWords words s g) t (t .stations) s (keptSeat (seatAt words s) g) r (kept-written words (t .places) (t .limit) (r .opened) s l g (v .fit .best))
         (kept-rows words (t .places) (t .limit) (r .opened) s l g) (least-since words s l) (λ u n. refl)
@@ -125,7 +126,7 @@ module _ {words : List ℕ} {t : Table} {s i : ℕ} {p : Point} {a : Answer} (h 
 
     -- and nothing else moves
     kept-aside : Aside r (kept-left .related) s
-    unfolding kept-related kept-left related-seat related-written seatAt placeAt
+    unfolding kept-related kept-left related-seat related-written seatAt
     kept-aside = record {
       tree = refl;
       queue = refl;
@@ -153,7 +154,6 @@ module _ {words : List ℕ} {t : Table} {s i : ℕ} {p : Point} {a : Answer} (h 
 
       -- no removal is numbered as high as none
       least-none : leastSince words ≤ NONE
-      unfolding countsAt
       least-none =
           omega (arith, least-removals words, r .counted .removals, removals-changes t h, h .spent, opened-tells words (t .places) (t .limit) (r .opened) .limit-most)
 
@@ -191,9 +191,9 @@ module _ {words : List ℕ} {t : Table} {s i : ℕ} {p : Point} {a : Answer} (h 
 
 -- The step of an unfinished nearest call whose answer is set down: its moves, and then it is kept for the next step with less left, or ends with
 -- that answer.
-pub search-outcome : {words : List ℕ} {t : Table} {s i n : ℕ} {p : Point} {a : Answer} → Sound t → s < 8 → t .stations s ≡ unfinished i (nearest p) (some a) → (r : Left words t s n)
+pub search-outcome : {words : List ℕ} {t : Table} {s i n : ℕ} {p : Point} {a : Answer} → Sound t → s < stations → t .stations s ≡ unfinished i (nearest p) (some a) → (r : Left words t s n)
     → Outcome (r .related) s (nearest p) (some a) n (searchOf words (2 * t .places) s (callAt words s))
-unfolding searchOf seatAt placeAt progressAt
+unfolding searchOf seatAt progressAt
 search-outcome {words} {t} {s} {i} {n} {p} {a} h l q r =
     let z : LeftSays t (r .related .tree) (r .related .queue) (seatAt words s) (unfinished i (nearest p) (some a)) n =
     subst (λ (x : Station). LeftSays t (r .related .tree) (r .related .queue) (seatAt words s) x n) q (r .left) in
@@ -209,9 +209,9 @@ search-outcome {words} {t} {s} {i} {n} {p} {a} h l q r =
         → Outcome (r .related) s (nearest p) (some a) n (searchTo words s (callAt words s) sought)
     go work few true e =
         let held : Entry → Type 0 = (λ d. List·Memᴰ d (work .entries)) in
-        let v = seek-keeps (r .related .store) words (r .related .reads) (r .related .covered) (callAt words s) (get words (atSince s)) held start n (begins h l q (r .related) work n few) in
+        let v = seek-keeps (r .related .store) words (r .related .reads) (r .related .covered) (callAt words s) (trackAt words s .since) held start n (begins h l q (r .related) work n few) in
         outcome-of h l q (r .related) work sought n v n (inr e)
     go work few false e =
         let held : Entry → Type 0 = (λ d. List·Memᴰ d (work .entries)) in
-        let x = seek-five (r .related .store) words (r .related .reads) (r .related .covered) (callAt words s) (get words (atSince s)) held start n e (begins h l q (r .related) work n few) in
+        let x = seek-five (r .related .store) words (r .related .reads) (r .related .covered) (callAt words s) (trackAt words s .since) held start n e (begins h l q (r .related) work n few) in
         outcome-of h l q (r .related) work sought (x .0) (x .2) n (inl (x .1))

@@ -12,16 +12,18 @@ use native.Mathlib.Decide.{ℕ-discrete}
 use lib.Dec.{eqb, leb}
 use lib.ListN.{length}
 use borrow.Author.Tests.{eq-eqb, ne-eqb, le-leb}
+use Rattle.words.specs.Layout.{stations}
+use Rattle.stations.specs.Counts.{countsAt}
+use Rattle.stations.specs.declared.counts.Counts.{Counts}
+use Rattle.stations.specs.Track.{trackAt}
 use Rattle.points.specs.declared.point.Point.{Point}
 use Rattle.points.specs.Point.{inRange}
 use Rattle.points.specs.Word.{NONE}
 use Rattle.points.proofs.Tests.{and-r, and-i}
-use Rattle.stations.specs.declared.common.Opening.the-variants.{Opened}
 use Rattle.stations.specs.declared.answer.Answer.{Answer as Given}
-use Rattle.words.specs.Layout.{atChanges, atHeld, atRoot, atHead, atRemovals, atSince}
-use Rattle.words.specs.Words.{get, more}
+use Rattle.words.specs.Words.{more}
 use Rattle.words.specs.Range.{linkIn, curveIn}
-use Rattle.stations.specs.Common.{openedIn, leastSince}
+use Rattle.stations.specs.Common.{openedIn, leastSince, Opened}
 use Rattle.stations.specs.Call.{callAt}
 use Rattle.stations.specs.Answer.{answerSound}
 use Rattle.words.proofs.RangeLaws.{curve-tells}
@@ -54,7 +56,7 @@ use Rattle.calls.specs.declared.unlink.Around.{Around}
 use Rattle.calls.specs.Reply.{done}
 use Rattle.calls.specs.Answer.{answer as wordAnswer, answeredWords}
 use Rattle.calls.specs.Unlink.{aroundAt, aroundSound, unlinkTail, unlinkRoot, unlinkCounts, unlinkRows, stationsMoved, unlinkWords, unlinkOf}
-use Rattle.history.specs.View.{Counts, Seat, countsAt, placeAt, seatAt, seatPut, marksIn, Written, answeredSeat}
+use Rattle.history.specs.View.{Seat, seatAt, seatPut, marksIn, Written, answeredSeat}
 use Rattle.history.specs.Related.{recordOf, Busy, Says, Marking, Counted, Related}
 use Rattle.history.proofs.RelatedLaws.{more-is}
 use Rattle.history.proofs.Effects.{reads-in, answer-written, answer-rows, movedSeat, unlink-written, unlink-same-rows}
@@ -76,7 +78,7 @@ put-other : (seats : ℕ → Seat) (s u : ℕ) (x : Seat) → ¬ (u ≡ s) → s
 unfolding seatPut
 put-other seats s u x n = rw (ne-eqb u s n, seatPut)
 
-module _ (words : List ℕ) (t : Table) (s i : ℕ) (p : Point) (at parent : ℕ) (e : Entry) (sound : Sound t) (settled : Settled t) (below : s < 8)
+module _ (words : List ℕ) (t : Table) (s i : ℕ) (p : Point) (at parent : ℕ) (e : Entry) (sound : Sound t) (settled : Settled t) (below : s < stations)
     (is : t .stations s ≡ unfinished i (remove p) none) (R : Related words t) (route : OnRoute (R .tree) p at) (reads : R .heap at ≡ leafRow parent e) (same : e .point ≡ p)
     (more-left : ¬ (t .changes ≡ t .limit)) where
   -- ---- what is read
@@ -94,7 +96,6 @@ module _ (words : List ℕ) (t : Table) (s i : ℕ) (p : Point) (at parent : ℕ
   has = on-route-has (R .tree) p at route
 
   gathered : aroundAt words rows at ≡ around
-  unfolding countsAt
   gathered = around-is words (R .store) (R .reads) (R .counted .tail) leaf has reads
 
   -- changes and removals are below the greatest word
@@ -107,24 +108,23 @@ module _ (words : List ℕ) (t : Table) (s i : ℕ) (p : Point) (at parent : ℕ
   -- ---- what is written
 
   abbrev number : ℕ
-  number = more (get words atRemovals)
+  number = more (countsAt words .removals)
 
   number-is : number ≡ suc (length (t .removals))
-  unfolding countsAt
   number-is = ap more (R .counted .removals) ∙ more-is (length (t .removals)) removals-few
 
   abbrev counts : Counts
   counts = record {
-    changes = more (get words atChanges);
-    held = get words atHeld - 1;
-    root = unlinkRoot around (get words atRoot);
-    head = get words atHead;
+    changes = more (countsAt words .changes);
+    held = countsAt words .held - 1;
+    root = unlinkRoot around (countsAt words .root);
+    head = countsAt words .head;
     tail = unlinkTail around;
     removals = number;
   }
 
   abbrev words₁ : List ℕ
-  words₁ = stationsMoved around 8 (unlinkCounts words around)
+  words₁ = stationsMoved around stations (unlinkCounts words around)
 
   counted₁ : Written words words₁ counts (λ u. movedSeat around (seatAt words u))
   counted₁ = unlink-written words (t .places) (t .limit) (R .opened) around
@@ -177,7 +177,7 @@ module _ (words : List ℕ) (t : Table) (s i : ℕ) (p : Point) (at parent : ℕ
   seat-own : seatAt words₃ s ≡ answeredSeat (seatAt words₂ s) given
   seat-own = answered .seated s below ∙ put-own (λ u. seatAt words₂ u) s (answeredSeat (seatAt words₂ s) given)
 
-  seat-other : (u : ℕ) → u < 8 → ¬ (u ≡ s) → seatAt words₃ u ≡ movedSeat around (seatAt words u)
+  seat-other : (u : ℕ) → u < stations → ¬ (u ≡ s) → seatAt words₃ u ≡ movedSeat around (seatAt words u)
   seat-other u k n = answered .seated u k ∙ put-other (λ v. seatAt words₂ v) s u (answeredSeat (seatAt words₂ s) given) n ∙ counted₂ .seated u k
 
   -- ---- the table
@@ -185,42 +185,40 @@ module _ (words : List ℕ) (t : Table) (s i : ℕ) (p : Point) (at parent : ℕ
   abbrev spoken : Answer
   spoken = answer 5 p (e .curve) 0
 
-  abbrev stations : ℕ → Station
-  stations = put (t .stations) s (waiting spoken)
+  abbrev said : ℕ → Station
+  said = put (t .stations) s (waiting spoken)
 
   answer-is : answerOf t (remove p) ≡ spoken
   answer-is = remove-held t p (e .curve) (rw same at (curve-removed after (t .held) (R .records) (sound .once))) more-left
 
-  finished-is : finished t s (remove p) none ≡ removedTable t p stations
-  finished-is = finished-change t s (remove p) spoken answer-is (removed-change p (e .curve)) ∙ ap (λ (x : Table). withStations x stations) (changed-remove t p)
+  finished-is : finished t s (remove p) none ≡ removedTable t p said
+  finished-is = finished-change t s (remove p) spoken answer-is (removed-change p (e .curve)) ∙ ap (λ (x : Table). withStations x said) (changed-remove t p)
 
   -- ---- the relation afterwards
 
-  removals-after : get words₃ atRemovals ≡ suc (length (t .removals))
-  unfolding countsAt
+  removals-after : countsAt words₃ .removals ≡ suc (length (t .removals))
   removals-after = ap (λ (c : Counts). c .removals) counts-are ∙ number-is
 
   -- no since word has fallen below what was released
-  since-after : (u : ℕ) → u < 8 → leastSince words ≤ get words₃ (atSince u)
-  unfolding countsAt seatAt placeAt
+  since-after : (u : ℕ) → u < stations → leastSince words ≤ trackAt words₃ u .since
+  unfolding seatAt
   since-after u k = go (ℕ-discrete u s)
     where
-      go : Dec (u ≡ s) → leastSince words ≤ get words₃ (atSince u)
+      go : Dec (u ≡ s) → leastSince words ≤ trackAt words₃ u .since
       go (yes z) =
-          let none-there : get words₃ (atSince s) ≡ NONE = ap (λ (x : Seat). x .place .since) seat-own in
+          let none-there : trackAt words₃ s .since ≡ NONE = ap (λ (x : Seat). x .track .since) seat-own in
           rw (z, none-there) (omega (arith, least-removals words, R .counted .removals, removals-few))
       go (no n) =
-          let stays : get words₃ (atSince u) ≡ get words (atSince u) = ap (λ (x : Seat). x .place .since) (seat-other u k n) in
+          let stays : trackAt words₃ u .since ≡ trackAt words u .since = ap (λ (x : Seat). x .track .since) (seat-other u k n) in
           rw stays (least-since words u k)
 
   store-after : Store (t .places) (unlinked-rows .heap) (after .tree) (after .queue) (suc (t .changes)) (suc (length (t .removals))) (leastSince words₃)
-  unfolding countsAt
   store-after =
-      let most : leastSince words ≤ get words₃ atRemovals = omega (arith, removals-after, least-removals words, R .counted .removals) in
+      let most : leastSince words ≤ countsAt words₃ .removals = omega (arith, removals-after, least-removals words, R .counted .removals) in
       store-release (least-greatest words₃ (leastSince words) most since-after) (omega (arith, least-removals words₃, removals-after)) (after .store)
 
-  counted-after : Counted (removedTable t p stations) (after .tree) (after .queue) (countsAt words₃)
-  unfolding countsAt unlinkRoot unlinkTail
+  counted-after : Counted (removedTable t p said) (after .tree) (after .queue) (countsAt words₃)
+  unfolding unlinkRoot unlinkTail
   counted-after = rw counts-are record {
     changes = ap more (R .counted .changes) ∙ more-is (t .changes) changes-few ∙ sym (add-one (t .changes));
     held = omega (arith, R .counted .held, after .count);
@@ -230,11 +228,11 @@ module _ (words : List ℕ) (t : Table) (s i : ℕ) (p : Point) (at parent : ℕ
     removals = number-is;
   }
 
-  seats-after : (u : ℕ) → u < 8 → Says (removedTable t p stations) (after .tree) (after .queue) (seatAt words₃ u) (stations u)
+  seats-after : (u : ℕ) → u < stations → Says (removedTable t p said) (after .tree) (after .queue) (seatAt words₃ u) (said u)
   seats-after u k = elim (put-cases (t .stations) s u (waiting spoken)) [
     | inl v ↦ rw (v .1, v .0, seat-own) record { state = refl; sound = given-sound; answer = refl; quiet = record { cursor = refl; phase = refl; since = refl; missed = refl } }
     | inr v ↦ rw (v .1, seat-other u k (v .0))
-        (says-moved t p stations (R .heap) (unlinked-rows .heap) (R .tree) (R .queue) (leastSince words) (tailOf (R .queue)) leaf (R .store) has after removals-few
+        (says-moved t p said (R .heap) (unlinked-rows .heap) (R .tree) (R .queue) (leastSince words) (tailOf (R .queue)) leaf (R .store) has after removals-few
         (seatAt words u) u (t .stations u) k (settled u k) refl (R .seats u k))
   ]
 
@@ -247,15 +245,15 @@ module _ (words : List ℕ) (t : Table) (s i : ℕ) (p : Point) (at parent : ℕ
       let kept = marks-unlinked (unlinked-rows .writes) (last .last) (last .reads) (alone-side (R .store) leaf has reads) x there (ap kindAt (c .reads)) words₁ side d in
       answer-rows words₂ (t .places) (t .limit) opened₂ s below given .marks x side d ∙ kept ∙ unlink-same-rows words (t .places) (t .limit) (R .opened) around .marks x side d ∙ g
 
-  marking-after : (u : ℕ) → u < 8 → Marking (marksIn words₃) (after .tree) (seatAt words₃ u .place .cursor) (stations u)
+  marking-after : (u : ℕ) → u < stations → Marking (marksIn words₃) (after .tree) (seatAt words₃ u .track .cursor) (said u)
   marking-after u k = elim (put-cases (t .stations) s u (waiting spoken)) [
     | inl v ↦ rw (v .1) tt
     | inr v ↦ rw (v .1, seat-other u k (v .0))
-        (marking-moved t p stations (R .heap) (unlinked-rows .heap) (R .tree) (R .queue) (leastSince words) (tailOf (R .queue)) leaf (R .store) has after removals-few
+        (marking-moved t p said (R .heap) (unlinked-rows .heap) (R .tree) (R .queue) (leastSince words) (tailOf (R .queue)) leaf (R .store) has after removals-few
         (marksIn words) (marksIn words₃) grown (seatAt words u) (t .stations u) (R .marking u k))
   ]
 
-  related : Related words₃ (removedTable t p stations)
+  related : Related words₃ (removedTable t p said)
   related = record {
     opened = answered .opened ∙ opened₂;
     heap = unlinked-rows .heap;
@@ -273,12 +271,12 @@ module _ (words : List ℕ) (t : Table) (s i : ℕ) (p : Point) (at parent : ℕ
 
   -- no other search has more left, but for one look, which was spent
   beside : Beside R related s
-  unfolding related countsAt
+  unfolding related
   beside u k d j target a q =
       let b : Busy t (R .tree) (R .queue) (seatAt words u) j (nearest target) (some a) = rw q at (R .seats u k) in
-      let few = left-moved t p stations (R .heap) (unlinked-rows .heap) (R .tree) (R .queue) (leastSince words) (tailOf (R .queue)) leaf (R .store) has after removals-few (seatAt words u) j target a b in
+      let few = left-moved t p said (R .heap) (unlinked-rows .heap) (R .tree) (R .queue) (leastSince words) (tailOf (R .queue)) leaf (R .store) has after removals-few (seatAt words u) j target a b in
       let now = ap (λ (z : Seat). leftAt (after .tree) (after .queue) z) (seat-other u k d) in
-      let since = ap (λ (z : Seat). z .place .since) (seat-other u k d) in
+      let since = ap (λ (z : Seat). z .track .since) (seat-other u k d) in
       omega (
         arith,
         few,
@@ -296,9 +294,8 @@ module _ (words : List ℕ) (t : Table) (s i : ℕ) (p : Point) (at parent : ℕ
 
   -- ---- the reply
 
-  passes : (aroundSound around && leb 1 (get words atHeld)) ≡ true
-  unfolding countsAt
-  passes = and-i (around-sound (R .store) leaf has reads) (le-leb 1 (get words atHeld) (omega (arith, R .counted .held, after .count)))
+  passes : (aroundSound around && leb 1 (countsAt words .held)) ≡ true
+  passes = and-i (around-sound (R .store) leaf has reads) (le-leb 1 (countsAt words .held) (omega (arith, R .counted .held, after .count)))
 
   reply-is : unlinkOf words rows s (callAt words s) at ≡ done words₃
   unfolding unlinkOf unlinkWords
@@ -308,7 +305,7 @@ module _ (words : List ℕ) (t : Table) (s i : ℕ) (p : Point) (at parent : ℕ
   outcome n = rw reply-is (ends refl (subst (λ (x : Table). Next R s words₃ x) (sym finished-is) (record { related = related; beside = beside })))
 
 -- A remove that stands at the leaf of its point, with changes left, ends there with code 5.
-pub unlink-outcome : {words : List ℕ} {t : Table} {s i : ℕ} {p : Point} (at parent : ℕ) (e : Entry) → Sound t → Settled t → s < 8 → t .stations s ≡ unfinished i (remove p) none → (R : Related words t)
+pub unlink-outcome : {words : List ℕ} {t : Table} {s i : ℕ} {p : Point} (at parent : ℕ) (e : Entry) → Sound t → Settled t → s < stations → t .stations s ≡ unfinished i (remove p) none → (R : Related words t)
     → OnRoute (R .tree) p at → R .heap at ≡ leafRow parent e → e .point ≡ p → ¬ (t .changes ≡ t .limit)
     → (n : ℕ) → Outcome R s (remove p) none n (unlinkOf words (2 * t .places) s (callAt words s) at)
 unlink-outcome {words} {t} {s} {i} {p} at parent e sound settled below is R route reads same left = outcome words t s i p at parent e sound settled below is R route reads same left

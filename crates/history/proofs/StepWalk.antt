@@ -9,6 +9,7 @@ use mathlib.Core.Option.{Option, none, some, Option·none-ne-some}
 use native.Mathlib.Omega.{arith}
 use lib.Dec.{eqb}
 use borrow.Author.Tests.{ne-eqb}
+use Rattle.words.specs.Layout.{stations}
 use Rattle.points.specs.declared.point.Point.{Point}
 use Rattle.points.specs.declared.cut.Cut.{Cut}
 use Rattle.points.specs.Word.{NONE}
@@ -18,7 +19,6 @@ use Rattle.rows.specs.declared.row.Row.the-variants.{Bad}
 use Rattle.stations.specs.declared.call.Call.{Call as WordCall}
 use Rattle.rows.specs.Row.{rowAt}
 use Rattle.rows.specs.Grades.{slotOf}
-use Rattle.stations.specs.Station.{putPlace}
 use Rattle.stations.specs.Call.{callAt}
 use Rattle.words.proofs.RangeLaws.{or-right}
 use Rattle.rows.proofs.RowLaws.{rowAt-outside}
@@ -38,8 +38,8 @@ use Rattle.trees.proofs.RouteLaws.{on-route-has, walk-stands, walk-down}
 use Rattle.trees.proofs.ReadLaws.{read-row}
 use Rattle.calls.specs.declared.walk.Way.{Way}
 use Rattle.calls.specs.Reply.{done}
-use Rattle.calls.specs.Walk.{downFrom, down as downWords, wayOf, markedWay, passedWords, walkTo, conclude, standsAt as standsIn, walkFrom, walkOf}
-use Rattle.history.specs.View.{Seat, countsAt, placeAt, seatAt, wordRow, marksIn}
+use Rattle.calls.specs.Walk.{downFrom, down as downWords, wayOf, markedWay, passedWords, walkTo, conclude, standsAt as standsIn, walkFrom, walkOf, walkedWords}
+use Rattle.history.specs.View.{Seat, seatAt, wordRow, marksIn}
 use Rattle.history.specs.Related.{Works, Busy, Marking, Related}
 use Rattle.history.proofs.RelatedLaws.{related-busy}
 use Rattle.history.proofs.Outcome.{Left, Outcome, goesOn}
@@ -126,7 +126,7 @@ marked-here marks (some t) i (nearest p) cursor o m = tt
 -- ---- where the walk ends
 
 -- in the empty tree
-at-empty : {words : List ℕ} {t : Table} {s i n : ℕ} (c : Call) → Sound t → Settled t → s < 8 → t .stations s ≡ unfinished i c none → isSearch c ≡ false → (r : Related words t) → r .tree ≡ none
+at-empty : {words : List ℕ} {t : Table} {s i n : ℕ} (c : Call) → Sound t → Settled t → s < stations → t .stations s ≡ unfinished i c none → isSearch c ≡ false → (r : Related words t) → r .tree ≡ none
     → Outcome r s c none n (conclude words (2 * t .places) s (callAt words s) NONE Bad)
 at-empty (add p v) sound settled l q e r f = add-decides NONE Bad sound l q r (decided-empty sound r p f) (λ h a d g. insert-outcome sound settled l q r a d g none f tt tt)
 at-empty (remove p) sound settled l q e r f = remove-decides NONE Bad sound l q r (decided-empty sound r p f) (λ h d. absurd (false≢true h))
@@ -134,7 +134,7 @@ at-empty (contains p) sound settled l q e r f = contains-decides NONE Bad sound 
 at-empty (nearest p) sound settled l q e r f = absurd (true≢false (sym (nearest-search p) ∙ e))
 
 -- at a leaf on the way
-at-leaf : {words : List ℕ} {t : Table} {s i n : ℕ} (c : Call) → Sound t → Settled t → s < 8 → t .stations s ≡ unfinished i c none → isSearch c ≡ false → (r : Related words t)
+at-leaf : {words : List ℕ} {t : Table} {s i n : ℕ} (c : Call) → Sound t → Settled t → s < stations → t .stations s ≡ unfinished i c none → isSearch c ≡ false → (r : Related words t)
     → (x parent : ℕ) (d : Entry) → OnRoute (r .tree) (pointOf c) x → r .heap x ≡ leafRow parent d → MarkedTo (marksIn words) (r .tree) c x
     → Outcome r s c none n (conclude words (2 * t .places) s (callAt words s) x (wordRow (leafRow parent d)))
 at-leaf (add p v) sound settled l q e r x parent d o reads m =
@@ -150,16 +150,16 @@ at-leaf (nearest p) sound settled l q e r x parent d o reads m = absurd (true≢
 
 -- the walk of a call is on the way of its point
 call-walks : (t : Table) (tree : Option Tree) (queue : List Free) (seat : Seat) (i : ℕ) (c : Call) → isSearch c ≡ false → Works t tree queue seat i c none
-    → Walking tree (pointOf c) (seat .place .cursor)
+    → Walking tree (pointOf c) (seat .track .cursor)
 call-walks t tree queue seat i (add p c) e w = w .walking
 call-walks t tree queue seat i (remove p) e w = w .walking
 call-walks t tree queue seat i (contains p) e w = w .walking
 call-walks t tree queue seat i (nearest p) e w = absurd (true≢false (sym (nearest-search p) ∙ e))
 
-module _ {words : List ℕ} {t : Table} {s i n : ℕ} {c : Call} (l : s < 8) (q : t .stations s ≡ unfinished i c none) (e : isSearch c ≡ false) (r : Related words t) where
+module _ {words : List ℕ} {t : Table} {s i n : ℕ} {c : Call} (l : s < stations) (q : t .stations s ≡ unfinished i c none) (e : isSearch c ≡ false) (r : Related words t) where
   -- the walk goes on to row `to`, in words that have gained marks alone
   goes-to : (to : ℕ) → OnRoute (r .tree) (pointOf c) to → stepMoves + stepMoves * walkLeft (r .tree) to ≤ n → (w : List ℕ) (v : Related w t) → v .tree ≡ r .tree → v .queue ≡ r .queue
-      → ((u : ℕ) → u < 8 → seatAt w u ≡ seatAt words u) → Marking (marksIn w) (r .tree) to (unfinished i c none) → Outcome r s c none n (done (putPlace w s to 0))
+      → ((u : ℕ) → u < stations → seatAt w u ≡ seatAt words u) → Marking (marksIn w) (r .tree) to (unfinished i c none) → Outcome r s c none n (done (walkedWords w s to))
   goes-to to o few w v tree queue seats m =
       let there : to ≢ NONE = λ y. omega (arith, y, r .store .inside to (on-route-has (r .tree) (pointOf c) to o), r .store .fits) in
       let on : OnRoute (v .tree) (pointOf c) to = rw tree o in
@@ -179,11 +179,11 @@ unfolding passedWords
 passed-other words call way kind k e = rw (k, e)
 
 -- it goes on to the end of its way, which an add has marked
-goes-on : {words : List ℕ} {t : Table} {s i n : ℕ} (c : Call) → s < 8 → t .stations s ≡ unfinished i c none → isSearch c ≡ false → (r : Related words t) (x : ℕ)
+goes-on : {words : List ℕ} {t : Table} {s i n : ℕ} (c : Call) → s < stations → t .stations s ≡ unfinished i c none → isSearch c ≡ false → (r : Related words t) (x : ℕ)
     → MarkedTo (marksIn words) (r .tree) c x → OnRoute (r .tree) (pointOf c) (wayOf words (2 * t .places) (pointOf c) x .to)
     → stepMoves + stepMoves * walkLeft (r .tree) (wayOf words (2 * t .places) (pointOf c) x .to) ≤ n
     → Outcome r s c none n
-    (done (putPlace (passedWords words (callAt words s) (wayOf words (2 * t .places) (pointOf c) x)) s (wayOf words (2 * t .places) (pointOf c) x .to) 0))
+    (done (walkedWords (passedWords words (callAt words s) (wayOf words (2 * t .places) (pointOf c) x)) s (wayOf words (2 * t .places) (pointOf c) x .to)))
 unfolding related-marked seatAt
 goes-on {words} {t} {s} (add p v) l q e r x m on few =
     let way : Way = wayOf words (2 * t .places) p x in
@@ -200,7 +200,7 @@ goes-on {words} {t} {s} (contains p) l q e r x m on few =
     rw (passed-other words (callAt words s) way 3 (related-busy r l q .kind) refl) (goes-to l q e r (way .to) on few words r refl refl (λ u k. refl) tt)
 goes-on (nearest p) l q e r x m on few = absurd (true≢false (sym (nearest-search p) ∙ e))
 
-module _ {words : List ℕ} {t : Table} {s i n : ℕ} {c : Call} (sound : Sound t) (settled : Settled t) (l : s < 8) (q : t .stations s ≡ unfinished i c none) (e : isSearch c ≡ false)
+module _ {words : List ℕ} {t : Table} {s i n : ℕ} {c : Call} (sound : Sound t) (settled : Settled t) (l : s < stations) (q : t .stations s ≡ unfinished i c none) (e : isSearch c ≡ false)
     (z : Left words t s n) where
   abbrev r : Related words t
   r = z .related
@@ -234,19 +234,19 @@ module _ {words : List ℕ} {t : Table} {s i n : ℕ} {c : Call} (sound : Sound 
   from-row x o m few = elim (read-row (r .tree) (r .store) (on-route-has (r .tree) (pointOf c) x o)) [ inl a ↦ from-leaf x o m a | inr a ↦ from-cut x o m few a ]
 
   -- the row where the walk stands, in the words
-  stands-word : standsIn words s ≡ standsAt (r .tree) (seatAt words s .place .cursor)
-  unfolding standsIn seatAt placeAt countsAt
+  stands-word : standsIn words s ≡ standsAt (r .tree) (seatAt words s .track .cursor)
+  unfolding standsIn seatAt
   stands-word = rw (r .counted .root)
 
-  from-cursor : From (standsAt (r .tree) (seatAt words s .place .cursor))
-  from-cursor = elim (walk-stands (r .tree) (pointOf c) (seatAt words s .place .cursor) (call-walks t (r .tree) (r .queue) (seatAt words s) i c e (busy .works))) [
+  from-cursor : From (standsAt (r .tree) (seatAt words s .track .cursor))
+  from-cursor = elim (walk-stands (r .tree) (pointOf c) (seatAt words s .track .cursor) (call-walks t (r .tree) (r .queue) (seatAt words s) i c e (busy .works))) [
     | inl u ↦ subst (λ (x : ℕ). From x) (sym (u .1)) (from-none (u .0))
-    | inr o ↦ from-row (standsAt (r .tree) (seatAt words s .place .cursor)) o (marked-here (marksIn words) (r .tree) i c (seatAt words s .place .cursor) o (rw q at (r .marking s l)))
+    | inr o ↦ from-row (standsAt (r .tree) (seatAt words s .track .cursor)) o (marked-here (marksIn words) (r .tree) i c (seatAt words s .track .cursor) o (rw q at (r .marking s l)))
         (left-tells t (r .tree) (r .queue) (seatAt words s) i c n e (rw q at (z .left)))
   ]
 
 -- The step of an unfinished add, remove or contains: it goes on with less left, or ends as the table says.
-pub walk-outcome : {words : List ℕ} {t : Table} {s i n : ℕ} {c : Call} → Sound t → Settled t → s < 8 → t .stations s ≡ unfinished i c none → isSearch c ≡ false → (z : Left words t s n)
+pub walk-outcome : {words : List ℕ} {t : Table} {s i n : ℕ} {c : Call} → Sound t → Settled t → s < stations → t .stations s ≡ unfinished i c none → isSearch c ≡ false → (z : Left words t s n)
     → Outcome (z .related) s c none n (walkOf words (2 * t .places) s (callAt words s))
 unfolding walkOf
 walk-outcome {words} {t} {s} {i} {n} {c} sound settled l q e z =

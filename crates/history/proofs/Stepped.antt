@@ -5,6 +5,7 @@ use mathlib.Core.Path.{_≡_, sym, _∙_}
 use mathlib.Core.List.{List}
 use mathlib.Core.Option.{Option}
 use native.Mathlib.Omega.{arith}
+use Rattle.words.specs.Layout.{stations}
 use Rattle.table.specs.Call.{Call, Answer}
 use Rattle.table.specs.Table.{unfinished, Table}
 use Rattle.table.proofs.Sound.{Sound}
@@ -26,7 +27,7 @@ pub record Stepped (words : List ℕ) (t : Table) (s : ℕ) (c : Call) (o : Opti
   pub answered : AnsweredAfter before words s
   pub related : Related (stepped (suc before) words s) (finished t s c o)
 
-module _ (t : Table) (s i : ℕ) (c : Call) (o : Option Answer) (h : Sound t) (k : Settled t) (l : s < 8) (q : t .stations s ≡ unfinished i c o) where
+module _ (t : Table) (s i : ℕ) (c : Call) (o : Option Answer) (h : Sound t) (k : Settled t) (l : s < stations) (q : t .stations s ≡ unfinished i c o) where
   -- a station with an unfinished call is not answered
   not-answered : (words : List ℕ) → Related words t → ¬ Answered words s
   not-answered words r e =

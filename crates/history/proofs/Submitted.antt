@@ -8,11 +8,11 @@ use mathlib.Core.Option.{Option, none}
 use native.Mathlib.Omega.{arith}
 use lib.Dec.{eqb, leb}
 use borrow.Author.Tests.{leb-true}
+use Rattle.words.specs.Layout.{stations}
+use Rattle.stations.specs.Counts.{countsAt}
 use Rattle.points.specs.declared.point.Point.{Point}
 use Rattle.points.specs.Point.{inRange}
 use Rattle.points.specs.Word.{NONE}
-use Rattle.words.specs.Layout.{atChanges, atRoot, atRemovals}
-use Rattle.words.specs.Words.{get}
 use Rattle.stations.specs.Common.{leastSince}
 use Rattle.stations.proofs.SoundLaws.{noBest-point}
 use Rattle.stations.proofs.TakenLaws.{least-removals, least-since, least-greatest}
@@ -31,7 +31,7 @@ use Rattle.trees.proofs.RouteLaws.{walk-begin}
 use Rattle.trees.proofs.SearchLaws.{search-begin}
 use Rattle.trees.proofs.ShapeLaws.{entries-held}
 use Rattle.calls.specs.Submit.{curveFits, callFor, sinceFor, submittedWords}
-use Rattle.history.specs.View.{Seat, countsAt, placeAt, seatAt, marksIn}
+use Rattle.history.specs.View.{Seat, seatAt, marksIn}
 use Rattle.history.specs.Related.{kindOf, curveOf, CurveFits, Walks, Searching, Works, Busy, Marking, Related}
 use Rattle.history.proofs.Effects.{submit-written, submit-rows}
 use Rattle.history.proofs.RelatedLaws.{word-changes, word-root, word-removals, removals-word}
@@ -46,15 +46,16 @@ use Rattle.history.proofs.SaysLaws.{seat-put-each, says-put, marking-pu
 -- the seat of a call that was just submitted
 abbrev begunSeat : List ℕ → ℕ → ℕ → Point → ℕ → Seat
 begunSeat words s kind p c = record {
-  place = record { cursor = get words atRoot; phase = 0; since = sinceFor (get words atRemovals) kind; missed = NONE; target = cond (eqb kind 4) p (targetAt words s) };
+  track = record { cursor = countsAt words .root; phase = 0; since = sinceFor (countsAt words .removals) kind; missed = NONE };
+  target = cond (eqb kind 4) p (seatAt words s .target);
   state = 1;
-  call = callFor (get words atChanges) kind p c;
+  call = callFor (countsAt words .changes) kind p c;
   answer = seatAt words s .answer;
 }
 
 module _ {words : List ℕ} {t : Table} (s : ℕ) (p : Point) (c : ℕ) (h : Sound t) (r : Related words t) (ranged : inRange p ≡ true) where
   -- a walk begins at the root
-  walk-begun : (kind : ℕ) → sinceFor (get words atRemovals) kind ≡ NONE → Walks (r .tree) (begunSeat words s kind p c) p none
+  walk-begun : (kind : ℕ) → sinceFor (countsAt words .removals) kind ≡ NONE → Walks (r .tree) (begunSeat words s kind p c) p none
   unfolding callFor
   walk-begun kind e = record { since = e; missed = refl; unset = refl; walking = rw (word-root r) (walk-begin (r .tree) p); best = refl }
 
@@ -120,17 +121,17 @@ since-begun removals kind l = go (eqb kind 4)
     go false = l
 
 -- The slice with the call written is related to the table with the call entered.
-pub related-submitted : {words : List ℕ} {t : Table} (s kind : ℕ) (p : Point) (c : ℕ) → Sound t → Related words t → s < 8 → kindInRange kind ≡ true → inRange p ≡ true → curveFits kind c ≡ true
+pub related-submitted : {words : List ℕ} {t : Table} (s kind : ℕ) (p : Point) (c : ℕ) → Sound t → Related words t → s < stations → kindInRange kind ≡ true → inRange p ≡ true → curveFits kind c ≡ true
     → Related (submittedWords words s kind p c) (enter t s (callOf kind p c))
-unfolding enter countsAt seatAt placeAt kindInRange
+unfolding enter seatAt kindInRange
 related-submitted {words} {t} s kind p c h r l k ranged fits =
     let w = submit-written words (t .places) (t .limit) (r .opened) s l kind p c ranged in
     let x : Seat = begunSeat words s kind p c in
-    let low : leastSince words ≤ sinceFor (get words atRemovals) kind =
-    omega (arith, least-removals words, since-begun (get words atRemovals) kind (omega (arith, word-removals r, removals-word r h))) in
+    let low : leastSince words ≤ sinceFor (countsAt words .removals) kind =
+    omega (arith, least-removals words, since-begun (countsAt words .removals) kind (omega (arith, word-removals r, removals-word r h))) in
     related-written r w (submit-rows words (t .places) (t .limit) (r .opened) s l kind p c) (record { places = refl; limit = refl; held = refl; changes = refl; removals = refl })
     (least-greatest (submittedWords words s kind p c) (leastSince words) (omega (arith, least-removals words, written-removals w)) (λ u m.
-    rw (written-since w u m) (seat-put-each (λ (y : Seat). leastSince words ≤ y .place .since) (λ v. seatAt words v) s x low u (least-since words u m))))
+    rw (written-since w u m) (seat-put-each (λ (y : Seat). leastSince words ≤ y .track .since) (λ v. seatAt words v) s x low u (least-since words u m))))
     (says-put t (enter t s (callOf kind p c)) refl refl (r .tree) (r .queue) (λ u. seatAt words u) (t .stations) (r .seats) s x (unfinished (t .calls) (callOf kind p c) none)
     (begun-busy s p c h r ranged kind (leb-true 1 kind (and-left (leb 1 kind) (leb kind 4) k)) (leb-true kind 4 (and-right (leb 1 kind) (leb kind 4) k)) fits))
     (marking-put (marksIn words) (r .tree) (λ u. seatAt words u) (t .stations) (r .marking) s x (unfinished (t .calls) (callOf kind p c) none)

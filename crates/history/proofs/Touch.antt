@@ -8,11 +8,11 @@ use native.Mathlib.Omega.{arith}
 use borrow.Author.Tests.{ltb-true, leb-true}
 use lib.Dec.{eqb, leb, ltb}
 use lib.ListN.{length}
+use Rattle.words.specs.Layout.{stations}
+use Rattle.stations.specs.declared.counts.Counts.{Counts}
 use Rattle.points.specs.Word.{NONE}
-use Rattle.words.specs.Layout.{atPlaces, atChanges}
-use Rattle.words.specs.Words.{get}
 use Rattle.rows.specs.Row.{rowAt}
-use Rattle.stations.specs.Common.{openedIn, commonSound, isOpened, rowsIn}
+use Rattle.stations.specs.Common.{openedIn, commonSound, isOpened, rowsIn, placesAt}
 use Rattle.stations.specs.Station.{isUnfinished, stateAt}
 use Rattle.stations.specs.Call.{callAt, callSound}
 use Rattle.stations.proofs.CommonLaws.{commonSound-agree}
@@ -23,8 +23,9 @@ use Rattle.calls.specs.Search.{progressAt}
 use Rattle.calls.specs.Walk.{codeAt, standsAt}
 use Rattle.calls.specs.Step.{recordsSound, workOf, askUnfinished, stepOf}
 use Rattle.calls.specs.Withdraw.{withdrawnAnswer, withdrawOf}
+use Rattle.stations.proofs.OpeningLaws.{rows-most, rowsIn-agree}
 use Rattle.history.specs.Touch.{AgreeOn, Leaves, pickRows, searchRows, walkRows, stepRows}
-use Rattle.history.proofs.TouchLaws.{get-same, opened-same, leaves-nothing}
+use Rattle.history.proofs.TouchLaws.{opened-same, leaves-nothing, counts-same}
 use Rattle.history.proofs.TouchRows.{below-there, below-few}
 use Rattle.history.proofs.TouchReply.{Alike, alike-done, alike-ask, alike-rows, leaves-answered}
 use Rattle.history.proofs.TouchWalk.{walk-alike}
@@ -57,35 +58,29 @@ step-rows-there v s r m = below-there (rowsIn v) _ r m
 
 module _ {v w : List ℕ} {s : ℕ} {rows : List ℕ} (a : AgreeOn v w s rows) where
   rows-same : rowsIn v ≡ rowsIn w
-  unfolding rowsIn
-  rows-same = ap (λ x. cond (leb x 4096) (2 * x) 0) (get-same a atPlaces (omega arith))
+  rows-same = rowsIn-agree (a .common)
 
   sound-same : recordsSound v s ≡ recordsSound w s
   unfolding recordsSound
   sound-same =
       ap₂ _&&_ (ap (commonSound v) rows-same ∙ commonSound-agree (a .common) (rowsIn w))
-      (ap₂ callSound (callAt-agree s (a .station)) (get-same a atChanges (omega arith)))
+      (ap₂ callSound (callAt-agree s (a .station)) (ap (λ (counts : Counts). counts .changes) (counts-same a)))
 
   -- the questions about an unfinished call
-  unfinished-alike : {r q : Reply} → (s < 8 → Alike v w r q s rows) → Alike v w (askUnfinished v s r) (askUnfinished w s q) s rows
+  unfinished-alike : {r q : Reply} → (s < stations → Alike v w r q s rows) → Alike v w (askUnfinished v s r) (askUnfinished w s q) s rows
   unfinished-alike x =
       alike-ask a (isOpened (openedIn v)) (isOpened (openedIn w)) 4 (ap isOpened (opened-same a))
-      (λ o. alike-ask a (ltb s 8) (ltb s 8) 5 refl
+      (λ o. alike-ask a (ltb s stations) (ltb s stations) 5 refl
       (λ l. alike-ask a (isUnfinished (stateAt v s)) (isUnfinished (stateAt w s)) 10 (ap isUnfinished (stateAt-agree s (a .station)))
-      (λ u. alike-ask a (recordsSound v s) (recordsSound w s) 11 sound-same (λ r. x (ltb-true s 8 l)))))
+      (λ u. alike-ask a (recordsSound v s) (recordsSound w s) 11 sound-same (λ r. x (ltb-true s stations l)))))
 
 -- no row has the number of none
 rows-few : (v : List ℕ) → rowsIn v ≤ NONE
-unfolding rowsIn
-rows-few v = go (leb (get v atPlaces) 4096) refl
-  where
-    go : (b : Bool) → leb (get v atPlaces) 4096 ≡ b → cond b (2 * get v atPlaces) 0 ≤ NONE
-    go true e = omega (arith, leb-true (get v atPlaces) 4096 e)
-    go false e = omega arith
+rows-few v = omega (arith, rows-most v)
 
 -- ---- one step
 
-work-alike : {v w : List ℕ} {s : ℕ} → s < 8 → AgreeOn v w s (stepRows v s)
+work-alike : {v w : List ℕ} {s : ℕ} → s < stations → AgreeOn v w s (stepRows v s)
     → Alike v w (workOf v (rowsIn v) s (callAt v s)) (workOf w (rowsIn w) s (callAt w s)) s (stepRows v s)
 unfolding stepRows
 work-alike {v} {w} {s} h a =

@@ -6,134 +6,131 @@ use mathlib.Core.List.{List}
 use native.Mathlib.Omega.{arith}
 use borrow.Author.Tests.{eqb-true}
 use lib.Dec.{eqb}
+use Rattle.stations.specs.declared.counts.Counts.{Counts}
+use Rattle.stations.specs.Counts.{countsAt}
 use Rattle.points.specs.declared.point.Point.{Point}
 use Rattle.points.specs.Word.{NONE}
 use Rattle.points.proofs.Tests.{and-l, and-r}
 use Rattle.rows.specs.declared.row.Row.the-variants.{Bad}
 use Rattle.stations.specs.declared.call.Call.{Call}
-use Rattle.words.specs.Layout.{atChanges, atHeld, atRoot, atHead, atCursor}
-use Rattle.words.specs.Words.{get, more}
+use Rattle.words.specs.Layout.{stations}
 use Rattle.rows.specs.Row.{rowAt}
 use Rattle.rows.proofs.RowLaws.{rowAt-outside}
-use Rattle.calls.specs.declared.insert.Room.{Room}
+use Rattle.calls.specs.declared.insert.Site.{Site}
 use Rattle.calls.specs.Link.{nextOf, parentOf, linksTo, isLeaf, withParent, replaced, leafPoint}
-use Rattle.calls.specs.Insert.{roomAt, roomSound, newSide, putCut, insertRows, insertRoot, insertCounts, cursorsMoved, insertWords, insertTo, insertOf}
-use Rattle.history.specs.Touch.{AgreeOn, Leaves, roomRows, rowsBelow}
-use Rattle.history.proofs.TouchLaws.{get-same, leaves-nothing, leaves-put}
+use Rattle.calls.specs.Insert.{siteAt, siteSound, newSide, putCut, insertRows, insertCounts, cursorsMoved, insertWords, insertTo, insertOf, countInserted, cursorTo, cursorMoved}
+use Rattle.history.specs.Touch.{AgreeOn, Leaves, siteRows, rowsBelow}
+use Rattle.history.proofs.TouchLaws.{leaves-nothing, counts-same, track-same, leaves-counts, leaves-track}
 use Rattle.history.proofs.TouchRows.{the-first, the-second, the-third, the-fourth, row-alike, leaves-below, leaves-begun, none-idle, bad-idle}
 use Rattle.history.proofs.TouchReply.{Alike, alike-done, alike-ask, leaves-answered}
 
 -- ---- what is read
 
--- two slices that agree in the rows of the room find the same room
-room-same : {v w : List ℕ} {s : ℕ} (rows at : ℕ) → AgreeOn v w s (rowsBelow rows (roomRows (roomAt v rows at))) → roomAt v rows at ≡ roomAt w rows at
-unfolding roomAt
-room-same {v} {w} {s} rows at a =
-    let first : get v atHead ≡ get w atHead = get-same a atHead (omega arith) in
-    let fresh : rowAt v rows (get v atHead) ≡ rowAt w rows (get w atHead) = row-alike rows a _ _ the-second first in
-    let second = ap (λ row. cond (eqb at NONE) NONE (nextOf row)) fresh in
-    let spare = row-alike rows a _ _ the-third second in
+-- two slices that agree in the rows of the site find the same site
+site-same : {v w : List ℕ} {s : ℕ} (rows at : ℕ) → AgreeOn v w s (rowsBelow rows (siteRows (siteAt v rows at))) → siteAt v rows at ≡ siteAt w rows at
+unfolding siteAt
+site-same {v} {w} {s} rows at a =
+    let first : countsAt v .head ≡ countsAt w .head = ap (λ (c : Counts). c .head) (counts-same a) in
+    let front : rowAt v rows (countsAt v .head) ≡ rowAt w rows (countsAt w .head) = row-alike rows a _ _ the-second first in
+    let second = ap (λ row. cond (eqb at NONE) NONE (nextOf row)) front in
+    let behind = row-alike rows a _ _ the-third second in
     let leaf : rowAt v rows at ≡ rowAt w rows at = row-alike rows a at at the-first refl in
     let over = ap parentOf leaf in
-    let above = row-alike rows a _ _ the-fourth over in
-    λ i. record { first = first i; fresh = fresh i; second = second i; spare = spare i; at = at; leaf = leaf i; over = over i; above = above i }
+    let cut = row-alike rows a _ _ the-fourth over in
+    λ i. record { first = first i; front = front i; second = second i; behind = behind i; at = at; leaf = leaf i; over = over i; cut = cut i }
 
--- a room in an index of so many rows: from there on there is no row, and where the walk ended at none there is no second one
-record InRoom (rows : ℕ) (room : Room) : Type 0 where
-  fresh : rows ≤ room .first → room .fresh ≡ Bad
-  spare : rows ≤ room .second → room .spare ≡ Bad
-  leaf : rows ≤ room .at → room .leaf ≡ Bad
-  above : rows ≤ room .over → room .above ≡ Bad
-  alone : room .at ≡ NONE → room .second ≡ NONE
+-- a site in an index of so many rows: from there on there is no row, and where the walk ended at none there is no second one
+record InSite (rows : ℕ) (site : Site) : Type 0 where
+  front : rows ≤ site .first → site .front ≡ Bad
+  behind : rows ≤ site .second → site .behind ≡ Bad
+  leaf : rows ≤ site .at → site .leaf ≡ Bad
+  cut : rows ≤ site .over → site .cut ≡ Bad
+  alone : site .at ≡ NONE → site .second ≡ NONE
 
-in-room : (v : List ℕ) (rows at : ℕ) → InRoom rows (roomAt v rows at)
-unfolding roomAt
-in-room v rows at = record {
-  fresh = λ h. rowAt-outside v rows _ h;
-  spare = λ h. rowAt-outside v rows _ h;
+in-site : (v : List ℕ) (rows at : ℕ) → InSite rows (siteAt v rows at)
+unfolding siteAt
+in-site v rows at = record {
+  front = λ h. rowAt-outside v rows _ h;
+  behind = λ h. rowAt-outside v rows _ h;
   leaf = λ h. rowAt-outside v rows at h;
-  above = λ h. rowAt-outside v rows _ h;
-  alone = λ e. ap (λ x. cond (eqb x NONE) NONE (nextOf (rowAt v rows (get v atHead)))) e;
+  cut = λ h. rowAt-outside v rows _ h;
+  alone = λ e. ap (λ x. cond (eqb x NONE) NONE (nextOf (rowAt v rows (countsAt v .head)))) e;
 }
 
--- in a sound room the first row is there, and the second where there is a leaf
-module _ (room : Room) (sound : roomSound room ≡ true) where
-  fresh-there : room .fresh ≡ Bad → ⊥
-  unfolding roomSound
-  fresh-there bad = false≢true (subst (λ row. not (eqb (nextOf row) NONE) ≡ true) bad (and-l (not (eqb (nextOf (room .fresh)) NONE)) _ sound))
+-- in a sound site the first row is there, and the second where there is a leaf
+module _ (site : Site) (sound : siteSound site ≡ true) where
+  front-there : site .front ≡ Bad → ⊥
+  unfolding siteSound
+  front-there bad = false≢true (subst (λ row. not (eqb (nextOf row) NONE) ≡ true) bad (and-l (not (eqb (nextOf (site .front)) NONE)) _ sound))
 
-  spare-there : room .spare ≡ Bad → room .at ≡ NONE
-  unfolding roomSound
-  spare-there bad = eqb-true _ _ (go (eqb (room .at) NONE) (and-r (not (eqb (nextOf (room .fresh)) NONE)) _ sound))
+  behind-there : site .behind ≡ Bad → site .at ≡ NONE
+  unfolding siteSound
+  behind-there bad = eqb-true _ _ (go (eqb (site .at) NONE) (and-r (not (eqb (nextOf (site .front)) NONE)) _ sound))
     where
       go : (b : Bool)
           → (b
-          || (((isLeaf (room .leaf) && not (eqb (nextOf (room .spare)) NONE)) && not (eqb (room .second) (room .first)))
-          && (eqb (room .over) NONE || linksTo (room .at) (room .above))))
+          || (((isLeaf (site .leaf) && not (eqb (nextOf (site .behind)) NONE)) && not (eqb (site .second) (site .first)))
+          && (eqb (site .over) NONE || linksTo (site .at) (site .cut))))
           ≡ true
           → b ≡ true
       go true e = refl
       go false e =
-          let three = and-l ((isLeaf (room .leaf) && not (eqb (nextOf (room .spare)) NONE)) && not (eqb (room .second) (room .first))) _ e in
-          let two = and-l (isLeaf (room .leaf) && not (eqb (nextOf (room .spare)) NONE)) _ three in
-          subst (λ row. not (eqb (nextOf row) NONE) ≡ true) bad (and-r (isLeaf (room .leaf)) _ two)
+          let three = and-l ((isLeaf (site .leaf) && not (eqb (nextOf (site .behind)) NONE)) && not (eqb (site .second) (site .first))) _ e in
+          let two = and-l (isLeaf (site .leaf) && not (eqb (nextOf (site .behind)) NONE)) _ three in
+          subst (λ row. not (eqb (nextOf row) NONE) ≡ true) bad (and-r (isLeaf (site .leaf)) _ two)
 
 -- ---- what is written
 
 module _ {v w v′ w′ : List ℕ} {s : ℕ} {rows : List ℕ} (l : Leaves v w v′ w′ s rows) where
   -- the cursors of the first n stations
-  cursors-leaves : (gone to n : ℕ) → n ≤ 8 → Leaves v w (cursorsMoved gone to n v′) (cursorsMoved gone to n w′) s rows
-  unfolding cursorsMoved
-  cursors-leaves gone to zero h = l
-  cursors-leaves gone to (suc n) h =
-      let before = cursors-leaves gone to n (omega arith) in
-      leaves-put before (atCursor n) _ _ (omega arith) (ap (λ x. cond (eqb x gone) to x) (get-same (before .agree) (atCursor n) (omega arith)))
+  cursors-leaves : (gone to n : ℕ) → Leaves v w (cursorsMoved gone to n v′) (cursorsMoved gone to n w′) s rows
+  unfolding cursorsMoved cursorMoved
+  cursors-leaves gone to zero = l
+  cursors-leaves gone to (suc n) =
+      let before = cursors-leaves gone to n in
+      leaves-track before n _ _ (ap (cursorTo gone to) (track-same (before .agree) n))
 
   -- the counts, the root and the head
-  insert-counts-leaves : (room : Room) → Leaves v w (insertCounts v′ room) (insertCounts w′ room) s rows
+  insert-counts-leaves : (site : Site) → Leaves v w (insertCounts v′ site) (insertCounts w′ site) s rows
   unfolding insertCounts
-  insert-counts-leaves room =
-      leaves-put
-      (leaves-put
-      (leaves-put (leaves-put l atChanges _ _ (omega arith) (ap more (get-same (l .agree) atChanges (omega arith)))) atHeld _ _ (omega arith)
-      (ap more (get-same (l .agree) atHeld (omega arith)))) atRoot _ _ (omega arith)
-      (ap (insertRoot room) (get-same (l .agree) atRoot (omega arith)))) atHead _ _ (omega arith) refl
+  insert-counts-leaves site =
+      leaves-counts l _ _ (ap (countInserted site) (counts-same (l .agree)))
 
 -- the four rows: each is among the rows of the index, or nothing is written there
-insert-rows-leaves : {v w v′ w′ : List ℕ} {s : ℕ} (rows : ℕ) (room : Room) → InRoom rows room → roomSound room ≡ true
-    → Leaves v w v′ w′ s (rowsBelow rows (roomRows room)) → (added : ℕ) (point : Point) (curve : ℕ)
-    → Leaves v w (insertRows v′ room added point curve) (insertRows w′ room added point curve) s (rowsBelow rows (roomRows room))
+insert-rows-leaves : {v w v′ w′ : List ℕ} {s : ℕ} (rows : ℕ) (site : Site) → InSite rows site → siteSound site ≡ true
+    → Leaves v w v′ w′ s (rowsBelow rows (siteRows site)) → (added : ℕ) (point : Point) (curve : ℕ)
+    → Leaves v w (insertRows v′ site added point curve) (insertRows w′ site added point curve) s (rowsBelow rows (siteRows site))
 unfolding insertRows putCut
-insert-rows-leaves rows room inside sound l added point curve =
-    let alone : rows ≤ room .second → room .second ≡ NONE = λ h. inside .alone (spare-there room sound (inside .spare h)) in
+insert-rows-leaves rows site inside sound l added point curve =
+    let alone : rows ≤ site .second → site .second ≡ NONE = λ h. inside .alone (behind-there site sound (inside .behind h)) in
     leaves-below rows
     (leaves-below rows
     (leaves-begun rows
     (leaves-below rows
-    (leaves-below rows l (room .first) _ the-second (λ h. absurd (fresh-there room sound (inside .fresh h))))
-    (room .second) _ the-third (λ h. none-idle (alone h) _))
-    (room .second) (newSide room point) point (leafPoint (room .leaf)) the-third alone)
-    (room .at) _ the-first (λ h. bad-idle (ap (withParent (room .second)) (inside .leaf h)) (room .at)))
-    (room .over) _ the-fourth (λ h. bad-idle (ap (replaced (room .at) (room .second)) (inside .above h)) (room .over))
+    (leaves-below rows l (site .first) _ the-second (λ h. absurd (front-there site sound (inside .front h))))
+    (site .second) _ the-third (λ h. none-idle (alone h) _))
+    (site .second) (newSide site point) point (leafPoint (site .leaf)) the-third alone)
+    (site .at) _ the-first (λ h. bad-idle (ap (withParent (site .second)) (inside .leaf h)) (site .at)))
+    (site .over) _ the-fourth (λ h. bad-idle (ap (replaced (site .at) (site .second)) (inside .cut h)) (site .over))
 
-insert-leaves : {v w : List ℕ} {s : ℕ} (rows : ℕ) (room : Room) → InRoom rows room → roomSound room ≡ true
-    → AgreeOn v w s (rowsBelow rows (roomRows room)) → (point : Point) (curve : ℕ)
-    → Leaves v w (insertWords v room point curve) (insertWords w room point curve) s (rowsBelow rows (roomRows room))
+insert-leaves : {v w : List ℕ} {s : ℕ} (rows : ℕ) (site : Site) → InSite rows site → siteSound site ≡ true
+    → AgreeOn v w s (rowsBelow rows (siteRows site)) → (point : Point) (curve : ℕ)
+    → Leaves v w (insertWords v site point curve) (insertWords w site point curve) s (rowsBelow rows (siteRows site))
 unfolding insertWords
-insert-leaves rows room inside sound a point curve =
-    rw (← get-same a atChanges (omega arith))
-    (insert-rows-leaves rows room inside sound (cursors-leaves (insert-counts-leaves (leaves-nothing a) room) (room .at) (room .second) 8 (omega arith)) _ point curve)
+insert-leaves rows site inside sound a point curve =
+    rw (← counts-same a)
+    (insert-rows-leaves rows site inside sound (cursors-leaves (insert-counts-leaves (leaves-nothing a) site) (site .at) (site .second) stations) _ point curve)
 
 -- ---- the insert
 
-insert-to-alike : {v w : List ℕ} {s : ℕ} (rows : ℕ) (call : Call) (room : Room) → InRoom rows room → AgreeOn v w s (rowsBelow rows (roomRows room))
-    → Alike v w (insertTo v s call room) (insertTo w s call room) s (rowsBelow rows (roomRows room))
-insert-to-alike rows call room inside a =
-    alike-ask a (roomSound room) (roomSound room) 11 refl
-    (λ sound. alike-done (leaves-answered (insert-leaves rows room inside sound a (call .point) (call .curve)) _ _ refl))
+insert-to-alike : {v w : List ℕ} {s : ℕ} (rows : ℕ) (call : Call) (site : Site) → InSite rows site → AgreeOn v w s (rowsBelow rows (siteRows site))
+    → Alike v w (insertTo v s call site) (insertTo w s call site) s (rowsBelow rows (siteRows site))
+insert-to-alike rows call site inside a =
+    alike-ask a (siteSound site) (siteSound site) 11 refl
+    (λ sound. alike-done (leaves-answered (insert-leaves rows site inside sound a (call .point) (call .curve)) _ _ refl))
 
--- from two slices that agree in the rows of the first one's room
-pub insert-alike : {v w : List ℕ} {s : ℕ} (rows : ℕ) (call : Call) (at : ℕ) → AgreeOn v w s (rowsBelow rows (roomRows (roomAt v rows at)))
-    → Alike v w (insertOf v rows s call at) (insertOf w rows s call at) s (rowsBelow rows (roomRows (roomAt v rows at)))
+-- from two slices that agree in the rows of the first one's site
+pub insert-alike : {v w : List ℕ} {s : ℕ} (rows : ℕ) (call : Call) (at : ℕ) → AgreeOn v w s (rowsBelow rows (siteRows (siteAt v rows at)))
+    → Alike v w (insertOf v rows s call at) (insertOf w rows s call at) s (rowsBelow rows (siteRows (siteAt v rows at)))
 unfolding insertOf
-insert-alike {v} rows call at a = rw (← room-same rows at a) (insert-to-alike rows call (roomAt v rows at) (in-room v rows at) a)
+insert-alike {v} rows call at a = rw (← site-same rows at a) (insert-to-alike rows call (siteAt v rows at) (in-site v rows at) a)

@@ -5,33 +5,43 @@ use mathlib.Core.Bool.{Bool}
 use mathlib.Core.List.{List, List·Memᴰ}
 use native.Mathlib.Omega.{arith}
 use Rattle.points.specs.declared.point.Point.{Point}
-use Rattle.rows.specs.declared.row.Row.{Row}
+use Rattle.words.specs.Agree.{Agree, Region, inCommon, inStation, inRow, OnlyIn}
+use Rattle.stations.specs.declared.counts.Counts.{Counts}
+use Rattle.stations.specs.declared.track.Track.{Track}
 use Rattle.stations.specs.declared.station.State.{State}
 use Rattle.stations.specs.declared.call.Best.{Best}
 use Rattle.stations.specs.declared.call.Call.{Call}
 use Rattle.stations.specs.declared.answer.Answer.{Answer}
-use Rattle.words.specs.Words.{get, put}
-use Rattle.words.specs.Agree.{Agree, Region, inCommon, inStation, inRow, OnlyIn}
-use Rattle.rows.specs.Row.{rowAt, putRow}
-use Rattle.rows.specs.Grades.{admits, markToward, beginGrades}
 use Rattle.stations.specs.Common.{openedIn}
-use Rattle.stations.specs.Target.{putTarget}
-use Rattle.stations.specs.Station.{putState, putPlace, putSince, putMissed}
+use Rattle.stations.specs.Counts.{countsAt, putCounts}
+use Rattle.stations.specs.Track.{trackAt, putTrack}
+use Rattle.stations.specs.Target.{targetAt, putTarget}
+use Rattle.stations.specs.Station.{putState}
 use Rattle.stations.specs.Call.{putBest, putCall}
 use Rattle.stations.specs.Answer.{putAnswer}
-use Rattle.words.proofs.AgreeLaws.{put-agree}
+use Rattle.stations.proofs.OpeningLaws.{openedIn-agree}
+use Rattle.stations.proofs.CountLaws.{counts-agree, putCounts-only, putCounts-agree}
+use Rattle.stations.proofs.TrackLaws.{track-agree, putTrack-only, putTrack-agree}
+use Rattle.stations.proofs.TargetLaws.{targetAt-agree, putTarget-only, putTarget-agree}
+use Rattle.stations.proofs.StationLaws.{putState-only, putState-agree, putBest-only, putBest-agree, putCall-only, putCall-agree, putAnswer-only, putAnswer-agree}
+use Rattle.rows.specs.declared.row.Row.{Row}
+use Rattle.rows.specs.Row.{rowAt, putRow}
+use Rattle.rows.specs.Grades.{admits, markToward, beginGrades}
 use Rattle.rows.proofs.RowLaws.{putRow-only, putRow-agree, rowAt-agree}
 use Rattle.rows.proofs.GradeLaws.{admits-agree, toward-only, toward-agree, begin-only, begin-agree}
-use Rattle.stations.proofs.OpeningLaws.{openedIn-agree}
-use Rattle.stations.proofs.TargetLaws.{putTarget-only, putTarget-agree}
-use Rattle.stations.proofs.StationLaws.{putState-only, putState-agree, putBest-only, putBest-agree, putCall-only, putCall-agree, putAnswer-only, putAnswer-agree, putPlace-only, putPlace-agree, putSince-only, putSince-agree, putMissed-only, putMissed-agree, put-common}
 use Rattle.history.specs.Touch.{AgreeOn, KeepsOthers, Leaves}
 
 -- ---- reads
 
 module _ {v w : List ℕ} {s : ℕ} {rows : List ℕ} (a : AgreeOn v w s rows) where
-  pub get-same : (k : ℕ) → k < 96 → get v k ≡ get w k
-  get-same k h = a .common .words k (omega arith) (omega arith)
+  pub counts-same : countsAt v ≡ countsAt w
+  counts-same = counts-agree (a .common)
+
+  pub track-same : (u : ℕ) → trackAt v u ≡ trackAt w u
+  track-same u = track-agree (a .common) u
+
+  pub target-same : (u : ℕ) → targetAt v u ≡ targetAt w u
+  target-same u = targetAt-agree (a .common) u
 
   pub opened-same : openedIn v ≡ openedIn w
   opened-same = openedIn-agree (a .common)
@@ -72,8 +82,11 @@ more-leaves x m f o p l = record {
 }
 
 module _ {v w v′ w′ : List ℕ} {s : ℕ} {rows : List ℕ} (l : Leaves v w v′ w′ s rows) where
-  pub leaves-put : (i x y : ℕ) → i < 96 → x ≡ y → Leaves v w (put v′ i x) (put w′ i y) s rows
-  leaves-put i x y h e = rw (← e) (more-leaves inCommon the-common (λ j n a. put-agree a i x) (put-common v′ i x h) (put-common w′ i x h) l)
+  pub leaves-counts : (x y : Counts) → x ≡ y → Leaves v w (putCounts v′ x) (putCounts w′ y) s rows
+  leaves-counts x y e = rw (← e) (more-leaves inCommon the-common (λ i n a. putCounts-agree a x) (putCounts-only v′ x) (putCounts-only w′ x) l)
+
+  pub leaves-track : (u : ℕ) (x y : Track) → x ≡ y → Leaves v w (putTrack v′ u x) (putTrack w′ u y) s rows
+  leaves-track u x y e = rw (← e) (more-leaves inCommon the-common (λ i n a. putTrack-agree a u x) (putTrack-only v′ u x) (putTrack-only w′ u x) l)
 
   pub leaves-state : (x y : State) → x ≡ y → Leaves v w (putState v′ s x) (putState w′ s y) s rows
   leaves-state x y e = rw (← e) (more-leaves (inStation s) the-station (λ i n a. putState-agree a s x) (putState-only v′ s x) (putState-only w′ s x) l)
@@ -86,15 +99,6 @@ module _ {v w v′ w′ : List ℕ} {s : ℕ} {rows : List ℕ} (l : Leaves v w 
 
   pub leaves-answer : (x y : Answer) → x ≡ y → Leaves v w (putAnswer v′ s x) (putAnswer w′ s y) s rows
   leaves-answer x y e = rw (← e) (more-leaves (inStation s) the-station (λ i n a. putAnswer-agree a s x) (putAnswer-only v′ s x) (putAnswer-only w′ s x) l)
-
-  pub leaves-place : (c d p q : ℕ) → c ≡ d → p ≡ q → Leaves v w (putPlace v′ s c p) (putPlace w′ s d q) s rows
-  leaves-place c d p q e f = rw (← e, ← f) (more-leaves inCommon the-common (λ i n a. putPlace-agree a s c p) (putPlace-only v′ s c p) (putPlace-only w′ s c p) l)
-
-  pub leaves-since : (x y : ℕ) → x ≡ y → Leaves v w (putSince v′ s x) (putSince w′ s y) s rows
-  leaves-since x y e = rw (← e) (more-leaves inCommon the-common (λ i n a. putSince-agree a s x) (putSince-only v′ s x) (putSince-only w′ s x) l)
-
-  pub leaves-missed : (x y : ℕ) → x ≡ y → Leaves v w (putMissed v′ s x) (putMissed w′ s y) s rows
-  leaves-missed x y e = rw (← e) (more-leaves inCommon the-common (λ i n a. putMissed-agree a s x) (putMissed-only v′ s x) (putMissed-only w′ s x) l)
 
   pub leaves-target : (p : Point) → Leaves v w (putTarget v′ s p) (putTarget w′ s p) s rows
   leaves-target p = more-leaves inCommon the-common (λ i n a. putTarget-agree a s p) (putTarget-only v′ s p) (putTarget-only w′ s p) l

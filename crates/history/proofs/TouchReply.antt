@@ -7,7 +7,7 @@ use Rattle.stations.specs.declared.answer.Answer.{Answer}
 use Rattle.calls.specs.Reply.{Reply, done, refused, pickReply, ask}
 use Rattle.calls.specs.Answer.{letGo, answeredWords}
 use Rattle.history.specs.Touch.{AgreeOn, Leaves, pickRows, rowsBelow}
-use Rattle.history.proofs.TouchLaws.{leaves-nothing, leaves-state, leaves-answer, leaves-place, leaves-since, leaves-missed}
+use Rattle.history.proofs.TouchLaws.{leaves-nothing, leaves-state, leaves-answer, leaves-track}
 
 -- from v and w two replies with one number, whose words agree again
 pub record Alike (v w : List ℕ) (r q : Reply) (s : ℕ) (rows : List ℕ) : Type 0 where
@@ -42,7 +42,7 @@ module _ {v w : List ℕ} {s : ℕ} {rows : List ℕ} where
       → Leaves v w (answeredWords v′ s x) (answeredWords w′ s y) s rows
   unfolding answeredWords letGo
   leaves-answered l x y e =
-      leaves-missed (leaves-since (leaves-place (leaves-state (leaves-answer l x y e) _ _ refl) _ _ _ _ refl refl) _ _ refl) _ _ refl
+      leaves-track (leaves-state (leaves-answer l x y e) _ _ refl) s _ _ refl
 
 -- one test decides on the reply and on the rows
 pub alike-rows : {v w : List ℕ} {s : ℕ} (count : ℕ) (b : Bool) (some others : List ℕ) {x y x′ y′ : Reply} → AgreeOn v w s (rowsBelow count (pickRows b some others))

@@ -7,6 +7,8 @@ use native.Mathlib.Decide.{decLt}
 use native.Mathlib.Omega.{arith}
 use borrow.Author.Tests.{eq-eqb, eqb-true}
 use lib.Dec.{eqb}
+use Rattle.words.specs.Layout.{stations}
+use Rattle.stations.specs.declared.track.Track.{Track}
 use Rattle.points.specs.declared.cut.Cut.{Cut as PointCut}
 use Rattle.points.specs.Cut.{goesLeft}
 use Rattle.points.specs.Choice.{excluded}
@@ -15,33 +17,29 @@ use Rattle.rows.specs.declared.row.Row.{Row}
 use Rattle.rows.specs.declared.row.Row.the-variants.{Bad, Spare, Removed, Leaf, Cut}
 use Rattle.stations.specs.declared.call.Best.{Best}
 use Rattle.stations.specs.declared.call.Call.{Call}
-use Rattle.words.specs.Layout.{atCursor, atPhase, atMissed}
 use Rattle.rows.specs.Row.{rowAt}
 use Rattle.rows.specs.Grades.{slotOf, admits}
 use Rattle.rows.proofs.RowLaws.{rowAt-outside}
-use Rattle.calls.specs.declared.search.Progress.{Progress}
+use Rattle.calls.specs.declared.progress.Progress.{Progress}
 use Rattle.calls.specs.Link.{nextOf, parentOf, isTree}
-use Rattle.calls.specs.Search.{pickProgress, onward, unsound, lookAt, look, bestSquare, farShut, tourDown, fromNear, fromChild, tourAbove}
-use Rattle.calls.specs.Search.{tourUp, tour, toured, seek, progressAt, isFinished, foundAnswer, keptWords, pickWords, searchWords, searchTo, searchOf}
+use Rattle.calls.specs.Search.{keptTrack}
+use Rattle.calls.specs.Tour.{bestSquare, farShut, tourDown, fromNear, fromChild, tourAbove, tourUp, tour, toured}
+use Rattle.calls.specs.Look.{lookAt, look}
+use Rattle.calls.specs.Progress.{pickProgress, onward, strayed}
+use Rattle.calls.specs.Search.{seek, progressAt, isFinished, foundAnswer, keptWords, pickWords, searchWords, searchTo, searchOf}
 use Rattle.calls.specs.Answer.{answeredWords}
 use Rattle.history.specs.Touch.{AgreeOn, Leaves, pickRows, lookRows, tourRows, newRow, searchRows, rowsBelow}
 use Rattle.history.proofs.Frame.{slot-fits}
-use Rattle.history.proofs.TouchLaws.{get-same, admits-same, leaves-nothing, leaves-best, leaves-place, leaves-missed}
+use Rattle.history.proofs.TouchLaws.{admits-same, leaves-nothing, leaves-best, track-same, leaves-track}
 use Rattle.history.proofs.TouchRows.{the-first, the-second, the-third, the-fourth, the-fifth, the-sixth, below-has, row-alike}
 use Rattle.history.proofs.TouchReply.{Alike, alike-done, alike-ask, leaves-answered}
 
 -- ---- what is read
 
-progress-same : {v w : List ℕ} {s : ℕ} {rows : List ℕ} → AgreeOn v w s rows → (call : Call) → s < 8 → progressAt v s call ≡ progressAt w s call
+progress-same : {v w : List ℕ} {s : ℕ} {rows : List ℕ} → AgreeOn v w s rows → (call : Call) → progressAt v s call ≡ progressAt w s call
 unfolding progressAt
-progress-same {s = s} a call h =
-    λ i. record {
-      cursor = get-same a (atCursor s) (omega arith) i;
-      phase = get-same a (atPhase s) (omega arith) i;
-      missed = get-same a (atMissed s) (omega arith) i;
-      best = call .best;
-      sound = true;
-    }
+progress-same {s = s} a call =
+    ap (λ (track : Track). record { cursor = track .cursor; phase = track .phase; missed = track .missed; best = call .best; sound = true }) (track-same a s)
 
 -- the missed row and the row after it
 look-same : {v w list : List ℕ} {s : ℕ} (count : ℕ) → AgreeOn v w s (rowsBelow count list) → (call : Call) (p : Progress)
@@ -117,7 +115,7 @@ module _ {v w list : List ℕ} {s : ℕ} (count slot : ℕ) (fits : slot < 128) 
       let above = above-alike (parentOf (rowAt v count (p .cursor))) (parentOf (rowAt w count (p .cursor))) n (ap parentOf row) in
       λ i. pickProgress (eqb (p .cursor) NONE) p
       (pickProgress (eqb (p .phase) 0) (down i)
-      (pickProgress (isTree (row i)) (pickProgress (eqb (parentOf (row i)) NONE) (onward p NONE 1 (p .best)) (above i)) (unsound p)))
+      (pickProgress (isTree (row i)) (pickProgress (eqb (parentOf (row i)) NONE) (onward p NONE 1 (p .best)) (above i)) (strayed p)))
 
 -- after a tour: a search that goes up stands on a row that was read
 data Later (list : List ℕ) (p : Progress) : Type 0 where
@@ -142,7 +140,7 @@ module _ {list : List ℕ} (words : List ℕ) (count slot : ℕ) (call : Call) (
       cut-later (cond goes left right) (cond goes right left) (admits words (p .cursor) goes slot) (farShut words slot call (p .best) (p .cursor) cut goes) m
 
   child-later : (above far : ℕ) (near over shut : Bool) → List·Memᴰ (p .cursor) list → List·Memᴰ above list
-      → Later list (pickProgress near (fromNear p above far shut) (pickProgress over (onward p above 1 (p .best)) (unsound p)))
+      → Later list (pickProgress near (fromNear p above far shut) (pickProgress over (onward p above 1 (p .best)) (strayed p)))
   child-later above far true over true m n = seen n
   child-later above far true over false m n = descends refl
   child-later above far false true shut m n = seen n
@@ -161,7 +159,7 @@ module _ {list : List ℕ} (words : List ℕ) (count slot : ℕ) (call : Call) (
   up-later row m n = go (isTree row) (eqb (parentOf row) NONE)
     where
       go : (b d : Bool)
-          → Later list (pickProgress b (pickProgress d (onward p NONE 1 (p .best)) (tourAbove words slot call p (parentOf row) (rowAt words count (parentOf row)))) (unsound p))
+          → Later list (pickProgress b (pickProgress d (onward p NONE 1 (p .best)) (tourAbove words slot call p (parentOf row) (rowAt words count (parentOf row)))) (strayed p))
       go true true = has-gone refl
       go true false = above-later (parentOf row) (rowAt words count (parentOf row)) m n
       go false d = seen m
@@ -268,7 +266,7 @@ seek-same {v} {w} {s} count call a = go (eqb (begun .missed) NONE) refl a
 module _ {v w : List ℕ} {s : ℕ} {rows : List ℕ} (a : AgreeOn v w s rows) (call : Call) (p : Progress) where
   kept-leaves : Leaves v w (keptWords v s p) (keptWords w s p) s rows
   unfolding keptWords
-  kept-leaves = leaves-missed (leaves-place (leaves-best (leaves-nothing a) _ _ refl) _ _ _ _ refl refl) _ _ refl
+  kept-leaves = leaves-track (leaves-best (leaves-nothing a) _ _ refl) s _ _ (ap (keptTrack p) (track-same a s))
 
   search-leaves : Leaves v w (searchWords v s call p) (searchWords w s call p) s rows
   unfolding searchWords
@@ -289,8 +287,8 @@ module _ {v w : List ℕ} {s : ℕ} {rows : List ℕ} (a : AgreeOn v w s rows) (
 -- ---- one step
 
 -- from two slices that agree in the rows that the first one's search needs
-pub search-alike : {v w : List ℕ} {s : ℕ} → s < 8 → (count : ℕ) (call : Call) → AgreeOn v w s (rowsBelow count (searchRows v count s call))
+pub search-alike : {v w : List ℕ} {s : ℕ} → s < stations → (count : ℕ) (call : Call) → AgreeOn v w s (rowsBelow count (searchRows v count s call))
     → Alike v w (searchOf v count s call) (searchOf w count s call) s (rowsBelow count (searchRows v count s call))
 unfolding searchOf
 search-alike {v} {w} {s} h count call a =
-    rw (← progress-same a call h, ← seek-same count call a) (search-to-alike a call (seek v count call (progressAt v s call)))
+    rw (← progress-same a call, ← seek-same count call a) (search-to-alike a call (seek v count call (progressAt v s call)))

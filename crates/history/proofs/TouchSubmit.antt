@@ -5,16 +5,18 @@ use mathlib.Core.Bool.{Bool, true, false, cond}
 use mathlib.Core.List.{List, []}
 use native.Mathlib.Omega.{arith}
 use lib.Dec.{eqb, ltb}
+use Rattle.words.specs.Layout.{stations}
+use Rattle.stations.specs.declared.counts.Counts.{Counts}
 use Rattle.points.specs.declared.point.Point.{Point}
 use Rattle.points.specs.Point.{inRange}
-use Rattle.words.specs.Layout.{atChanges, atRoot, atRemovals}
 use Rattle.stations.specs.Target.{putTarget}
 use Rattle.stations.specs.Common.{openedIn, isOpened}
 use Rattle.stations.specs.Station.{isIdle, stateAt}
 use Rattle.stations.proofs.RecordLaws.{stateAt-agree}
-use Rattle.calls.specs.Submit.{kindIn, curveFits, callFor, sinceFor, begunWords, aimedWords, submittedWords, submitOf}
+use Rattle.calls.specs.Submit.{curveFits, callFor, begunWords, aimedWords, submittedWords, submitOf, begunTrack}
+use Rattle.stations.specs.Call.{kindIn}
 use Rattle.history.specs.Touch.{AgreeOn, Leaves}
-use Rattle.history.proofs.TouchLaws.{get-same, opened-same, leaves-nothing, leaves-state, leaves-call, leaves-place, leaves-since, leaves-missed, leaves-target}
+use Rattle.history.proofs.TouchLaws.{opened-same, leaves-nothing, leaves-state, leaves-call, leaves-target, counts-same, leaves-track}
 use Rattle.history.proofs.TouchReply.{Alike, alike-done, alike-ask}
 
 module _ {v w : List ℕ} {s : ℕ} {rows : List ℕ} where
@@ -22,9 +24,7 @@ module _ {v w : List ℕ} {s : ℕ} {rows : List ℕ} where
   begun-leaves : {v′ w′ : List ℕ} → Leaves v w v′ w′ s rows → (kind : ℕ) → Leaves v w (begunWords v′ s kind) (begunWords w′ s kind) s rows
   unfolding begunWords
   begun-leaves {v′} {w′} l kind =
-      leaves-missed
-      (leaves-since (leaves-place l _ _ _ _ (get-same (l .agree) atRoot (omega arith)) refl) _ _
-      (ap (λ x. sinceFor x kind) (get-same (l .agree) atRemovals (omega arith)))) _ _ refl
+      leaves-track l s _ _ (ap (λ counts. begunTrack counts kind) (counts-same (l .agree)))
 
   -- a nearest leaves its target
   aimed-leaves : {v′ w′ : List ℕ} → Leaves v w v′ w′ s rows → (kind : ℕ) (p : Point) → Leaves v w (aimedWords v′ s kind p) (aimedWords w′ s kind p) s rows
@@ -41,14 +41,14 @@ module _ {v w : List ℕ} {s : ℕ} {rows : List ℕ} where
   submitted-leaves a kind p c =
       aimed-leaves
       (begun-leaves
-      (leaves-state (leaves-call (leaves-nothing a) _ _ (ap (λ x. callFor x kind p c) (get-same a atChanges (omega arith)))) _ _ refl) kind) kind p
+      (leaves-state (leaves-call (leaves-nothing a) _ _ (ap (λ (counts : Counts). callFor (counts .changes) kind p c) (counts-same a))) _ _ refl) kind) kind p
 
   -- the questions, which two slices that agree answer alike
   submit-alike : AgreeOn v w s rows → (kind : ℕ) (p : Point) (c : ℕ) → Alike v w (submitOf v s kind p c) (submitOf w s kind p c) s rows
   unfolding submitOf
   submit-alike a kind p c =
       alike-ask a (isOpened (openedIn v)) (isOpened (openedIn w)) 4 (ap isOpened (opened-same a))
-      (λ o. alike-ask a (ltb s 8) (ltb s 8) 5 refl
+      (λ o. alike-ask a (ltb s stations) (ltb s stations) 5 refl
       (λ l. alike-ask a (isIdle (stateAt v s)) (isIdle (stateAt w s)) 6 (ap isIdle (stateAt-agree s (a .station)))
       (λ i. alike-ask a (kindIn kind) (kindIn kind) 7 refl
       (λ k. alike-ask a (inRange p) (inRange p) 8 refl

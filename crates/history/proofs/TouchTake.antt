@@ -4,20 +4,21 @@ use mathlib.Core.Path.{_≡_, refl}
 use mathlib.Core.Bool.{cond}
 use mathlib.Core.List.{List, []}
 use lib.Dec.{ltb}
+use Rattle.words.specs.Layout.{stations}
 use Rattle.stations.proofs.RecordLaws.{waitingAt-agree}
 use Rattle.calls.specs.declared.take.Taking.{Taking}
 use Rattle.calls.specs.declared.take.Taking.the-variants.{Refused as Refusal, Given as Taken}
 use Rattle.stations.specs.Common.{isOpened}
-use Rattle.calls.specs.Take.{takingOf, takeOf, takenWords, takeWords}
+use Rattle.calls.specs.Take.{takingOf, takeOf, emptiedWords, takeWords}
 use Rattle.history.specs.Touch.{AgreeOn, Leaves}
 use Rattle.history.proofs.TouchLaws.{opened-same, leaves-nothing, leaves-state}
 
 module _ {v w : List ℕ} {s : ℕ} {rows : List ℕ} (a : AgreeOn v w s rows) where
   take-same : takeOf v s ≡ takeOf w s
   unfolding takeOf
-  take-same = λ i. cond (isOpened (opened-same a i)) (cond (ltb s 8) (takingOf (waitingAt-agree s (a .station) i)) (Refusal 5)) (Refusal 4)
+  take-same = λ i. cond (isOpened (opened-same a i)) (cond (ltb s stations) (takingOf (waitingAt-agree s (a .station) i)) (Refusal 5)) (Refusal 4)
 
-  taken-leaves : (x : Taking) → Leaves v w (takenWords v s x) (takenWords w s x) s rows
+  taken-leaves : (x : Taking) → Leaves v w (emptiedWords v s x) (emptiedWords w s x) s rows
   taken-leaves (Refusal number) = leaves-nothing a
   taken-leaves (Taken answer) = leaves-state (leaves-nothing a) _ _ refl
 

@@ -1,6 +1,6 @@
 -- What a step of an add, a remove or a contains touches: at most six rows beside the two records (`walk-alike`).
 use Prim.Native.Nat.{ℕ, _≤_, _<_}
-use mathlib.Core.Path.{_≡_, refl, ap₂}
+use mathlib.Core.Path.{_≡_, refl, ap, ap₂}
 use mathlib.Core.Logic.{_≢_}
 use mathlib.Core.Bool.{Bool, true, false, cond, _||_}
 use mathlib.Core.List.{List, List·Memᴰ}
@@ -8,22 +8,26 @@ use native.Mathlib.Decide.{decLt}
 use native.Mathlib.Omega.{arith}
 use borrow.Author.Tests.{eqb-false}
 use lib.Dec.{eqb, leb}
+use Rattle.words.specs.Layout.{stations}
+use Rattle.stations.specs.Track.{standing}
+use Rattle.stations.specs.declared.track.Track.{Track}
+use Rattle.stations.specs.declared.counts.Counts.{Counts}
 use Rattle.points.specs.declared.point.Point.{Point}
 use Rattle.points.specs.Word.{NONE}
 use Rattle.rows.specs.declared.row.Row.{Row}
 use Rattle.stations.specs.declared.call.Call.{Call}
-use Rattle.words.specs.Layout.{atPlaces, atLimit, atChanges, atRoot, atCursor}
 use Rattle.rows.specs.Row.{rowAt}
 use Rattle.rows.specs.Grades.{slotOf}
 use Rattle.rows.proofs.RowLaws.{rowAt-outside}
 use Rattle.stations.proofs.TakenLaws.{takenIn-agree}
 use Rattle.calls.specs.declared.walk.Way.{Way}
 use Rattle.calls.specs.Link.{isLeaf, isCut, holdsPoint}
-use Rattle.calls.specs.Insert.{roomAt}
+use Rattle.calls.specs.Insert.{siteAt}
 use Rattle.calls.specs.Unlink.{aroundAt}
-use Rattle.calls.specs.Walk.{downFrom, down, wayOf, markedWay, passedWords, walkTo, codeOf, codeAt, conclude, standsAt, walkFrom, walkOf}
+use Rattle.calls.specs.Walk.{downFrom, down, wayOf, markedWay, passedWords, walkTo, codeOf, codeAt, conclude, standsAt, walkFrom, walkOf, walkedWords}
+use Rattle.stations.proofs.OpeningLaws.{limit-agree, places-agree}
 use Rattle.history.specs.Touch.{AgreeOn, Leaves, wayRows, pickRows, endRows, walkRows, rowsBelow}
-use Rattle.history.proofs.TouchLaws.{get-same, leaves-nothing, leaves-place}
+use Rattle.history.proofs.TouchLaws.{leaves-nothing, counts-same, track-same, leaves-track}
 use Rattle.history.proofs.TouchRows.{the-first, the-second, the-third, the-fourth, the-fifth, the-sixth, in-pick, row-alike, leaves-marked}
 use Rattle.history.proofs.TouchReply.{Alike, alike-done, alike-refused, alike-pick, alike-ask, alike-rows, leaves-answered}
 use Rattle.history.proofs.TouchInsert.{insert-alike}
@@ -32,15 +36,15 @@ use Rattle.history.proofs.TouchUnlink.{unlink-alike}
 -- ---- what is read
 
 module _ {v w : List ℕ} {s : ℕ} {rows : List ℕ} (a : AgreeOn v w s rows) where
-  stands-same : s < 8 → standsAt v s ≡ standsAt w s
+  stands-same : standsAt v s ≡ standsAt w s
   unfolding standsAt
-  stands-same h = ap₂ (λ c r. cond (eqb c NONE) r c) (get-same a (atCursor s) (omega arith)) (get-same a atRoot (omega arith))
+  stands-same = ap₂ (λ (track : Track) (counts : Counts). cond (eqb (track .cursor) NONE) (counts .root) (track .cursor)) (track-same a s) (counts-same a)
 
   code-same : (call : Call) (row : Row) → codeAt v call row ≡ codeAt w call row
   unfolding codeAt
   code-same call row =
-      ap₂ (codeOf (call .kind) (holdsPoint (call .point) row)) (ap₂ eqb (get-same a atChanges (omega arith)) (get-same a atLimit (omega arith)))
-      (ap₂ leb (get-same a atPlaces (omega arith)) (takenIn-agree (a .common)))
+      ap₂ (codeOf (call .kind) (holdsPoint (call .point) row)) (ap₂ eqb (ap (λ (counts : Counts). counts .changes) (counts-same a)) (limit-agree (a .common)))
+      (ap₂ leb (places-agree (a .common)) (takenIn-agree (a .common)))
 
 -- ---- six rows down
 
@@ -129,12 +133,16 @@ passed-leaves {v} {w} {s} count few call at there a = go (eqb (call .kind) 1)
     go true = marked-leaves count few (call .point) at there a
     go false = leaves-nothing a
 
+walked-leaves : {v w v′ w′ : List ℕ} {s : ℕ} {rows : List ℕ} → Leaves v w v′ w′ s rows → (to : ℕ) → Leaves v w (walkedWords v′ s to) (walkedWords w′ s to) s rows
+unfolding walkedWords
+walked-leaves {s = s} l to = leaves-track l s _ _ (ap (standing to 0) (track-same (l .agree) s))
+
 way-alike : {v w : List ℕ} {s : ℕ} (count : ℕ) → count ≤ NONE → (call : Call) (at : ℕ) → AgreeOn v w s (rowsBelow count (wayRows (wayOf v count (call .point) at)))
     → Alike v w (walkTo v s call (wayOf v count (call .point) at)) (walkTo w s call (wayOf w count (call .point) at)) s (rowsBelow count (wayRows (wayOf v count (call .point) at)))
 way-alike {v} count few call at a =
     rw (← way-same count (call .point) at a)
     (alike-pick (eqb (wayOf v count (call .point) at .to) NONE) _ refl (λ none. alike-refused 11 a)
-    (λ some. alike-done (leaves-place (passed-leaves count few call at (eqb-false (wayOf v count (call .point) at .to) NONE some) a) _ _ _ _ refl refl)))
+    (λ some. alike-done (walked-leaves (passed-leaves count few call at (eqb-false (wayOf v count (call .point) at .to) NONE some) a) (wayOf v count (call .point) at .to))))
 
 -- ---- the decision
 
@@ -159,16 +167,16 @@ from-alike count few call at row a =
 
 -- the row where the walk stands is among the rows
 at-stands : (v : List ℕ) (count s : ℕ) (call : Call) → List·Memᴰ (standsAt v s) (walkRows v count s call)
-unfolding roomAt aroundAt wayOf
+unfolding siteAt aroundAt wayOf
 at-stands v count s call =
     let row = rowAt v count (standsAt v s) in
     in-pick (isCut row) the-first
     (in-pick (eqb (codeAt v call row) 1) the-first (in-pick (eqb (codeAt v call row) 5) the-first the-first))
 
 -- from two slices that agree in the rows that the first one's walk needs
-pub walk-alike : {v w : List ℕ} {s : ℕ} → s < 8 → (count : ℕ) → count ≤ NONE → (call : Call) → AgreeOn v w s (rowsBelow count (walkRows v count s call))
+pub walk-alike : {v w : List ℕ} {s : ℕ} → s < stations → (count : ℕ) → count ≤ NONE → (call : Call) → AgreeOn v w s (rowsBelow count (walkRows v count s call))
     → Alike v w (walkOf v count s call) (walkOf w count s call) s (rowsBelow count (walkRows v count s call))
 unfolding walkOf
 walk-alike {v} {w} {s} h count few call a =
-    rw (← stands-same a h, ← row-alike count a (standsAt v s) (standsAt v s) (at-stands v count s call) refl)
+    rw (← stands-same a, ← row-alike count a (standsAt v s) (standsAt v s) (at-stands v count s call) refl)
     (from-alike count few call (standsAt v s) (rowAt v count (standsAt v s)) a)

@@ -21,9 +21,9 @@ use Rattle.trees.specs.Row.{Row, spareRow, removedRow, leafRow, cutRow, Heap}
 use Rattle.trees.specs.Tour.{considered, pickProgress, goTo, Opens, shut, tourDown, tourParent, tourAbove, tourUp, tourRow, tour}
 use Rattle.trees.specs.Stand.{Down, Up}
 use Rattle.trees.proofs.ChoiceOf.{choiceOf}
-use Rattle.calls.specs.declared.search.Progress.{Progress as WordProgress}
-use Rattle.calls.specs.Search.{considered as consideredWord, onward, unsound, pickProgress as pickWordProgress, farShut}
-use Rattle.calls.specs.Search.{fromNear, tourDown as tourWordDown, tourAbove as tourWordParent, tourUp as tourWordUp, tour as tourWord}
+use Rattle.calls.specs.declared.progress.Progress.{Progress as WordProgress}
+use Rattle.calls.specs.Tour.{farShut, fromNear, tourDown as tourWordDown, tourAbove as tourWordParent, tourUp as tourWordUp, tour as tourWord}
+use Rattle.calls.specs.Progress.{considered as consideredWord, onward, strayed, pickProgress as pickWordProgress}
 use Rattle.history.specs.View.{wordRow, Reads, phaseOf, bestOf, opensIn}
 use Rattle.history.proofs.Effects.{reads-in}
 use Rattle.rows.proofs.RowLaws.{in-rows-cut}
@@ -53,8 +53,8 @@ module _ (words : List ℕ) (rows : ℕ) (h : Heap) (reads : Reads words rows h)
   -- phase down
   tour-down : (x : Row) (p : WordProgress) → Fit p → inRows rows (wordRow x) ≡ true
       → Keeps (tourWordDown words slot call p (wordRow x)) (tourDown (choiceOf (call .point)) opens (call .asof) x (p .cursor) (p .missed) (bestOf (p .best)))
-  tour-down (spareRow next n) p f i = keeps-none (unsound p)
-  tour-down (removedRow next n e) p f i = keeps-none (unsound p)
+  tour-down (spareRow next n) p f i = keeps-none (strayed p)
+  tour-down (removedRow next n e) p f i = keeps-none (strayed p)
   tour-down (leafRow parent e) p f i =
       let w = leaf-in rows parent e i in
       keeps-onward p (p .cursor) 1 (consideredWord call (p .best) (e .added) (e .point) (e .curve)) (considered (choiceOf (call .point)) (call .asof) (bestOf (p .best)) e) f
@@ -74,9 +74,9 @@ module _ (words : List ℕ) (rows : ℕ) (h : Heap) (reads : Reads words rows h)
   -- phase up, at the cut above
   tour-parent : (x : Row) (p : WordProgress) (parent : ℕ) → Fit p
       → Keeps (tourWordParent words slot call p parent (wordRow x)) (tourParent (choiceOf (call .point)) opens x parent (p .cursor) (p .missed) (bestOf (p .best)))
-  tour-parent (spareRow next n) p parent f = keeps-none (unsound p)
-  tour-parent (removedRow next n e) p parent f = keeps-none (unsound p)
-  tour-parent (leafRow above e) p parent f = keeps-none (unsound p)
+  tour-parent (spareRow next n) p parent f = keeps-none (strayed p)
+  tour-parent (removedRow next n e) p parent f = keeps-none (strayed p)
+  tour-parent (leafRow above e) p parent f = keeps-none (strayed p)
   tour-parent (cutRow above k l r) p parent f =
       let near : ℕ = cond (goesLeft k (call .point)) l r in
       let far : ℕ = cond (goesLeft k (call .point)) r l in
@@ -84,11 +84,11 @@ module _ (words : List ℕ) (rows : ℕ) (h : Heap) (reads : Reads words rows h)
       let up = goes p f parent 1 (omega arith) in
       let over = goes p f far 0 (omega arith) in
       rw (shut-words k parent (p .best))
-      (keeps-pick (eqb near (p .cursor)) (fromNear p parent far closed) (pickWordProgress (eqb far (p .cursor)) (onward p parent 1 (p .best)) (unsound p))
+      (keeps-pick (eqb near (p .cursor)) (fromNear p parent far closed) (pickWordProgress (eqb far (p .cursor)) (onward p parent 1 (p .best)) (strayed p))
       (pickProgress closed (goTo parent Up (p .missed) (bestOf (p .best))) (goTo far Down (p .missed) (bestOf (p .best))))
       (pickProgress (eqb far (p .cursor)) (goTo parent Up (p .missed) (bestOf (p .best))) none)
       (λ e. keeps-pick closed (onward p parent 1 (p .best)) (onward p far 0 (p .best)) (goTo parent Up (p .missed) (bestOf (p .best))) (goTo far Down (p .missed) (bestOf (p .best))) (λ g. up) (λ g. over))
-      (λ e. keeps-pick (eqb far (p .cursor)) (onward p parent 1 (p .best)) (unsound p) (goTo parent Up (p .missed) (bestOf (p .best))) none (λ g. up) (λ g. keeps-none (unsound p))))
+      (λ e. keeps-pick (eqb far (p .cursor)) (onward p parent 1 (p .best)) (strayed p) (goTo parent Up (p .missed) (bestOf (p .best))) none (λ g. up) (λ g. keeps-none (strayed p))))
 
   tour-above : (p : WordProgress) (parent : ℕ) → Fit p → linkIn rows parent ≡ true
       → Keeps (pickWordProgress (eqb parent NONE) (onward p NONE 1 (p .best)) (tourWordParent words slot call p parent (rowAt words rows parent)))
@@ -102,8 +102,8 @@ module _ (words : List ℕ) (rows : ℕ) (h : Heap) (reads : Reads words rows h)
   -- phase up
   tour-up : (x : Row) (p : WordProgress) → Fit p → inRows rows (wordRow x) ≡ true
       → Keeps (tourWordUp words rows slot call p (wordRow x)) (tourUp (choiceOf (call .point)) opens h x (p .cursor) (p .missed) (bestOf (p .best)))
-  tour-up (spareRow next n) p f i = keeps-none (unsound p)
-  tour-up (removedRow next n e) p f i = keeps-none (unsound p)
+  tour-up (spareRow next n) p f i = keeps-none (strayed p)
+  tour-up (removedRow next n e) p f i = keeps-none (strayed p)
   tour-up (leafRow parent e) p f i = tour-above p parent f (leaf-in rows parent e i .link)
   tour-up (cutRow parent k l r) p f i = tour-above p parent f (cut-link rows parent k l r i)
 

@@ -9,13 +9,12 @@ use native.Mathlib.Omega.{arith}
 use native.Mathlib.Decide.{ℕ-discrete}
 use lib.Dec.{eqb}
 use borrow.Author.Tests.{eq-eqb, ne-eqb}
+use Rattle.stations.specs.Counts.{countsAt}
 use Rattle.points.specs.declared.cut.Cut.{Cut as PointCut}
 use Rattle.points.specs.Word.{NONE}
 use Rattle.points.proofs.Tests.{and-i}
 use Rattle.rows.specs.declared.row.Row.{Row as WordRow}
 use Rattle.rows.specs.declared.row.Row.the-variants.{Bad}
-use Rattle.words.specs.Layout.{atTail}
-use Rattle.words.specs.Words.{get}
 use Rattle.rows.specs.Row.{rowAt}
 use Rattle.rows.proofs.RowLaws.{rowAt-outside}
 use Rattle.trees.specs.Row.{Entry, Row, spareRow, removedRow, leafRow, cutRow, Heap, parentOf, siblingOf, parentAt, siblingAt}
@@ -155,14 +154,14 @@ module _ (words : List ℕ) (places : ℕ) (h : Heap) (reads : Reads words (2 * 
 
 -- what an unlink of a leaf of the tree gathers
 pub around-is : (words : List ℕ) {places : ℕ} {h : Heap} {t : Option Tree} {q : List Free} {changes removals released : ℕ} → Store places h t q changes removals released
-    → Reads words (2 * places) h → get words atTail ≡ tailOf q → (l : Leaf) → Has t (l .row) → h (l .row) ≡ leafRow (l .parent) (l .entry)
+    → Reads words (2 * places) h → countsAt words .tail ≡ tailOf q → (l : Leaf) → Has t (l .row) → h (l .row) ≡ leafRow (l .parent) (l .entry)
     → aroundAt words (2 * places) (l .row) ≡ aroundOf h (tailOf q) l
 unfolding aroundAt
 around-is words {places} {h} {t} {q} st reads tail l m f =
     let rows : ℕ = 2 * places in
     let alone : Dec (l .parent ≡ NONE) = ℕ-discrete (l .parent) NONE in
     let leaf : rowAt words rows (l .row) ≡ wordRow (leafRow (l .parent) (l .entry)) = reads (l .row) (st .inside (l .row) m) ∙ ap wordRow f in
-    let last : rowAt words rows (get words atTail) ≡ wordRow (h (tailOf q)) = ap (rowAt words rows) tail ∙ reads (tailOf q) (link-tail st (omega (arith, st .inside (l .row) m))) in
+    let last : rowAt words rows (countsAt words .tail) ≡ wordRow (h (tailOf q)) = ap (rowAt words rows) tail ∙ reads (tailOf q) (link-tail st (omega (arith, st .inside (l .row) m))) in
     let cut : rowAt words rows (wordParent (rowAt words rows (l .row))) ≡ linkedRow h (l .parent) =
     ap (λ r. rowAt words rows (wordParent r)) leaf ∙ row-linked words places h reads (st .fits) (l .parent) (link-cut st l m f alone) in
     let side : wordSibling (l .row) (rowAt words rows (wordParent (rowAt words rows (l .row)))) ≡ siblingRow h l = ap (wordSibling (l .row)) cut ∙ linked-sibling h (l .parent) (l .row) in

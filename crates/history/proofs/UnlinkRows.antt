@@ -8,11 +8,11 @@ use mathlib.Core.List.{List}
 use mathlib.Core.Option.{Option}
 use native.Mathlib.Omega.{arith}
 use native.Mathlib.Decide.{ℕ-discrete}
+use Rattle.stations.specs.Counts.{countsAt}
 use Rattle.points.specs.Word.{NONE}
-use Rattle.stations.specs.declared.common.Opening.the-variants.{Opened}
 use Rattle.words.specs.Range.{linkIn}
 use Rattle.rows.specs.Row.{putRow, inRows}
-use Rattle.stations.specs.Common.{openedIn}
+use Rattle.stations.specs.Common.{openedIn, Opened}
 use Rattle.words.proofs.RangeLaws.{link-none, link-row}
 use Rattle.rows.proofs.RowLaws.{in-rows-spare}
 use Rattle.trees.specs.Row.{spareRow, removedRow, leafRow, Heap, setParent, setNext, replaceChild, WroteAt}
@@ -28,7 +28,7 @@ use Rattle.trees.proofs.Unlink.{tail-row-in}
 use Rattle.trees.proofs.WriteLaws.{unlink-apart, unlink-writes, unlink-write}
 use Rattle.calls.specs.Link.{withNext, withParent, removedAs, replaced}
 use Rattle.calls.specs.Unlink.{unlinkRows}
-use Rattle.history.specs.View.{countsAt, seatAt, wordRow, Reads, heapPut, Written}
+use Rattle.history.specs.View.{seatAt, wordRow, Reads, heapPut, Written}
 use Rattle.history.proofs.Effects.{reads-in}
 use Rattle.history.proofs.RowLinks.{next-words, next-in, freed-in, child-words, child-in, parent-words, parent-in}
 use Rattle.history.proofs.RowWrites.{heap-wrote, Holding, held-first, put-row, put-nothing}

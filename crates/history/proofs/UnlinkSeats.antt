@@ -10,6 +10,8 @@ use native.Mathlib.Numerals.{add-one}
 use lib.Dec.{eqb}
 use lib.ListN.{length}
 use borrow.Author.Tests.{eqb-true, eq-eqb, ne-eqb}
+use Rattle.words.specs.Layout.{stations}
+use Rattle.stations.specs.Track.{nowhere}
 use Rattle.points.specs.declared.point.Point.{Point}
 use Rattle.points.specs.Cut.{goesLeft}
 use Rattle.points.specs.Word.{NONE}
@@ -19,7 +21,7 @@ use Rattle.table.specs.Call.{Call, add, remove, contains, nearest, Answer}
 use Rattle.table.specs.Table.{Station, idle, unfinished, waiting, Table, eight, searches}
 use Rattle.table.proofs.Stations.{eight-mem, searches-in}
 use Rattle.table.proofs.Removals.{sinceOf, since-le, since-removal}
-use Rattle.table.proofs.Eager.{fresh}
+use Rattle.table.proofs.Eager.{unsettled}
 use Rattle.trees.specs.Row.{Row, spareRow, removedRow, leafRow, cutRow, Heap}
 use Rattle.trees.specs.Tree.{Tree, Has}
 use Rattle.trees.specs.Queue.{Free}
@@ -40,7 +42,7 @@ use Rattle.history.specs.View.{Seat, wordRow, phaseOf, progressOf}
 use Rattle.history.specs.Related.{Quiet, Searching, Walks, Works, Busy, Says, Marking}
 use Rattle.history.proofs.BusyLaws.{busy-on}
 use Rattle.history.proofs.Effects.{movedSeat}
-use Rattle.history.proofs.Readings.{nearest-search, nearest-fresh, removedTable, unlink-stand, unlink-missed}
+use Rattle.history.proofs.Readings.{nearest-search, nearest-unsettled, removedTable, unlink-stand, unlink-missed}
 use Rattle.history.proofs.UnlinkAround.{linkedRow, aroundOf}
 use Rattle.history.proofs.Outcome.{leftAt, left-target}
 
@@ -108,40 +110,40 @@ module _ (t : Table) (p : Point) (f : ℕ → Station) (h h′ : Heap) (tree : O
 
   -- the phase in which the search of a seat lands
   abbrev landsAt : Seat → ℕ
-  landsAt seat = landingWord (seat .place .target) (l .row) (linkedRow h (l .parent))
+  landsAt seat = landingWord (seat .target) (l .row) (linkedRow h (l .parent))
 
-  -- a place that stands nowhere stays so
-  quiet-moved : (seat : Seat) → Quiet (seat .place) → Quiet (moved seat .place)
+  -- a track that stands nowhere stays so
+  quiet-moved : (seat : Seat) → Quiet (seat .track) → Quiet (moved seat .track)
   quiet-moved seat v = record {
     cursor = cursor (eqb NONE (l .parent)) refl;
     phase = rw (v .cursor, off) (v .phase);
     since = v .since;
-    missed = missed-stays (l .row) (seat .place .since) (seat .place .missed) (v .since) ∙ v .missed;
+    missed = missed-stays (l .row) (seat .track .since) (seat .track .missed) (v .since) ∙ v .missed;
   }
     where
       off : eqb NONE (l .row) ≡ false
       off = ne-eqb NONE (l .row) (λ z. omega (arith, st .inside (l .row) m, st .fits))
 
       cursor : (b : Bool) → eqb NONE (l .parent) ≡ b
-          → cond (eqb (seat .place .cursor) (l .row) || eqb (seat .place .cursor) (l .parent)) (siblingRow h l) (seat .place .cursor) ≡ NONE
+          → cond (eqb (seat .track .cursor) (l .row) || eqb (seat .track .cursor) (l .parent)) (siblingRow h l) (seat .track .cursor) ≡ NONE
       cursor true e = rw (v .cursor, off, e) (rw (eq-eqb (l .parent) NONE (sym (eqb-true NONE (l .parent) e))))
       cursor false e = rw (v .cursor, off, e)
 
   -- an add, a remove or a contains
   walks-moved : (seat : Seat) (point : Point) (set : Option Answer) → Walks tree seat point set → Walks (w .tree) (moved seat) point set
   walks-moved seat point set v =
-      let stand : Stand = record { cursor = seat .place .cursor; phase = phaseOf (seat .place .phase) } in
+      let stand : Stand = record { cursor = seat .track .cursor; phase = phaseOf (seat .track .phase) } in
       record {
         since = v .since;
-        missed = missed-stays (l .row) (seat .place .since) (seat .place .missed) (v .since) ∙ v .missed;
+        missed = missed-stays (l .row) (seat .track .since) (seat .track .missed) (v .since) ∙ v .missed;
         unset = v .unset;
-        walking = rw (ap (λ (x : Stand). x .cursor) (stand-moved (l .row) (l .parent) (siblingRow h l) (seat .place .cursor) (seat .place .phase) (landsAt seat)))
+        walking = rw (ap (λ (x : Stand). x .cursor) (stand-moved (l .row) (l .parent) (siblingRow h l) (seat .track .cursor) (seat .track .phase) (landsAt seat)))
             (walk-unlink w point (phaseOf (landsAt seat)) stand (v .walking));
         best = v .best;
       }
 
   -- the identity of an unfinished nearest is in the new removal, so its since is the old one
-  since-stays : (u i : ℕ) (target : Point) (set : Option Answer) → u < 8 → t .stations u ≡ unfinished i (nearest target) set
+  since-stays : (u i : ℕ) (target : Point) (set : Option Answer) → u < stations → t .stations u ≡ unfinished i (nearest target) set
       → sinceOf i (searches eight (t .stations) ∷ t .removals) ≡ sinceOf i (t .removals)
   since-stays u i target set k e =
       since-removal i (searches eight (t .stations)) (t .removals)
@@ -151,18 +153,18 @@ module _ (t : Table) (p : Point) (f : ℕ → Station) (h h′ : Heap) (tree : O
   abbrev progressAfter : Point → Seat → Progress
   progressAfter target seat = searchAfterUnlink (l .row) (l .parent) (siblingRow h l) (landing (choiceOf target .side) h (l .parent) (l .row)) (progressOf seat)
 
-  progress-moved : (seat : Seat) → seat .place .since ≢ NONE → progressOf (moved seat) ≡ progressAfter (seat .place .target) seat
+  progress-moved : (seat : Seat) → seat .track .since ≢ NONE → progressOf (moved seat) ≡ progressAfter (seat .target) seat
   progress-moved seat n =
-      let stands = stand-moved (l .row) (l .parent) (siblingRow h l) (seat .place .cursor) (seat .place .phase) (landsAt seat)
-      ∙ ap (λ (x : Phase). afterUnlink (l .row) (l .parent) (siblingRow h l) x (progressOf seat .stand)) (lands-word (seat .place .target) h (l .parent) (l .row)) in
-      let missed = missed-moved (l .row) (seat .place .since) (seat .place .missed) n in
+      let stands = stand-moved (l .row) (l .parent) (siblingRow h l) (seat .track .cursor) (seat .track .phase) (landsAt seat)
+      ∙ ap (λ (x : Phase). afterUnlink (l .row) (l .parent) (siblingRow h l) x (progressOf seat .stand)) (lands-word (seat .target) h (l .parent) (l .row)) in
+      let missed = missed-moved (l .row) (seat .track .since) (seat .track .missed) n in
       λ i. record { stand = stands i; missed = missed i; best = progressOf seat .best }
 
   -- a nearest whose answer is set down
-  search-moved : (seat : Seat) (u i : ℕ) (target : Point) (a : Answer) → u < 8 → t .stations u ≡ unfinished i (nearest target) (some a)
+  search-moved : (seat : Seat) (u i : ℕ) (target : Point) (a : Answer) → u < stations → t .stations u ≡ unfinished i (nearest target) (some a)
       → Searching t tree queue seat i target (some a) → Searching (removedTable t p f) (w .tree) (w .queue) (moved seat) i target (some a)
   search-moved seat u i target a k e v =
-      let there : seat .place .since ≢ NONE = λ z. omega (arith, v .since, since-le i (t .removals)) in
+      let there : seat .track .since ≢ NONE = λ z. omega (arith, v .since, since-le i (t .removals)) in
       record {
         since = v .since ∙ sym (since-stays u i target (some a) k e);
         aimed = v .aimed;
@@ -177,38 +179,38 @@ module _ (t : Table) (p : Point) (f : ℕ → Station) (h h′ : Heap) (tree : O
   busy-moved : (seat : Seat) (i : ℕ) (call : Call) (set : Option Answer) (v : Busy t tree queue seat i call set)
       → Works (removedTable t p f) (w .tree) (w .queue) (moved seat) i call set → Busy (removedTable t p f) (w .tree) (w .queue) (moved seat) i call set
   busy-moved seat i call set v works =
-      busy-on v (moved seat .place) (omega (arith, v .asof))
-      (phase-in (eqb (seat .place .cursor) (l .row)) (landsAt seat) (seat .place .phase) (lands-in (seat .place .target) (l .row) (linkedRow h (l .parent))) (v .phase)) works
+      busy-on v (moved seat .track) (omega (arith, v .asof))
+      (phase-in (eqb (seat .track .cursor) (l .row)) (landsAt seat) (seat .track .phase) (lands-in (seat .target) (l .row) (linkedRow h (l .parent))) (v .phase)) works
 
   -- Each other station's seat, moved, says what its station says after the removal.
-  pub says-moved : (seat : Seat) (u : ℕ) (x : Station) → u < 8 → fresh x ≡ false → t .stations u ≡ x → Says t tree queue seat x
+  pub says-moved : (seat : Seat) (u : ℕ) (x : Station) → u < stations → unsettled x ≡ false → t .stations u ≡ x → Says t tree queue seat x
       → Says (removedTable t p f) (w .tree) (w .queue) (moved seat) x
   says-moved seat u idle k s e v = record { state = v .state; quiet = quiet-moved seat (v .quiet) }
   says-moved seat u (waiting a) k s e v = record { state = v .state; sound = v .sound; answer = v .answer; quiet = quiet-moved seat (v .quiet) }
   says-moved seat u (unfinished i (add d c) set) k s e v = busy-moved seat i (add d c) set v (walks-moved seat d set (v .works))
   says-moved seat u (unfinished i (remove d) set) k s e v = busy-moved seat i (remove d) set v (walks-moved seat d set (v .works))
   says-moved seat u (unfinished i (contains d) set) k s e v = busy-moved seat i (contains d) set v (walks-moved seat d set (v .works))
-  says-moved seat u (unfinished i (nearest d) none) k s e v = absurd (true≢false (sym (nearest-fresh i d) ∙ s))
+  says-moved seat u (unfinished i (nearest d) none) k s e v = absurd (true≢false (sym (nearest-unsettled i d) ∙ s))
   says-moved seat u (unfinished i (nearest d) (some a)) k s e v = busy-moved seat i (nearest d) (some a) v (search-moved seat u i d a k e (v .works))
 
   -- a search has at most one look more left
   pub left-moved : (seat : Seat) (i : ℕ) (d : Point) (a : Answer) → Busy t tree queue seat i (nearest d) (some a)
       → leftAt (w .tree) (w .queue) (moved seat) ≤ stepMoves + leftAt tree queue seat
   left-moved seat i d a v =
-      let there : seat .place .since ≢ NONE = λ z. omega (arith, v .works .since, since-le i (t .removals)) in
+      let there : seat .track .since ≢ NONE = λ z. omega (arith, v .works .since, since-le i (t .removals)) in
       let e : progressOf (moved seat) ≡ progressAfter d seat = progress-moved seat there ∙ ap (λ (x : Point). progressAfter x seat) (v .works .aimed) in
       let same = ap (λ (z : Progress). progressLeft (choiceOf d .side) (w .tree) (w .queue) z) e in
       omega (arith, same, left-target (w .tree) (w .queue) (moved seat) d (v .point), left-target tree queue seat d (v .point), others-unlink st w (v .works .search))
 
   -- and an add has marked its way down to the row where its cursor is
-  pub marking-moved : (marks marks′ : Marks) → Grows marks marks′ (w .tree) → (seat : Seat) (x : Station) → Marking marks tree (seat .place .cursor) x
-      → Marking marks′ (w .tree) (moved seat .place .cursor) x
+  pub marking-moved : (marks marks′ : Marks) → Grows marks marks′ (w .tree) → (seat : Seat) (x : Station) → Marking marks tree (seat .track .cursor) x
+      → Marking marks′ (w .tree) (moved seat .track .cursor) x
   marking-moved marks marks′ g seat idle v = tt
   marking-moved marks marks′ g seat (waiting a) v = tt
   marking-moved marks marks′ g seat (unfinished i (add d c) set) v =
-      let stand : Stand = record { cursor = seat .place .cursor; phase = phaseOf (seat .place .phase) } in
-      let e = ap (λ (x : Stand). x .cursor) (stand-moved (l .row) (l .parent) (siblingRow h l) (seat .place .cursor) (seat .place .phase) (landsAt seat)) in
-      pass-grows marks marks′ (w .tree) d (moved seat .place .cursor) g (rw e (w .passes marks d (phaseOf (landsAt seat)) stand v))
+      let stand : Stand = record { cursor = seat .track .cursor; phase = phaseOf (seat .track .phase) } in
+      let e = ap (λ (x : Stand). x .cursor) (stand-moved (l .row) (l .parent) (siblingRow h l) (seat .track .cursor) (seat .track .phase) (landsAt seat)) in
+      pass-grows marks marks′ (w .tree) d (moved seat .track .cursor) g (rw e (w .passes marks d (phaseOf (landsAt seat)) stand v))
   marking-moved marks marks′ g seat (unfinished i (remove d) set) v = tt
   marking-moved marks marks′ g seat (unfinished i (contains d) set) v = tt
   marking-moved marks marks′ g seat (unfinished i (nearest d) set) v = tt

@@ -9,6 +9,7 @@ use mathlib.Core.Option.{none}
 use native.Mathlib.Omega.{arith}
 use native.Mathlib.Decide.{ℕ-discrete}
 use borrow.Author.Tests.{ne-eqb, eq-eqb}
+use Rattle.words.specs.Layout.{stations}
 use Rattle.points.specs.declared.point.Point.{Point}
 use Rattle.table.specs.Call.{nearest, callOf}
 use Rattle.table.specs.Table.{unfinished}
@@ -37,7 +38,7 @@ use Rattle.history.proofs.MovesLeft.{left-here}
 -- ---- the run
 
 -- where five times the steps of station s are more than is allowed, one of them answers
-run-answers : (run : List Event) {words : List ℕ} {places limit s n : ℕ} → s < 8 → Allows words places limit s n → KeepsCall s words run → n < stepMoves * ownSteps s run
+run-answers : (run : List Event) {words : List ℕ} {places limit s n : ℕ} → s < stations → Allows words places limit s n → KeepsCall s words run → n < stepMoves * ownSteps s run
     → OwnAnswered s words run
 unfolding ownSteps reply
 run-answers [] l w d g = absurd (omega arith)
@@ -73,7 +74,7 @@ run-answers (singleStep u ∷ run) {words} {places} {limit} {s} {n} l w d g = go
 
 -- at its submission nothing was removed since, and the tour takes four for each record held
 begin-allows : {words : List ℕ} {places limit s : ℕ} (p : Point) (c : ℕ) → Stands words places limit → submitOf words s 4 p c .number ≡ 0
-    → (s < 8) × Allows (submitOf words s 4 p c .words) places limit s (mostOwnMoves places)
+    → (s < stations) × Allows (submitOf words s 4 p c .words) places limit s (mostOwnMoves places)
 unfolding enter callOf
 begin-allows {words} {places} {limit} {s} p c a e =
     let t = a .table in

@@ -11,6 +11,7 @@ use native.Mathlib.Decide.{decLt, ℕ-discrete}
 use lib.Dec.{eqb}
 use lib.ListN.{length, length-map}
 use borrow.Author.Tests.{lt-ltb}
+use Rattle.words.specs.Layout.{stations}
 use Rattle.points.specs.declared.point.Point.{Point}
 use Rattle.stations.specs.Station.{isUnfinished, stateAt}
 use Rattle.stations.specs.Call.{callAt}
@@ -25,7 +26,7 @@ use Rattle.table.proofs.Retract.{retract-all}
 use Rattle.table.proofs.Settled.{retract-ends}
 use Rattle.table.proofs.Taken.{taken-held}
 use Rattle.table.proofs.Searched.{Unanswered}
-use Rattle.table.proofs.Withdrawn.{TakenBack, withdrawn-waits}
+use Rattle.table.proofs.Withdrawn.{AfterWithdrawal, withdrawn-waits}
 use Rattle.trees.specs.Tree.{entriesOf}
 use Rattle.trees.proofs.ShapeLaws.{entries-count}
 use Rattle.calls.specs.Open.{openOf}
@@ -35,7 +36,7 @@ use Rattle.calls.specs.Report.{reportOf}
 use Rattle.calls.specs.Held.{heldIn}
 use Rattle.calls.specs.Withdraw.{withdrawnWords, withdrawOf}
 use Rattle.history.specs.Index.{recordOf as heldRecord, givenBy, wordIndex}
-use Rattle.history.specs.View.{placeAt, seatAt}
+use Rattle.history.specs.View.{seatAt}
 use Rattle.history.specs.Related.{recordOf, Related}
 use Rattle.history.specs.After.{after}
 use Rattle.history.specs.Withdrawn.{isSearching, Withdrawn}
@@ -57,7 +58,7 @@ held-number {words} r =
     sym (length-map (heldIn words) heldRecord) ∙ ap length (held-entries r) ∙ length-map (entriesOf (r .tree)) recordOf ∙ entries-count (r .tree) ∙ r .number
 
 -- a station that is not searching by the words has no search in the table
-not-searching : {words : List ℕ} {t : Table} (u : ℕ) → u < 8 → Related words t → isSearching words u ≡ false → searching (t .stations u) ≡ []
+not-searching : {words : List ℕ} {t : Table} (u : ℕ) → u < stations → Related words t → isSearching words u ≡ false → searching (t .stations u) ≡ []
 unfolding searching isSearch seatAt
 not-searching {words} {t} u l r e = go (t .stations u) refl
   where
@@ -69,7 +70,7 @@ not-searching {words} {t} u l r e = go (t .stations u) refl
     go (unfinished i (contains p) o) q = refl
     go (unfinished i (nearest p) o) q = absurd (true≢false (sym (rw (related-busy r l q .state, related-busy r l q .kind) refl) ∙ e))
 
-module _ {words : List ℕ} {places limit : ℕ} (w : Stands words places limit) {s i : ℕ} {c : Call} {o : Option Answer} (l : s < 8) (q : w .table .stations s ≡ unfinished i c o) where
+module _ {words : List ℕ} {places limit : ℕ} (w : Stands words places limit) {s i : ℕ} {c : Call} {o : Option Answer} (l : s < stations) (q : w .table .stations s ≡ unfinished i c o) where
   -- the words after it, and the table
   abbrev words′ : List ℕ
   words′ = withdrawnWords words s (callAt words s)
@@ -87,21 +88,21 @@ module _ {words : List ℕ} {places limit : ℕ} (w : Stands words places limit)
   unfolding take takeAt withdrawnAnswer
   taking-given =
       related-takes s (sound-wait (w .table) s (withdrawnAnswer c) l (w .sound)) next .given
-      ∙ rw (lt-ltb s 8 l, waits) (ap (λ p. some (answer 11 p 0 0)) (sym (point-is (w .sound) l q (w .related))))
+      ∙ rw (lt-ltb s stations l, waits) (ap (λ p. some (answer 11 p 0 0)) (sym (point-is (w .sound) l q (w .related))))
 
   taken-alone : ((u : ℕ) → ¬ (u ≡ s) → isSearching words u ≡ false) → reportOf words′ .taken ≡ length (heldIn words′)
   unfolding reportOf searching
   taken-alone f =
       rw (related-passes next) (related-taken next (sound-wait (w .table) s (withdrawnAnswer c) l (w .sound)) ∙ taken-held t others ∙ sym (held-number next))
     where
-      others : (u : ℕ) → u < 8 → searching (t .stations u) ≡ []
+      others : (u : ℕ) → u < stations → searching (t .stations u) ≡ []
       others u k = elim (ℕ-discrete u s) [
         | yes e ↦ rw (e, waits)
         | no n ↦ rw (put-other (w .table .stations) s u (waiting (withdrawnAnswer c)) n) (not-searching u k (w .related) (f u n))
       ]
 
   leaves : Withdrawn words s
-  unfolding seatAt placeAt
+  unfolding seatAt
   leaves =
       let e = withdrawal-done (w .sound) l q (w .related) in
       record {
@@ -113,14 +114,14 @@ module _ {words : List ℕ} {places limit : ℕ} (w : Stands words places limit)
 
 -- the words say that the call is unfinished
 stands-withdrawn : {words : List ℕ} {places limit : ℕ} → Stands words places limit → (s : ℕ) → isUnfinished (stateAt words s) ≡ true → Withdrawn words s
-stands-withdrawn {words} w s u = go (decLt s 8)
+stands-withdrawn {words} w s u = go (decLt s stations)
   where
-    at : s < 8 → (x : Station) → w .table .stations s ≡ x → Withdrawn words s
+    at : s < stations → (x : Station) → w .table .stations s ≡ x → Withdrawn words s
     at l idle q = absurd (true≢false (sym u ∙ quiet-state s l idle q tt (w .related)))
     at l (waiting a) q = absurd (true≢false (sym u ∙ quiet-state s l (waiting a) q tt (w .related)))
     at l (unfinished i c o) q = leaves w l q
 
-    go : Dec (s < 8) → Withdrawn words s
+    go : Dec (s < stations) → Withdrawn words s
     go (yes l) = at l (w .table .stations s) refl
     go (no g) = absurd (true≢false (sym u ∙ outside-state words s (omega arith)))
 
@@ -193,6 +194,6 @@ module _ (words : List ℕ) (places limit : ℕ) (e : openOf words places limit 
       let w : Withdrawn (after during begun) s = rw same at (withdrawn words places limit e (before ++ (submission s kind p c ∷ during)) s (rw same u)) in
       (x .0, x .1 .2 ∙ ap some (which (x .1 .0) (callAt (after during begun) s .point) (x .1 .1) (Option·some-injective _ _ (sym (x .1 .2) ∙ w .gives))))
     where
-      which : (a : Answer) (q : Point) → TakenBack (callOf kind p c) a → a ≡ answer 11 q 0 0 → a ≡ answer 11 p 0 0
+      which : (a : Answer) (q : Point) → AfterWithdrawal (callOf kind p c) a → a ≡ answer 11 q 0 0 → a ≡ answer 11 p 0 0
       which a q (inl f) g = f ∙ ap (λ r. answer 11 r 0 0) (point-of kind p c)
       which a q (inr f) g = absurd (true≢false (sym f ∙ ap isChange g))

@@ -8,10 +8,8 @@ use mathlib.Core.Logic.{_⊎_}
 use mathlib.Core.List.{List, _++_}
 use mathlib.Core.Option.{Option}
 use lib.ListN.{length}
-use Rattle.stations.specs.declared.common.Opening.the-variants.{Opened}
-use Rattle.words.specs.Layout.{atRoot, atHead, atTail, atRemovals}
-use Rattle.words.specs.Words.{get}
-use Rattle.stations.specs.Common.{openedIn, leastSince}
+use Rattle.stations.specs.Counts.{countsAt}
+use Rattle.stations.specs.Common.{openedIn, leastSince, Opened}
 use Rattle.trees.specs.Row.{Heap}
 use Rattle.trees.specs.Tree.{Tree, topOf, Has, Shape, Routed, Distinct}
 use Rattle.trees.specs.Queue.{Free, headOf, tailOf, Linked, InQueue, Once, UpTo, Removal, freedAfter}
@@ -37,12 +35,12 @@ pub record Audited (words : List ℕ) : Type 0 where
   -- every row reads in range, as a value
   pub reads : Reads words (2 * places) heap
   -- the rows linked from the root form the tree, parent links agreeing; each leaf's point is on the side that every cut above it sends it
-  pub root : get words atRoot ≡ topOf tree
+  pub root : countsAt words .root ≡ topOf tree
   pub shape : Shape heap tree
   pub routed : Routed tree
   -- the free rows are the queue, from its head by next links to its tail, whose next link is none
-  pub head : get words atHead ≡ headOf queue
-  pub tail : get words atTail ≡ tailOf queue
+  pub head : countsAt words .head ≡ headOf queue
+  pub tail : countsAt words .tail ≡ tailOf queue
   pub linked : Linked heap queue
   -- every row lies in the tree or in the queue, once
   pub inside : (i : ℕ) → Has tree i → i < 2 * places
@@ -52,4 +50,4 @@ pub record Audited (words : List ℕ) : Type 0 where
   pub distinct : Distinct tree
   pub once : Once queue
   -- and the queue is in order of removal
-  pub order : InOrder queue (get words atRemovals) (leastSince words)
+  pub order : InOrder queue (countsAt words .removals) (leastSince words)

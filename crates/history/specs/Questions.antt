@@ -6,12 +6,12 @@ use lib.Dec.{eqb, leb, ltb}
 use lib.ListN.{length}
 use Rattle.points.specs.declared.point.Point.{Point}
 use Rattle.points.specs.Point.{inRange}
-use Rattle.words.specs.Layout.{wordsFor}
+use Rattle.words.specs.Layout.{wordsFor, stations}
 use Rattle.stations.specs.Common.{placesIn, limitIn, openedIn, isOpened, rowsIn}
 use Rattle.stations.specs.Station.{isIdle, isUnfinished, stateAt}
-use Rattle.stations.specs.Call.{callAt}
+use Rattle.stations.specs.Call.{callAt, kindIn}
 use Rattle.stations.specs.Answer.{waitingAt}
-use Rattle.calls.specs.Submit.{kindIn, curveFits}
+use Rattle.calls.specs.Submit.{curveFits}
 use Rattle.calls.specs.Step.{recordsSound, workOf}
 use Rattle.calls.specs.Run.{isGiven}
 
@@ -39,7 +39,7 @@ openQuestions words places limit = asked (placesIn places) 1 ∷ (asked (limitIn
 -- "Every other call on a slice: are the mark that opening writes, places and limit in range, and length enough for them all there? 4. Station 0
 -- to 7, where one is named? 5."
 abbrev pub stationQuestions : List ℕ → ℕ → List Question → List Question
-stationQuestions words s rest = asked (isOpened (openedIn words)) 4 ∷ (asked (ltb s 8) 5 ∷ rest)
+stationQuestions words s rest = asked (isOpened (openedIn words)) 4 ∷ (asked (ltb s stations) 5 ∷ rest)
 
 -- "Submission: is the station idle, with no unfinished call and no answer waiting? 6. Call kind 1 to 4? 7. Point within its ranges? 8. For an
 -- add, curve in range? 9."

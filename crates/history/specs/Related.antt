@@ -6,12 +6,16 @@ use mathlib.Core.Bool.{true}
 use mathlib.Core.List.{List, map, List·Memᴰ}
 use mathlib.Core.Option.{Option, none, some}
 use lib.ListN.{length}
+use Rattle.words.specs.Layout.{stations}
+use Rattle.stations.specs.Track.{nowhere}
+use Rattle.stations.specs.Counts.{countsAt}
+use Rattle.stations.specs.declared.track.Track.{Track}
+use Rattle.stations.specs.declared.counts.Counts.{Counts}
 use Rattle.points.specs.declared.point.Point.{Point}
 use Rattle.points.specs.Point.{inRange}
 use Rattle.points.specs.Word.{NONE}
-use Rattle.stations.specs.declared.common.Opening.the-variants.{Opened}
 use Rattle.words.specs.Range.{curveIn}
-use Rattle.stations.specs.Common.{openedIn, leastSince}
+use Rattle.stations.specs.Common.{openedIn, leastSince, Opened}
 use Rattle.stations.specs.Answer.{answerSound}
 use Rattle.table.specs.Record.{Record, Once, Same, nearestOf}
 use Rattle.table.specs.Call.{Call, add, remove, contains, nearest, pointOf, Answer, nearestAnswer}
@@ -26,7 +30,7 @@ use Rattle.trees.specs.Search.{Search}
 use Rattle.trees.specs.Below.{Marks, Covered, Passing}
 use Rattle.trees.proofs.ChoiceOf.{choiceOf}
 use Rattle.history.specs.Index.{answerOf}
-use Rattle.history.specs.View.{Counts, Place, Seat, countsAt, seatAt, Reads, progressOf, marksIn}
+use Rattle.history.specs.View.{Seat, seatAt, Reads, progressOf, marksIn}
 
 -- the record of an entry
 abbrev pub recordOf : Entry → Record
@@ -53,11 +57,11 @@ CurveFits (contains p) = Unit {0}
 CurveFits (nearest p) = Unit {0}
 
 -- the seat of a station with no unfinished call stands nowhere
-pub record Quiet (place : Place) : Type 0 where
-  pub cursor : place .cursor ≡ NONE
-  pub phase : place .phase ≡ 0
-  pub since : place .since ≡ NONE
-  pub missed : place .missed ≡ NONE
+pub record Quiet (track : Track) : Type 0 where
+  pub cursor : track .cursor ≡ NONE
+  pub phase : track .phase ≡ 0
+  pub since : track .since ≡ NONE
+  pub missed : track .missed ≡ NONE
 
 -- while nothing is set down for a nearest call, the entries held at its submission are those held now; then the answer is that of their records
 abbrev pub Set : Point → List Entry → Option Tree → Option Answer → Type 0
@@ -66,20 +70,20 @@ Set target entries tree (some a) = a ≡ nearestAnswer target (nearestOf target 
 
 -- an unfinished nearest call; `entries` were held at its submission
 pub record Searching (t : Table) (tree : Option Tree) (queue : List Free) (seat : Seat) (i : ℕ) (target : Point) (set : Option Answer) : Type 0 where
-  pub since : seat .place .since ≡ sinceOf i (t .removals)
-  pub aimed : seat .place .target ≡ target
+  pub since : seat .track .since ≡ sinceOf i (t .removals)
+  pub aimed : seat .target ≡ target
   pub entries : List Entry
   pub once : Once (map recordOf entries)
   pub ranged : (e : Entry) → List·Memᴰ e entries → (inRange (e .point) ≡ true) × (curveIn (e .curve) ≡ true)
-  pub search : Search (choiceOf target) (seat .call .asof) (seat .place .since) (λ e. List·Memᴰ e entries) tree queue (t .changes) (length (t .removals)) (progressOf seat)
+  pub search : Search (choiceOf target) (seat .call .asof) (seat .track .since) (λ e. List·Memᴰ e entries) tree queue (t .changes) (length (t .removals)) (progressOf seat)
   pub answer : Set target entries tree set
 
 -- an unfinished add, remove or contains
 pub record Walks (tree : Option Tree) (seat : Seat) (p : Point) (set : Option Answer) : Type 0 where
-  pub since : seat .place .since ≡ NONE
-  pub missed : seat .place .missed ≡ NONE
+  pub since : seat .track .since ≡ NONE
+  pub missed : seat .track .missed ≡ NONE
   pub unset : set ≡ none
-  pub walking : Walking tree p (seat .place .cursor)
+  pub walking : Walking tree p (seat .track .cursor)
   pub best : seat .call .best .curve ≡ 0
 
 abbrev pub Works : Table → Option Tree → List Free → Seat → ℕ → Call → Option Answer → Type 0
@@ -98,18 +102,18 @@ pub record Busy (t : Table) (tree : Option Tree) (queue : List Free) (seat : Sea
   pub fits : CurveFits call
   pub asof : seat .call .asof ≤ t .changes
   pub kept : inRange (seat .call .best .point) ≡ true
-  pub phase : seat .place .phase ≤ 1
+  pub phase : seat .track .phase ≤ 1
   pub works : Works t tree queue seat i call set
 
 pub record Idle (seat : Seat) : Type 0 where
   pub state : seat .state ≡ 0
-  pub quiet : Quiet (seat .place)
+  pub quiet : Quiet (seat .track)
 
 pub record Waits (seat : Seat) (a : Answer) : Type 0 where
   pub state : seat .state ≡ 2
   pub sound : answerSound (seat .answer) ≡ true
   pub answer : answerOf (seat .answer) ≡ a
-  pub quiet : Quiet (seat .place)
+  pub quiet : Quiet (seat .track)
 
 -- the seat says what the table's station says
 abbrev pub Says : Table → Option Tree → List Free → Seat → Station → Type 0
@@ -145,6 +149,6 @@ pub record Related (words : List ℕ) (t : Table) : Type 0 where
   pub counted : Counted t tree queue (countsAt words)
   pub records : Same (map recordOf (entriesOf tree)) (t .held)
   pub number : countOf tree ≡ length (t .held)
-  pub seats : (s : ℕ) → s < 8 → Says t tree queue (seatAt words s) (t .stations s)
+  pub seats : (s : ℕ) → s < stations → Says t tree queue (seatAt words s) (t .stations s)
   pub covered : Covered (marksIn words) tree
-  pub marking : (s : ℕ) → s < 8 → Marking (marksIn words) tree (seatAt words s .place .cursor) (t .stations s)
+  pub marking : (s : ℕ) → s < stations → Marking (marksIn words) tree (seatAt words s .track .cursor) (t .stations s)

@@ -13,14 +13,16 @@ use Rattle.words.specs.Agree.{Off, inCommon, inStation, inRow, startOf, sizeOf,
 use Rattle.rows.specs.Row.{rowAt}
 use Rattle.rows.specs.Grades.{slotOf}
 use Rattle.stations.specs.Call.{callAt}
-use Rattle.calls.specs.declared.insert.Room.{Room}
+use Rattle.calls.specs.declared.insert.Site.{Site}
 use Rattle.calls.specs.declared.unlink.Around.{Around}
-use Rattle.calls.specs.declared.search.Progress.{Progress}
+use Rattle.calls.specs.declared.progress.Progress.{Progress}
 use Rattle.calls.specs.declared.walk.Way.{Way}
 use Rattle.stations.specs.Common.{rowsIn}
 use Rattle.calls.specs.Link.{nextOf, parentOf, isCut}
-use Rattle.calls.specs.Search.{look, toured, progressAt}
-use Rattle.calls.specs.Insert.{roomAt}
+use Rattle.calls.specs.Search.{progressAt}
+use Rattle.calls.specs.Tour.{toured}
+use Rattle.calls.specs.Look.{look}
+use Rattle.calls.specs.Insert.{siteAt}
 use Rattle.calls.specs.Unlink.{aroundAt}
 use Rattle.calls.specs.Walk.{wayOf, codeAt, standsAt}
 
@@ -49,8 +51,8 @@ abbrev pub wayRows : Way → List ℕ
 wayRows way = way .at ∷ (way .one ∷ (way .two ∷ (way .three ∷ (way .four ∷ (way .five ∷ [])))))
 
 -- of an insert, and of an unlink
-abbrev pub roomRows : Room → List ℕ
-roomRows room = room .at ∷ (room .first ∷ (room .second ∷ (room .over ∷ [])))
+abbrev pub siteRows : Site → List ℕ
+siteRows site = site .at ∷ (site .first ∷ (site .second ∷ (site .over ∷ [])))
 
 abbrev pub aroundRows : Around → List ℕ
 aroundRows a = a .at ∷ (a .tail ∷ (a .over ∷ (a .side ∷ (a .above ∷ []))))
@@ -62,7 +64,7 @@ pickRows false x y = y
 -- of a walk that ends
 abbrev pub endRows : List ℕ → ℕ → Call → ℕ → Row → List ℕ
 endRows words rows call at row =
-    pickRows (eqb (codeAt words call row) 1) (roomRows (roomAt words rows at))
+    pickRows (eqb (codeAt words call row) 1) (siteRows (siteAt words rows at))
     (pickRows (eqb (codeAt words call row) 5) (aroundRows (aroundAt words rows at)) (at ∷ []))
 
 abbrev pub walkRows : List ℕ → ℕ → ℕ → Call → List ℕ

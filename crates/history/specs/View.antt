@@ -5,6 +5,7 @@ use mathlib.Core.Bool.{Bool, true, false}
 use mathlib.Core.List.{List}
 use mathlib.Core.Option.{Option, none, some}
 use lib.Dec.{eqb}
+use Rattle.words.specs.Layout.{stations}
 use Rattle.points.specs.declared.point.Point.{Point}
 use Rattle.points.specs.Word.{NONE}
 use Rattle.rows.specs.declared.row.Row.{Row as WordRow}
@@ -12,12 +13,14 @@ use Rattle.rows.specs.declared.row.Row.the-variants.{Spare, Removed, Leaf, Cut}
 use Rattle.stations.specs.declared.call.Best.{Best as WordBest}
 use Rattle.stations.specs.declared.call.Call.{Call}
 use Rattle.stations.specs.declared.answer.Answer.{Answer}
-use Rattle.words.specs.Layout.{atChanges, atHeld, atRoot, atHead, atTail, atRemovals, atCursor, atPhase, atSince, atMissed}
-use Rattle.words.specs.Words.{get}
+use Rattle.stations.specs.declared.counts.Counts.{Counts}
+use Rattle.stations.specs.declared.track.Track.{Track}
 use Rattle.rows.specs.Row.{rowAt}
 use Rattle.rows.specs.Grades.{slotOf, admits}
 use Rattle.stations.specs.Common.{openedIn}
+use Rattle.stations.specs.Counts.{countsAt}
 use Rattle.stations.specs.Station.{stateAt}
+use Rattle.stations.specs.Track.{nowhere, trackAt}
 use Rattle.stations.specs.Target.{targetAt}
 use Rattle.stations.specs.Call.{callAt}
 use Rattle.stations.specs.Answer.{answerAt}
@@ -26,51 +29,17 @@ use Rattle.trees.specs.Stand.{Phase, Down, Up}
 use Rattle.trees.specs.Tour.{Best, Progress, Opens}
 use Rattle.trees.specs.Below.{Marks}
 
--- the counts of the common record
-pub record Counts : Type 0 where
-  pub changes : ℕ
-  pub held : ℕ
-  pub root : ℕ
-  pub head : ℕ
-  pub tail : ℕ
-  pub removals : ℕ
-
-unfoldable pub countsAt : List ℕ → Counts
-countsAt words = record {
-  changes = get words atChanges;
-  held = get words atHeld;
-  root = get words atRoot;
-  head = get words atHead;
-  tail = get words atTail;
-  removals = get words atRemovals;
-}
-
--- what the common record keeps of a station: where its call stands, and the target of its last search
-pub record Place : Type 0 where
-  pub cursor : ℕ
-  pub phase : ℕ
-  pub since : ℕ
-  pub missed : ℕ
-  pub target : Point
-
--- the seat of a station: that, and the station's own record
+-- the seat of a station: what the common record keeps of it, which is the track of its call and the target of its last search, and the station's own record
 pub record Seat : Type 0 where
-  pub place : Place
+  pub track : Track
+  pub target : Point
   pub state : ℕ
   pub call : Call
   pub answer : Answer
 
-unfoldable pub placeAt : List ℕ → ℕ → Place
-placeAt words s = record {
-  cursor = get words (atCursor s);
-  phase = get words (atPhase s);
-  since = get words (atSince s);
-  missed = get words (atMissed s);
-  target = targetAt words s;
-}
-
 unfoldable pub seatAt : List ℕ → ℕ → Seat
-seatAt words s = record { place = placeAt words s; state = stateAt words s .word; call = callAt words s; answer = answerAt words s }
+seatAt words s =
+    record { track = trackAt words s; target = targetAt words s; state = stateAt words s .word; call = callAt words s; answer = answerAt words s }
 
 -- the row of the words that a row value is
 abbrev pub wordRow : Row → WordRow
@@ -93,22 +62,18 @@ bestOf b = elim (eqb (b .curve) 0) [ true ↦ none | false ↦ some (record { po
 -- what a seat keeps of a search
 abbrev pub progressOf : Seat → Progress
 progressOf seat =
-    record { stand = record { cursor = seat .place .cursor; phase = phaseOf (seat .place .phase) }; missed = seat .place .missed; best = bestOf (seat .call .best) }
+    record { stand = record { cursor = seat .track .cursor; phase = phaseOf (seat .track .phase) }; missed = seat .track .missed; best = bestOf (seat .call .best) }
 
--- a seat with another place, and seats of which that of station s is as given
-abbrev pub withPlace : Seat → Place → Seat
-withPlace seat place = record { place = place; state = seat .state; call = seat .call; answer = seat .answer }
+-- a seat with another track, and seats of which that of station s is as given
+abbrev pub withTrack : Seat → Track → Seat
+withTrack seat track = record { track = track; target = seat .target; state = seat .state; call = seat .call; answer = seat .answer }
 
 unfoldable pub seatPut : (ℕ → Seat) → ℕ → Seat → ℕ → Seat
 seatPut seats s x u = elim (eqb u s) [ true ↦ x | false ↦ seats u ]
 
--- the place of a station with no unfinished call; it keeps the target
-abbrev pub noPlace : Point → Place
-noPlace target = record { cursor = NONE; phase = 0; since = NONE; missed = NONE; target = target }
-
--- the seat of a station whose call is answered
+-- the seat of a station whose call is answered; it keeps the target
 abbrev pub answeredSeat : Seat → Answer → Seat
-answeredSeat seat a = record { place = noPlace (seat .place .target); state = 2; call = seat .call; answer = a }
+answeredSeat seat a = record { track = nowhere; target = seat .target; state = 2; call = seat .call; answer = a }
 
 -- the heap with a row written
 unfoldable pub heapPut : Heap → ℕ → Row → Heap
@@ -131,4 +96,4 @@ pub record SameRows (words words′ : List ℕ) (rows : ℕ) : Type 0 where
 pub record Written (words words′ : List ℕ) (counts : Counts) (seats : ℕ → Seat) : Type 0 where
   pub opened : openedIn words′ ≡ openedIn words
   pub counted : countsAt words′ ≡ counts
-  pub seated : (s : ℕ) → s < 8 → seatAt words′ s ≡ seats s
+  pub seated : (s : ℕ) → s < stations → seatAt words′ s ≡ seats s

@@ -6,9 +6,8 @@ use mathlib.Core.List.{List}
 use mathlib.Core.Option.{some}
 use lib.Dec.{eqb}
 use lib.ListN.{length}
+use Rattle.stations.specs.Track.{trackAt}
 use Rattle.points.specs.Word.{NONE}
-use Rattle.words.specs.Layout.{atSince}
-use Rattle.words.specs.Words.{get}
 use Rattle.stations.specs.Station.{isUnfinished, stateAt}
 use Rattle.stations.specs.Call.{callAt}
 use Rattle.table.specs.Call.{answer}
@@ -27,7 +26,7 @@ pub record Withdrawn (words : List ℕ) (s : ℕ) : Type 0 where
   -- a taking would give "11, withdrawn, with its point, curve 0 and square 0"
   pub gives : givenBy (takeOf (withdrawOf words s .words) s) ≡ some (answer 11 (callAt words s .point) 0 0)
   -- the station's since word, from which on removals keep their places, is none
-  pub since : get (withdrawOf words s .words) (atSince s) ≡ NONE
+  pub since : trackAt (withdrawOf words s .words) s .since ≡ NONE
   -- where no other station has an unfinished nearest, the places taken are the records held
   pub alone : ((u : ℕ) → ¬ (u ≡ s) → isSearching words u ≡ false)
       → reportOf (withdrawOf words s .words) .taken ≡ length (heldIn (withdrawOf words s .words))
