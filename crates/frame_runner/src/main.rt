@@ -1,4 +1,4 @@
-// The frame runner: frames from standard input, and a line for each on standard output. What each line says is decided by `frames`.
+// The frame runner: frames from standard input, and a line for each on standard output. What each line says is decided by `lines`.
 mod text;
 
 use crate::text::Text;
@@ -6,10 +6,10 @@ use crate::text::empty;
 use crate::text::field;
 use crate::text::signed_field;
 use crate::text::with_bytes;
-use frames::line::Line;
-use frames::line::next_line;
 use libc::STDIN_FILENO;
 use libc::STDOUT_FILENO;
+use lines::line::Line;
+use lines::line::next_line;
 use points::point::Point;
 use stations::answer::Answer;
 

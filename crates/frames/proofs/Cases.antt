@@ -5,7 +5,7 @@ use Prim.Native.Nat.{ℕ}
 use lib.ListN.{replicate}
 use Rattle.frames.specs.declared.frame.Frame.the-variants.{Step, Withdraw}
 use Rattle.frames.specs.declared.read.Reading.the-variants.{Read, Refused}
-use Rattle.frames.specs.Bytes.{numberAt, bytesOf}
+use Rattle.numbers.specs.Bytes.{numberAt, bytesOf}
 use Rattle.frames.specs.Read.{isWhole, hasKind, ownLength, frameIn, readRest, readOf}
 use Rattle.frames.specs.Write.{headBytes, frameBytes, padded, writtenBytes, writtenOf}
 

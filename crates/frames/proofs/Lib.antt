@@ -1,9 +1,6 @@
-pub mod SignedLaws
-pub mod NumberLaws
+pub mod ShapeLaws
 pub mod QuestionLaws
 pub mod OutcomeLaws
 pub mod WrittenLaws
 pub mod ReadLaws
-pub mod ReaderLaws
-pub mod LineLaws
 pub mod Cases

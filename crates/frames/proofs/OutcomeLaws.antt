@@ -11,30 +11,31 @@ use borrow.Author.Tests.{lt-ltb, le-ltb, ltb-true, ltb-false}
 use Rattle.frames.specs.declared.frame.Frame.{Frame}
 use Rattle.frames.specs.declared.read.Reading.{Reading}
 use Rattle.frames.specs.declared.read.Reading.the-variants.{Read, End, Refused}
+use Rattle.frames.specs.Shape as shape
 use Rattle.frames.specs.Read.{lengthIn, kindIn, isWhole, hasKind, ownLength, frameIn, frameQuestion, readRest, readOf, readingNumber}
 use Rattle.frames.specs.Outcome.{Passes, Outcome, ended, fails13, fails14, fails15, passes}
 use Rattle.frames.proofs.QuestionLaws.{whole-there}
 
 -- what is read where every question is answered yes
-pub read-passes : (rest : List ℕ) (at : ℕ) → Passes rest → readRest rest at ≡ Read (frameIn (kindIn rest) rest) (at + (2 + lengthIn rest))
+pub read-passes : (rest : List ℕ) (at : ℕ) → Passes rest → readRest rest at ≡ Read (frameIn (kindIn rest) rest) (at + shape.sizeOf (lengthIn rest))
 unfolding readRest
 read-passes rest at p = simp (p .whole, p .kind, p .own)
 
 module _ (bytes : List ℕ) (at : ℕ) (within : at < length bytes) where
   -- each condition has its reading
-  pub fails-13 : isWhole (drop at bytes) ≡ false → readOf bytes at ≡ Refused 13
+  pub fails-13 : isWhole (drop at bytes) ≡ false → readOf bytes at ≡ Refused shape.notWhole
   unfolding readOf readRest
   fails-13 w = simp (lt-ltb at (length bytes) within, w)
 
-  pub fails-14 : isWhole (drop at bytes) ≡ true → hasKind (drop at bytes) ≡ false → readOf bytes at ≡ Refused 14
+  pub fails-14 : isWhole (drop at bytes) ≡ true → hasKind (drop at bytes) ≡ false → readOf bytes at ≡ Refused shape.noKind
   unfolding readOf readRest
   fails-14 w k = simp (lt-ltb at (length bytes) within, w, k)
 
-  pub fails-15 : isWhole (drop at bytes) ≡ true → hasKind (drop at bytes) ≡ true → ownLength (drop at bytes) ≡ false → readOf bytes at ≡ Refused 15
+  pub fails-15 : isWhole (drop at bytes) ≡ true → hasKind (drop at bytes) ≡ true → ownLength (drop at bytes) ≡ false → readOf bytes at ≡ Refused shape.wrongLength
   unfolding readOf readRest
   fails-15 w k o = simp (lt-ltb at (length bytes) within, w, k, o)
 
-  pub reads : Passes (drop at bytes) → readOf bytes at ≡ Read (frameIn (kindIn (drop at bytes)) (drop at bytes)) (at + (2 + lengthIn (drop at bytes)))
+  pub reads : Passes (drop at bytes) → readOf bytes at ≡ Read (frameIn (kindIn (drop at bytes)) (drop at bytes)) (at + shape.sizeOf (lengthIn (drop at bytes)))
   unfolding readOf
   reads p = simp (lt-ltb at (length bytes) within) (read-passes (drop at bytes) at p)
 
@@ -78,7 +79,7 @@ pub record WasRead (bytes : List ℕ) (at : ℕ) (frame : Frame) (next : ℕ) : 
   pub within : at < length bytes
   pub questions : Passes (drop at bytes)
   pub the-frame : frame ≡ frameIn (kindIn (drop at bytes)) (drop at bytes)
-  pub the-next : next ≡ at + (2 + lengthIn (drop at bytes))
+  pub the-next : next ≡ at + shape.sizeOf (lengthIn (drop at bytes))
 
 was-read-of : {bytes : List ℕ} {at : ℕ} {reading : Reading} {frame : Frame} {next : ℕ} → Outcome bytes at reading → reading ≡ Read frame next → WasRead bytes at frame next
 was-read-of (ended h) e = let z : _≡_ {A = ℕ} 0 1 = cc in absurd (omega arith)

@@ -1,7 +1,6 @@
 -- What is read writes back as the same bytes: `read-writes`. What is read is in width: `read-in-width`. Assumes nothing.
 use mathlib.Core.Path.{_≡_, refl, sym, ap, subst, _∙_}
-use mathlib.Core.Bool.{true, _||_}
-use mathlib.Core.Logic.{_⊎_, inl, inr}
+use mathlib.Core.Bool.{true}
 use mathlib.Core.List.{List, [], _∷_, _++_}
 use Prim.Native.Nat.{ℕ, zero, suc, _+_, _-_, _*_, _%_, _<_, _≤_}
 use native.Mathlib.Omega.{arith}
@@ -10,17 +9,19 @@ use lib.Seq.{take-add, drop-drop, getD-drop, length-take-le}
 use lib.Signed.{mag}
 use lib.Dec.{eqb, leb}
 use borrow.Author.Tests.{leb-true, eqb-true}
-use Rattle.points.proofs.Tests.{and-l, and-r}
-use Rattle.words.proofs.RangeLaws.{or-true}
+use Rattle.points.proofs.Tests.{and-r}
+use Rattle.numbers.specs.Bytes.{AllBytes, numberAt, bytesOf}
+use Rattle.numbers.specs.Signed.{unsignedOf, signedOf}
+use Rattle.numbers.proofs.SignedLaws.{unsigned-signed, signed-near}
+use Rattle.numbers.proofs.NumberLaws.{bytes-number, two-fits, four-fits}
 use Rattle.frames.specs.declared.frame.Frame.{Frame}
 use Rattle.frames.specs.declared.read.Reading.the-variants.{Read}
-use Rattle.frames.specs.Bytes.{numberAt, bytesOf, unsignedOf, signedOf}
-use Rattle.frames.specs.Width.{AllBytes, InWidth, SubmissionInWidth}
-use Rattle.frames.specs.Read.{lengthIn, kindIn, lengthOf, isKind, hasKind, ownLength, submissionIn, frameIn, readOf}
+use Rattle.frames.specs.Width.{InWidth, SubmissionInWidth}
+use Rattle.frames.specs.Shape as shape
+use Rattle.frames.specs.Read.{lengthIn, kindIn, hasKind, ownLength, submissionIn, frameIn, readOf}
 use Rattle.frames.specs.Outcome.{Passes}
 use Rattle.frames.specs.Write.{headBytes, submissionStart, submissionEnd, frameBytes, writtenOf}
-use Rattle.frames.proofs.SignedLaws.{unsigned-signed, signed-near}
-use Rattle.frames.proofs.NumberLaws.{bytes-number, two-fits, four-fits}
+use Rattle.frames.proofs.ShapeLaws.{by-kind}
 use Rattle.frames.proofs.QuestionLaws.{whole-there}
 use Rattle.frames.proofs.OutcomeLaws.{WasRead, was-read}
 use Rattle.frames.proofs.WrittenLaws.{written-used, written-count}
@@ -48,93 +49,80 @@ one-byte bytes at small = omega (arith, small at)
 signed-field : (bytes : List ℕ) (at : ℕ) → AllBytes bytes → unsignedOf (signedOf (numberAt 4 bytes at)) ≡ numberAt 4 bytes at
 signed-field bytes at small = unsigned-signed (numberAt 4 bytes at) (four-fits bytes at small)
 
--- a kind is from 1 to 5, or 8
-kind-tells : (k : ℕ) → isKind k ≡ true → ((1 ≤ k) × (k ≤ 5)) ⊎ (k ≡ 8)
-kind-tells k is =
-    let from = leb-true 1 k (and-l (leb 1 k) (leb k 5 || eqb k 8) is) in
-    elim (or-true (leb k 5) (eqb k 8) (and-r (leb 1 k) (leb k 5 || eqb k 8) is)) [ inl e ↦ inl (from, leb-true k 5 e) | inr e ↦ inr (eqb-true k 8 e) ]
-
--- what holds of 1 to 5 and of 8 holds of every kind
-by-kind : (P : ℕ → Type 0) → P 1 → P 2 → P 3 → P 4 → P 5 → P 8 → (k : ℕ) → isKind k ≡ true → P k
-by-kind P a b c d e f k is = go k (kind-tells k is)
-  where
-    go : (k : ℕ) → ((1 ≤ k) × (k ≤ 5)) ⊎ (k ≡ 8) → P k
-    go k (inr is-8) = subst P (sym is-8) f
-    go zero (inl h) = absurd (omega (arith, h .0))
-    go (suc zero) (inl h) = a
-    go (suc (suc zero)) (inl h) = b
-    go (suc (suc (suc zero))) (inl h) = c
-    go (suc (suc (suc (suc zero)))) (inl h) = d
-    go (suc (suc (suc (suc (suc zero))))) (inl h) = e
-    go (suc (suc (suc (suc (suc (suc k)))))) (inl h) = absurd (omega (arith, h .1))
-
 module _ (rest : List ℕ) (small : AllBytes rest) where
   -- the bytes of the frame of a kind are the first of the bytes
   abbrev Same : ℕ → Type 0
-  Same k = kindIn rest ≡ k → lengthIn rest ≡ lengthOf k → 2 + lengthOf k ≤ length rest → frameBytes (frameIn k rest) ≡ take (2 + lengthOf k) rest
+  Same k =
+      kindIn rest ≡ k → lengthIn rest ≡ shape.lengthOf k → shape.sizeOf (shape.lengthOf k) ≤ length rest
+      → frameBytes (frameIn k rest) ≡ take (shape.sizeOf (shape.lengthOf k)) rest
 
-  same-open : Same 1
+  -- length and kind
+  same-head : (kind : ℕ) → kindIn rest ≡ kind → lengthIn rest ≡ shape.lengthOf kind → headBytes kind ≡ bytesOf 2 (lengthIn rest) ++ bytesOf 2 (kindIn rest)
+  unfolding headBytes
+  same-head kind k s = λ i. bytesOf 2 (sym s i) ++ bytesOf 2 (sym k i)
+
+  same-open : Same shape.kindOpen
   unfolding frameIn frameBytes headBytes bytesOf numberAt parts total
   same-open k s there =
-      (λ i. headBytes (sym s i) (sym k i) ++ (bytesOf 2 (numberAt 2 rest 4) ++ bytesOf 4 (numberAt 4 rest 6)))
+      (λ i. same-head shape.kindOpen k s i ++ (bytesOf 2 (numberAt 2 rest shape.atPlaces) ++ bytesOf 4 (numberAt 4 rest shape.atLimit)))
       ∙ parts-taken rest 0 (2 ∷ 2 ∷ 2 ∷ 4 ∷ []) small there
 
-  same-submit : Same 2
+  same-submit : Same shape.kindSubmit
   unfolding frameIn submissionIn frameBytes submissionStart submissionEnd headBytes bytesOf numberAt parts total
   same-submit k s there =
       (λ i.
-      (headBytes (sym s i) (sym k i) ++ (sym (one-byte rest 4 small) i ∷ (sym (one-byte rest 5 small) i ∷ bytesOf 2 (numberAt 2 rest 6))))
-      ++ (bytesOf 4 (signed-field rest 8 small i)
-      ++ (bytesOf 4 (signed-field rest 12 small i)
-      ++ (bytesOf 4 (signed-field rest 16 small i) ++ (bytesOf 4 (signed-field rest 20 small i) ++ bytesOf 4 (numberAt 4 rest 24))))))
+      (same-head shape.kindSubmit k s i ++ (sym (one-byte rest shape.atStation small) i ∷ (sym (one-byte rest shape.atCall small) i ∷ bytesOf 2 (numberAt 2 rest shape.atGrade))))
+      ++ (bytesOf 4 (signed-field rest shape.atWeight small i)
+      ++ (bytesOf 4 (signed-field rest shape.atMoisture small i)
+      ++ (bytesOf 4 (signed-field rest shape.atSpeed small i) ++ (bytesOf 4 (signed-field rest shape.atDraw small i) ++ bytesOf 4 (numberAt 4 rest shape.atCurve))))))
       ∙ parts-taken rest 0 (2 ∷ 2 ∷ 1 ∷ 1 ∷ 2 ∷ 4 ∷ 4 ∷ 4 ∷ 4 ∷ 4 ∷ []) small there
 
   -- of a kind with a station alone
-  same-station : (kind : ℕ) → kindIn rest ≡ kind → lengthIn rest ≡ 3 → 5 ≤ length rest → headBytes 3 kind ++ (getD rest 4 0 ∷ []) ≡ take 5 rest
+  same-station : (kind : ℕ) → kindIn rest ≡ kind → lengthIn rest ≡ shape.lengthOf kind → 5 ≤ length rest → headBytes kind ++ (getD rest shape.atStation 0 ∷ []) ≡ take 5 rest
   unfolding headBytes bytesOf numberAt parts total
   same-station kind k s there =
-      (λ i. headBytes (sym s i) (sym k i) ++ (sym (one-byte rest 4 small) i ∷ [])) ∙ parts-taken rest 0 (2 ∷ 2 ∷ 1 ∷ []) small there
+      (λ i. same-head kind k s i ++ (sym (one-byte rest shape.atStation small) i ∷ [])) ∙ parts-taken rest 0 (2 ∷ 2 ∷ 1 ∷ []) small there
 
-  the-kind : Passes rest → isKind (kindIn rest) ≡ true
+  the-kind : Passes rest → shape.isKind (kindIn rest) ≡ true
   unfolding hasKind
-  the-kind p = and-r (leb 2 (lengthIn rest)) (isKind (kindIn rest)) (p .kind)
+  the-kind p = and-r (leb 2 (lengthIn rest)) (shape.isKind (kindIn rest)) (p .kind)
 
-  own-size : Passes rest → lengthIn rest ≡ lengthOf (kindIn rest)
+  own-size : Passes rest → lengthIn rest ≡ shape.lengthOf (kindIn rest)
   unfolding ownLength
-  own-size p = eqb-true (lengthIn rest) (lengthOf (kindIn rest)) (p .own)
+  own-size p = eqb-true (lengthIn rest) (shape.lengthOf (kindIn rest)) (p .own)
 
-  same-bytes : Passes rest → frameBytes (frameIn (kindIn rest) rest) ≡ take (2 + lengthIn rest) rest
+  same-bytes : Passes rest → frameBytes (frameIn (kindIn rest) rest) ≡ take (shape.sizeOf (lengthIn rest)) rest
   unfolding frameIn frameBytes
   same-bytes p =
       let own = own-size p in
       let there = whole-there rest (p .whole) in
-      by-kind Same same-open same-submit (same-station 3) (same-station 4) (same-station 5) (same-station 8) (kindIn rest) (the-kind p) refl own (omega arith)
-      ∙ ap (λ (n : ℕ). take (2 + n) rest) (sym own)
+      by-kind Same same-open same-submit (same-station shape.kindStep) (same-station shape.kindTake) (same-station shape.kindRun) (same-station shape.kindWithdraw) (kindIn rest) (the-kind p) refl own (omega arith)
+      ∙ ap (λ (n : ℕ). take (shape.sizeOf n) rest) (sym own)
 
   -- fields that are read are in width
   abbrev Wide : ℕ → Type 0
   Wide k = InWidth (frameIn k rest)
 
-  wide-open : Wide 1
+  wide-open : Wide shape.kindOpen
   unfolding frameIn
-  wide-open = (two-fits rest 4 small, four-fits rest 6 small)
+  wide-open = (two-fits rest shape.atPlaces small, four-fits rest shape.atLimit small)
 
-  wide-submit : Wide 2
+  wide-submit : Wide shape.kindSubmit
   unfolding frameIn submissionIn
   wide-submit = record {
-    station = small 4;
-    kind = small 5;
-    grade = two-fits rest 6 small;
-    weight = signed-near (numberAt 4 rest 8) (four-fits rest 8 small);
-    moisture = signed-near (numberAt 4 rest 12) (four-fits rest 12 small);
-    speed = signed-near (numberAt 4 rest 16) (four-fits rest 16 small);
-    draw = signed-near (numberAt 4 rest 20) (four-fits rest 20 small);
-    curve = four-fits rest 24 small;
+    station = small shape.atStation;
+    kind = small shape.atCall;
+    grade = two-fits rest shape.atGrade small;
+    weight = signed-near (numberAt 4 rest shape.atWeight) (four-fits rest shape.atWeight small);
+    moisture = signed-near (numberAt 4 rest shape.atMoisture) (four-fits rest shape.atMoisture small);
+    speed = signed-near (numberAt 4 rest shape.atSpeed) (four-fits rest shape.atSpeed small);
+    draw = signed-near (numberAt 4 rest shape.atDraw) (four-fits rest shape.atDraw small);
+    curve = four-fits rest shape.atCurve small;
   }
 
   wide : Passes rest → InWidth (frameIn (kindIn rest) rest)
   unfolding frameIn
-  wide p = by-kind Wide wide-open wide-submit (small 4) (small 4) (small 4) (small 4) (kindIn rest) (the-kind p)
+  wide p = by-kind Wide wide-open wide-submit (small shape.atStation) (small shape.atStation) (small shape.atStation) (small shape.atStation) (kindIn rest) (the-kind p)
 
 -- bytes from a position on
 dropped : (bytes : List ℕ) (at : ℕ) → AllBytes bytes → AllBytes (drop at bytes)
@@ -150,7 +138,7 @@ module _ (bytes : List ℕ) (at : ℕ) {frame : Frame} {next : ℕ} (small : All
   frame-bytes : frameBytes frame ≡ take (next - at) (drop at bytes)
   frame-bytes =
       let r = was-read bytes at e in
-      let size : 2 + lengthIn (drop at bytes) ≡ next - at = omega (arith, r .the-next) in
+      let size : shape.sizeOf (lengthIn (drop at bytes)) ≡ next - at = omega (arith, r .the-next) in
       ap frameBytes (r .the-frame)
       ∙ same-bytes (drop at bytes) (dropped bytes at small) (r .questions)
       ∙ ap (λ (n : ℕ). take n (drop at bytes)) size

@@ -8,53 +8,54 @@ use lib.ListN.{length, take, drop, replicate, getD, length-append}
 use lib.Seq.{take-append-seam, drop-append-seam}
 use lib.IntN.{ℤ}
 use lib.Signed.{mag}
-use lib.Dec.{lit≤, lit<}
+use lib.Dec.{ltb, lit≤, lit<}
 use borrow.Author.Tests.{lt-ltb, le-leb, eq-eqb}
 use Rattle.points.proofs.Tests.{and-i}
-use Rattle.points.proofs.MachineLaws.{of-ok}
 use Rattle.frames.specs.declared.frame.Submission.{Submission}
 use Rattle.frames.specs.declared.frame.Frame.{Frame}
 use Rattle.frames.specs.declared.frame.Frame.the-variants.{Open, Submit, Step, Take, Run, Withdraw}
 use Rattle.frames.specs.declared.read.Reading.the-variants.{Read}
-use Rattle.frames.specs.Bytes.{numberAt, bytesOf, unsignedOf, signedOf}
+use Rattle.numbers.specs.Bytes.{numberAt, bytesOf}
+use Rattle.numbers.specs.Signed.{unsignedOf, signedOf}
+use Rattle.numbers.proofs.SignedLaws.{unsigned-fits, signed-unsigned}
+use Rattle.numbers.proofs.NumberLaws.{two-whole, four-whole}
 use Rattle.frames.specs.Width.{InWidth, SubmissionInWidth}
-use Rattle.frames.specs.Read.{lengthIn, kindIn, lengthOf, isKind, isWhole, hasKind, ownLength, submissionIn, frameIn, readRest, readOf}
+use Rattle.frames.specs.Shape as shape
+use Rattle.frames.specs.Read.{lengthIn, kindIn, isWhole, hasKind, ownLength, submissionIn, frameIn, readRest, readOf}
 use Rattle.frames.specs.Outcome.{Passes}
 use Rattle.frames.specs.Write.{headBytes, submissionStart, submissionEnd, frameBytes, padded, writtenBytes, writtenOf}
-use Rattle.frames.proofs.SignedLaws.{unsigned-fits, signed-unsigned}
-use Rattle.frames.proofs.NumberLaws.{two-whole, four-whole}
 use Rattle.frames.proofs.OutcomeLaws.{read-passes}
 
 -- the bytes used are those of the frame
 pub written-used : (f : Frame) → take (writtenOf f .count) (writtenOf f .bytes) ≡ frameBytes f
 unfolding writtenOf writtenBytes padded
-written-used f = take-append-seam (frameBytes f) (replicate (28 - length (frameBytes f)) 0)
+written-used f = take-append-seam (frameBytes f) (replicate (shape.longest - length (frameBytes f)) 0)
 
 -- what the bytes of a frame say to the reader: a length, a kind and the frame
 pub record Says (rest : List ℕ) (f : Frame) (size kind : ℕ) : Type 0 where
-  pub there : 2 + size ≤ length rest
+  pub there : shape.sizeOf size ≤ length rest
   pub says-size : lengthIn rest ≡ size
   pub says-kind : kindIn rest ≡ kind
-  pub sized : lengthOf kind ≡ size
-  pub is-kind : isKind kind ≡ true
+  pub sized : shape.lengthOf kind ≡ size
+  pub is-kind : shape.isKind kind ≡ true
   pub enough : 2 ≤ size
   pub says-frame : frameIn kind rest ≡ f
 
 passes-of : {rest : List ℕ} {f : Frame} {size kind : ℕ} → Says rest f size kind → Passes rest
 unfolding isWhole hasKind ownLength
 passes-of {rest} {f} {size} {kind} s = record {
-  whole = and-i (le-leb 2 (length rest) (omega (arith, s .there, s .enough))) (le-leb (2 + lengthIn rest) (length rest) (omega (arith, s .there, s .says-size)));
-  kind = and-i (le-leb 2 (lengthIn rest) (omega (arith, s .enough, s .says-size))) (ap isKind (s .says-kind) ∙ s .is-kind);
-  own = eq-eqb (lengthIn rest) (lengthOf (kindIn rest)) (s .says-size ∙ sym (s .sized) ∙ ap lengthOf (sym (s .says-kind)));
+  whole = and-i (le-leb 2 (length rest) (omega (arith, s .there, s .enough))) (le-leb (shape.sizeOf (lengthIn rest)) (length rest) (omega (arith, s .there, s .says-size)));
+  kind = and-i (le-leb 2 (lengthIn rest) (omega (arith, s .enough, s .says-size))) (ap shape.isKind (s .says-kind) ∙ s .is-kind);
+  own = eq-eqb (lengthIn rest) (shape.lengthOf (kindIn rest)) (s .says-size ∙ sym (s .sized) ∙ ap shape.lengthOf (sym (s .says-kind)));
 }
 
-says-reads : {rest : List ℕ} {f : Frame} {size kind : ℕ} (at : ℕ) → Says rest f size kind → readRest rest at ≡ Read f (at + (2 + size))
+says-reads : {rest : List ℕ} {f : Frame} {size kind : ℕ} (at : ℕ) → Says rest f size kind → readRest rest at ≡ Read f (at + shape.sizeOf size)
 says-reads {rest} {f} {size} {kind} at s =
     read-passes rest at (passes-of s)
-    ∙ (λ i. Read ((ap (λ (k : ℕ). frameIn k rest) (s .says-kind) ∙ s .says-frame) i) (at + (2 + s .says-size i)))
+    ∙ (λ i. Read ((ap (λ (k : ℕ). frameIn k rest) (s .says-kind) ∙ s .says-frame) i) (at + shape.sizeOf (s .says-size i)))
 
 -- the bytes of each frame, with any bytes after them
-open-says : (places limit : ℕ) (post : List ℕ) → places < 65536 → limit < 4294967296 → Says (frameBytes (Open places limit) ++ post) (Open places limit) 8 1
+open-says : (places limit : ℕ) (post : List ℕ) → places < 65536 → limit < 4294967296 → Says (frameBytes (Open places limit) ++ post) (Open places limit) (shape.lengthOf shape.kindOpen) shape.kindOpen
 unfolding frameBytes headBytes bytesOf numberAt frameIn
 open-says places limit post p l = record {
   there = omega arith;
@@ -69,9 +70,9 @@ open-says places limit post p l = record {
 -- four bytes of a signed number are read as the number
 signed-whole : (z : ℤ) → mag z < 2147483648 → signedOf (numberAt 4 (bytesOf 4 (unsignedOf z)) 0) ≡ z
 unfolding numberAt bytesOf
-signed-whole z h = ap signedOf (four-whole (unsignedOf z) (unsigned-fits z h)) ∙ signed-unsigned z (of-ok h)
+signed-whole z h = ap signedOf (four-whole (unsignedOf z) (unsigned-fits z h)) ∙ signed-unsigned z h
 
-submit-says : (s : Submission) (post : List ℕ) → SubmissionInWidth s → Says (frameBytes (Submit s) ++ post) (Submit s) 26 2
+submit-says : (s : Submission) (post : List ℕ) → SubmissionInWidth s → Says (frameBytes (Submit s) ++ post) (Submit s) (shape.lengthOf shape.kindSubmit) shape.kindSubmit
 unfolding frameBytes submissionStart submissionEnd headBytes bytesOf numberAt frameIn submissionIn
 submit-says s post w = record {
   there = omega arith;
@@ -93,15 +94,15 @@ submit-says s post w = record {
 }
 
 -- the bytes of a frame of a station alone, likewise
-station-says : (kind station : ℕ) (f : Frame) (post : List ℕ) → kind < 65536 → lengthOf kind ≡ 3 → isKind kind ≡ true
-    → frameIn kind (headBytes 3 kind ++ (station ∷ post)) ≡ f → Says (headBytes 3 kind ++ (station ∷ post)) f 3 kind
+station-says : (kind station : ℕ) (f : Frame) (post : List ℕ) → kind < 65536 → shape.lengthOf kind ≡ 3
+    → frameIn kind (headBytes kind ++ (station ∷ post)) ≡ f → Says (headBytes kind ++ (station ∷ post)) f 3 kind
 unfolding headBytes bytesOf numberAt
-station-says kind station f post small size is frame = record {
+station-says kind station f post small size frame = record {
   there = omega arith;
-  says-size = refl;
+  says-size = two-whole (shape.lengthOf kind) (omega (arith, size)) ∙ size;
   says-kind = two-whole kind small;
   sized = size;
-  is-kind = is;
+  is-kind = ap (ltb 0) size;
   enough = lit≤ tt;
   says-frame = frame;
 }
@@ -111,10 +112,10 @@ frame-reads : (f : Frame) → InWidth f → (post : List ℕ) (at : ℕ) → rea
 unfolding frameBytes submissionStart submissionEnd headBytes bytesOf frameIn
 frame-reads (Open places limit) w post at = says-reads at (open-says places limit post (w .0) (w .1))
 frame-reads (Submit s) w post at = says-reads at (submit-says s post w)
-frame-reads (Step station) w post at = says-reads at (station-says 3 station (Step station) post (lit< tt) refl refl refl)
-frame-reads (Take station) w post at = says-reads at (station-says 4 station (Take station) post (lit< tt) refl refl refl)
-frame-reads (Run station) w post at = says-reads at (station-says 5 station (Run station) post (lit< tt) refl refl refl)
-frame-reads (Withdraw station) w post at = says-reads at (station-says 8 station (Withdraw station) post (lit< tt) refl refl refl)
+frame-reads (Step station) w post at = says-reads at (station-says shape.kindStep station (Step station) post (lit< tt) refl refl)
+frame-reads (Take station) w post at = says-reads at (station-says shape.kindTake station (Take station) post (lit< tt) refl refl)
+frame-reads (Run station) w post at = says-reads at (station-says shape.kindRun station (Run station) post (lit< tt) refl refl)
+frame-reads (Withdraw station) w post at = says-reads at (station-says shape.kindWithdraw station (Withdraw station) post (lit< tt) refl refl)
 
 -- a frame has at least its length bytes
 pub frame-length : (f : Frame) → 2 ≤ length (frameBytes f)

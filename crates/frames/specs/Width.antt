@@ -1,15 +1,10 @@
--- "fields of exactly these widths": the bounds that the types of bytes and fields give them. `mag z` is n both for n and for −1 − n.
+-- "fields of exactly these widths": the bounds that the types of the fields give them. `mag z` is n both for n and for −1 − n.
 use Prim.Native.Nat.{ℕ, _<_}
 use mathlib.Core.List.{List, [], _∷_}
-use lib.ListN.{getD}
 use lib.Signed.{mag}
 use Rattle.frames.specs.declared.frame.Submission.{Submission}
 use Rattle.frames.specs.declared.frame.Frame.{Frame}
 use Rattle.frames.specs.declared.frame.Frame.the-variants.{Open, Submit, Step, Take, Run, Withdraw}
-
--- every number of the list is a byte
-abbrev pub AllBytes : List ℕ → Type 0
-AllBytes bytes = (i : ℕ) → getD bytes i 0 < 256
 
 -- every field of a submission is of its width
 pub record SubmissionInWidth (s : Submission) : Type 0 where

@@ -10,16 +10,17 @@ use Rattle.frames.specs.declared.frame.Frame.the-variants.{Open, Submit,
 use Rattle.frames.specs.declared.write.Written.{Written}
 use Rattle.frames.specs.declared.write.Fields.{Fields}
 use Rattle.frames.specs.declared.write.Writing.{Writing}
-use Rattle.frames.specs.Bytes.{bytesOf, unsignedOf}
-use Rattle.frames.specs.Read.{isKind}
+use Rattle.numbers.specs.Bytes.{bytesOf}
+use Rattle.numbers.specs.Signed.{unsignedOf}
+use Rattle.frames.specs.Shape as shape
 
 -- length and kind
-unfoldable pub headBytes : ℕ → ℕ → List ℕ
-headBytes size kind = bytesOf 2 size ++ bytesOf 2 kind
+unfoldable pub headBytes : ℕ → List ℕ
+headBytes kind = bytesOf 2 (shape.lengthOf kind) ++ bytesOf 2 kind
 
 -- a submission up to its grade
 unfoldable pub submissionStart : Submission → List ℕ
-submissionStart s = headBytes 26 2 ++ (s .station ∷ s .kind ∷ bytesOf 2 (s .grade))
+submissionStart s = headBytes shape.kindSubmit ++ (s .station ∷ s .kind ∷ bytesOf 2 (s .grade))
 
 -- a submission's weight, moisture, speed, draw and curve
 unfoldable pub submissionEnd : Submission → List ℕ
@@ -30,16 +31,16 @@ submissionEnd s =
 
 -- the bytes of a frame
 unfoldable pub frameBytes : Frame → List ℕ
-frameBytes (Open places limit) = headBytes 8 1 ++ (bytesOf 2 places ++ bytesOf 4 limit)
+frameBytes (Open places limit) = headBytes shape.kindOpen ++ (bytesOf 2 places ++ bytesOf 4 limit)
 frameBytes (Submit s) = submissionStart s ++ submissionEnd s
-frameBytes (Step station) = headBytes 3 3 ++ (station ∷ [])
-frameBytes (Take station) = headBytes 3 4 ++ (station ∷ [])
-frameBytes (Run station) = headBytes 3 5 ++ (station ∷ [])
-frameBytes (Withdraw station) = headBytes 3 8 ++ (station ∷ [])
+frameBytes (Step station) = headBytes shape.kindStep ++ (station ∷ [])
+frameBytes (Take station) = headBytes shape.kindTake ++ (station ∷ [])
+frameBytes (Run station) = headBytes shape.kindRun ++ (station ∷ [])
+frameBytes (Withdraw station) = headBytes shape.kindWithdraw ++ (station ∷ [])
 
--- with zeros up to 28 bytes
+-- with zeros behind, as many bytes as the longest frame has
 unfoldable pub padded : List ℕ → List ℕ
-padded bytes = bytes ++ replicate (28 - length bytes) 0
+padded bytes = bytes ++ replicate (shape.longest - length bytes) 0
 
 -- the bytes, unused ones zero, with the count used
 unfoldable pub writtenBytes : List ℕ → Written
@@ -49,9 +50,13 @@ writtenBytes bytes = record { bytes = padded bytes; count = length bytes }
 unfoldable pub writtenOf : Frame → Written
 writtenOf frame = writtenBytes (frameBytes frame)
 
+-- these bytes, with the count that a frame of this kind uses
+unfoldable pub counted : ℕ → List ℕ → Written
+counted kind bytes = record { bytes = bytes; count = shape.sizeOf (shape.lengthOf kind) }
+
 -- a frame of a station alone, written
 unfoldable pub stationWritten : ℕ → ℕ → Written
-stationWritten kind station = writtenBytes (headBytes 3 kind ++ (station ∷ []))
+stationWritten kind station = counted kind (padded (headBytes kind ++ (station ∷ [])))
 
 -- the submission of these fields
 unfoldable pub submissionFrom : Fields → Submission
@@ -66,16 +71,18 @@ submissionFrom fields = record {
   curve = fields .curve;
 }
 
--- the frame of a kind, 1 to 5 or 8, with its own of these fields
+-- the frame of a kind with its own of these fields; any number but the first five kinds is taken for a withdrawal's
 unfoldable pub frameFrom : ℕ → Fields → Frame
 frameFrom kind fields =
-    cond (eqb kind 1) (Open (fields .places) (fields .limit))
-    (cond (eqb kind 2) (Submit (submissionFrom fields))
-    (cond (eqb kind 3) (Step (fields .station))
-    (cond (eqb kind 4) (Take (fields .station)) (cond (eqb kind 5) (Run (fields .station)) (Withdraw (fields .station))))))
+    cond (eqb kind shape.kindOpen) (Open (fields .places) (fields .limit))
+    (cond (eqb kind shape.kindSubmit) (Submit (submissionFrom fields))
+    (cond (eqb kind shape.kindStep) (Step (fields .station))
+    (cond (eqb kind shape.kindTake) (Take (fields .station))
+    (cond (eqb kind shape.kindRun) (Run (fields .station))
+    (Withdraw (fields .station))))))
 
 -- "The writer takes a kind (question 14) and fields of exactly these widths"
 unfoldable pub writeOf : ℕ → Fields → Writing
 writeOf kind fields =
-    cond (isKind kind) (record { number = 0; written = writtenOf (frameFrom kind fields) })
-    (record { number = 14; written = writtenBytes [] })
+    cond (shape.isKind kind) (record { number = 0; written = writtenOf (frameFrom kind fields) })
+    (record { number = shape.noKind; written = writtenBytes [] })

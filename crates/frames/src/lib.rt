@@ -1,8 +1,5 @@
-// Frames: calls as bytes, read, written and applied to an index, and the line that the frame runner prints for each.
-pub mod apply;
-mod byte;
+// Frames: calls as bytes, read and written.
 pub mod frame;
-pub mod line;
 pub mod read;
-pub mod reader;
+mod shape;
 pub mod write;

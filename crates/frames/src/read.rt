@@ -1,16 +1,19 @@
 // Reading a frame: questions 13 to 15, then the frame and the position after it.
-use crate::byte::byte_at;
-use crate::byte::four_at;
-use crate::byte::pair_as_count;
-use crate::byte::signed_at;
-use crate::byte::two_at;
 use crate::frame::Frame;
 use crate::frame::Submission;
+use crate::shape;
+use crate::shape::is_kind;
+use crate::shape::length_of;
+use crate::shape::size_of;
+use numbers::get::four_at;
+use numbers::get::one_at;
+use numbers::get::signed_at;
+use numbers::get::two_at;
 use words::word::pick;
 ghost use mathlib.Core.Path.{_≡_};
 ghost use Prim.Native.Nat.{_+_, _<_};
 ghost use lib.ListN.{length};
-ghost use Rattle.frames.specs.Read.{lengthOf, isKind, isWhole, hasKind, ownLength, frameQuestion, submissionIn, frameIn, readRest, readOf, positionAfter};
+ghost use Rattle.frames.specs.Read.{isWhole, hasKind, ownLength, frameQuestion, submissionIn, frameIn, readRest, readOf, positionAfter};
 
 // What reading at a position finds: a frame and the position after it, no byte, or the number of the first question that fails.
 pub enum Reading {
@@ -19,53 +22,35 @@ pub enum Reading {
     Refused(u32),
 }
 
-// The length of a kind's frames. Any number but 1 and 2 is taken for 3.
-fn length_of(kind: u16) -> u16
-    ensures { λ r. ⌜ r ≡ lengthOf kind ⌝ }
-{
-    match kind {
-        1 => 8,
-        2 => 26,
-        _ => 3,
-    }
-}
-
-// There is such a kind: 1 to 5, or 8.
-pub(crate) fn is_kind(kind: u16) -> bool
-    ensures { λ r. ⌜ r ≡ isKind kind ⌝ }
-{
-    (1 <= kind) & ((kind <= 5) | (kind == 8))
-}
-
 // Question 13: both length bytes and all the bytes they count are there.
 fn is_whole(rest: &[u8]) -> bool
     ensures { λ r. ⌜ r ≡ isWhole (now (rest .entry)) ⌝ }
 {
-    (2 <= rest.len()) & (2 + pair_as_count(two_at(rest, 0)) <= rest.len())
+    (2 <= rest.len()) & (size_of(two_at(rest, shape::AT_LENGTH)) <= rest.len())
 }
 
 // Question 14: there is a kind, 1 to 5 or 8.
 fn has_kind(rest: &[u8]) -> bool
     ensures { λ r. ⌜ r ≡ hasKind (now (rest .entry)) ⌝ }
 {
-    let known = is_kind(two_at(rest, 2));
-    (2 <= two_at(rest, 0)) & known
+    let known = is_kind(two_at(rest, shape::AT_KIND));
+    (2 <= two_at(rest, shape::AT_LENGTH)) & known
 }
 
 // Question 15: the length is the kind's own.
 fn own_length(rest: &[u8]) -> bool
     ensures { λ r. ⌜ r ≡ ownLength (now (rest .entry)) ⌝ }
 {
-    two_at(rest, 0) == length_of(two_at(rest, 2))
+    two_at(rest, shape::AT_LENGTH) == length_of(two_at(rest, shape::AT_KIND))
 }
 
 // The first of questions 13 to 15 that fails, or 0.
 fn frame_question(rest: &[u8]) -> u32
     ensures { λ r. ⌜ r ≡ frameQuestion (now (rest .entry)) ⌝ }
 {
-    let fifteenth = pick(own_length(rest), 0, 15);
-    let fourteenth = pick(has_kind(rest), fifteenth, 14);
-    pick(is_whole(rest), fourteenth, 13)
+    let fifteenth = pick(own_length(rest), 0, shape::WRONG_LENGTH);
+    let fourteenth = pick(has_kind(rest), fifteenth, shape::NO_KIND);
+    pick(is_whole(rest), fourteenth, shape::NOT_WHOLE)
 }
 
 // The submission whose frame starts the bytes.
@@ -73,38 +58,38 @@ fn submission_in(rest: &[u8]) -> Submission
     ensures { λ r. ⌜ r ≡ submissionIn (now (rest .entry)) ⌝ }
 {
     Submission {
-        station: byte_at(rest, 4),
-        kind: byte_at(rest, 5),
-        grade: two_at(rest, 6),
-        weight: signed_at(rest, 8),
-        moisture: signed_at(rest, 12),
-        speed: signed_at(rest, 16),
-        draw: signed_at(rest, 20),
-        curve: four_at(rest, 24),
+        station: one_at(rest, shape::AT_STATION),
+        kind: one_at(rest, shape::AT_CALL),
+        grade: two_at(rest, shape::AT_GRADE),
+        weight: signed_at(rest, shape::AT_WEIGHT),
+        moisture: signed_at(rest, shape::AT_MOISTURE),
+        speed: signed_at(rest, shape::AT_SPEED),
+        draw: signed_at(rest, shape::AT_DRAW),
+        curve: four_at(rest, shape::AT_CURVE),
     }
 }
 
-// The frame of a kind that starts the bytes. Any number but 1 to 5 is taken for 8.
+// The frame of a kind that starts the bytes. Any number but the first five kinds is taken for a withdrawal's.
 fn frame_in(kind: u16, rest: &[u8]) -> Frame
     ensures { λ r. ⌜ r ≡ frameIn kind (now (rest .entry)) ⌝ }
 {
     match kind {
-        1 => Frame::Open {
-            places: two_at(rest, 4),
-            limit: four_at(rest, 6),
+        shape::KIND_OPEN => Frame::Open {
+            places: two_at(rest, shape::AT_PLACES),
+            limit: four_at(rest, shape::AT_LIMIT),
         },
-        2 => Frame::Submit(submission_in(rest)),
-        3 => Frame::Step {
-            station: byte_at(rest, 4),
+        shape::KIND_SUBMIT => Frame::Submit(submission_in(rest)),
+        shape::KIND_STEP => Frame::Step {
+            station: one_at(rest, shape::AT_STATION),
         },
-        4 => Frame::Take {
-            station: byte_at(rest, 4),
+        shape::KIND_TAKE => Frame::Take {
+            station: one_at(rest, shape::AT_STATION),
         },
-        5 => Frame::Run {
-            station: byte_at(rest, 4),
+        shape::KIND_RUN => Frame::Run {
+            station: one_at(rest, shape::AT_STATION),
         },
         _ => Frame::Withdraw {
-            station: byte_at(rest, 4),
+            station: one_at(rest, shape::AT_STATION),
         },
     }
 }
@@ -116,8 +101,8 @@ fn read_rest(rest: &[u8], at: usize) -> Reading
 {
     let number = frame_question(rest);
     if number == 0 {
-        let next = at + (2 + pair_as_count(two_at(rest, 0)));
-        Reading::Read(frame_in(two_at(rest, 2), rest), next)
+        let next = at + size_of(two_at(rest, shape::AT_LENGTH));
+        Reading::Read(frame_in(two_at(rest, shape::AT_KIND), rest), next)
     } else {
         Reading::Refused(number)
     }
@@ -135,7 +120,7 @@ pub fn read_frame(bytes: &[u8], at: usize) -> Reading
 }
 
 // The position after a reading at a position: past the frame; a refusal and an end move nothing.
-pub(crate) fn position_after(reading: Reading, at: usize) -> usize
+pub fn position_after(reading: Reading, at: usize) -> usize
     ensures { λ r. ⌜ r ≡ positionAfter reading at ⌝ }
 {
     match reading {

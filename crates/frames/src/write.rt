@@ -1,17 +1,21 @@
 // Writing a frame: 28 bytes, unused ones zero, with the count used.
-use crate::byte::with_four;
-use crate::byte::with_signed;
-use crate::byte::with_two;
 use crate::frame::Frame;
 use crate::frame::Submission;
-use crate::read::is_kind;
+use crate::shape;
+use crate::shape::is_kind;
+use crate::shape::length_of;
+use crate::shape::size_of;
+use numbers::put::put_four;
+use numbers::put::put_one;
+use numbers::put::put_signed;
+use numbers::put::put_two;
 ghost use mathlib.Core.Path.{_≡_};
 ghost use Rattle.frames.specs.declared.frame.Frame.{Frame};
-ghost use Rattle.frames.specs.Write.{headBytes, submissionStart, padded, stationWritten, writtenOf, submissionFrom, frameFrom, writeOf};
+ghost use Rattle.frames.specs.Write.{headBytes, submissionStart, padded, counted, stationWritten, writtenOf, submissionFrom, frameFrom, writeOf};
 
 // The bytes of a frame, and how many of them are used.
 pub struct Written {
-    pub bytes: [u8; 28],
+    pub bytes: [u8; shape::LONGEST],
     pub count: usize,
 }
 
@@ -36,56 +40,66 @@ pub struct Writing {
 }
 
 // Length and kind, and zeros.
-fn head_bytes(length: u16, kind: u16) -> [u8; 28]
-    ensures { λ r. ⌜ r ≡ padded (headBytes length kind) ⌝ }
+fn head_bytes(kind: u16) -> [u8; shape::LONGEST]
+    ensures { λ r. ⌜ r ≡ padded (headBytes kind) ⌝ }
 {
-    with_two(with_two([0; 28], 0, length), 2, kind)
+    let mut bytes = [0; shape::LONGEST];
+    put_two(&mut bytes, shape::AT_LENGTH, length_of(kind));
+    put_two(&mut bytes, shape::AT_KIND, kind);
+    bytes
+}
+
+// These bytes, with the count that a frame of this kind uses.
+fn counted(kind: u16, bytes: [u8; shape::LONGEST]) -> Written
+    ensures { λ r. ⌜ r ≡ counted kind bytes ⌝ }
+{
+    Written {
+        bytes: bytes,
+        count: size_of(length_of(kind)),
+    }
 }
 
 // An opening, written.
 fn write_open(places: u16, limit: u32) -> Written
     ensures { λ r. ⌜ r ≡ writtenOf (Frame.Open places limit) ⌝ }
 {
-    Written {
-        bytes: with_four(with_two(head_bytes(8, 1), 4, places), 6, limit),
-        count: 10,
-    }
+    let mut bytes = head_bytes(shape::KIND_OPEN);
+    put_two(&mut bytes, shape::AT_PLACES, places);
+    put_four(&mut bytes, shape::AT_LIMIT, limit);
+    counted(shape::KIND_OPEN, bytes)
 }
 
 // The bytes of a submission up to its grade.
-fn submission_start(s: Submission) -> [u8; 28]
+fn submission_start(s: Submission) -> [u8; shape::LONGEST]
     ensures { λ r. ⌜ r ≡ padded (submissionStart s) ⌝ }
 {
-    let mut bytes = head_bytes(26, 2);
-    bytes[4] = s.station;
-    bytes[5] = s.kind;
-    with_two(bytes, 6, s.grade)
+    let mut bytes = head_bytes(shape::KIND_SUBMIT);
+    put_one(&mut bytes, shape::AT_STATION, s.station);
+    put_one(&mut bytes, shape::AT_CALL, s.kind);
+    put_two(&mut bytes, shape::AT_GRADE, s.grade);
+    bytes
 }
 
 // A submission, written.
 fn write_submission(s: Submission) -> Written
     ensures { λ r. ⌜ r ≡ writtenOf (Frame.Submit s) ⌝ }
 {
-    let weighed = with_signed(submission_start(s), 8, s.weight);
-    let moist = with_signed(weighed, 12, s.moisture);
-    let quick = with_signed(moist, 16, s.speed);
-    let drawn = with_signed(quick, 20, s.draw);
-    Written {
-        bytes: with_four(drawn, 24, s.curve),
-        count: 28,
-    }
+    let mut bytes = submission_start(s);
+    put_signed(&mut bytes, shape::AT_WEIGHT, s.weight);
+    put_signed(&mut bytes, shape::AT_MOISTURE, s.moisture);
+    put_signed(&mut bytes, shape::AT_SPEED, s.speed);
+    put_signed(&mut bytes, shape::AT_DRAW, s.draw);
+    put_four(&mut bytes, shape::AT_CURVE, s.curve);
+    counted(shape::KIND_SUBMIT, bytes)
 }
 
 // A frame of a station alone, written.
 fn write_station(kind: u16, station: u8) -> Written
     ensures { λ r. ⌜ r ≡ stationWritten kind station ⌝ }
 {
-    let mut bytes = head_bytes(3, kind);
-    bytes[4] = station;
-    Written {
-        bytes: bytes,
-        count: 5,
-    }
+    let mut bytes = head_bytes(kind);
+    put_one(&mut bytes, shape::AT_STATION, station);
+    counted(kind, bytes)
 }
 
 // Writes a frame.
@@ -95,10 +109,10 @@ pub fn write_frame(frame: Frame) -> Written
     match frame {
         Frame::Open { places, limit } => write_open(places, limit),
         Frame::Submit(submission) => write_submission(submission),
-        Frame::Step { station } => write_station(3, station),
-        Frame::Take { station } => write_station(4, station),
-        Frame::Run { station } => write_station(5, station),
-        Frame::Withdraw { station } => write_station(8, station),
+        Frame::Step { station } => write_station(shape::KIND_STEP, station),
+        Frame::Take { station } => write_station(shape::KIND_TAKE, station),
+        Frame::Run { station } => write_station(shape::KIND_RUN, station),
+        Frame::Withdraw { station } => write_station(shape::KIND_WITHDRAW, station),
     }
 }
 
@@ -118,23 +132,23 @@ fn submission_from(fields: Fields) -> Submission
     }
 }
 
-// The frame of a kind with its own of these fields. Any number but 1 to 5 is taken for 8.
+// The frame of a kind with its own of these fields. Any number but the first five kinds is taken for a withdrawal's.
 fn frame_from(kind: u16, fields: Fields) -> Frame
     ensures { λ r. ⌜ r ≡ frameFrom kind fields ⌝ }
 {
     match kind {
-        1 => Frame::Open {
+        shape::KIND_OPEN => Frame::Open {
             places: fields.places,
             limit: fields.limit,
         },
-        2 => Frame::Submit(submission_from(fields)),
-        3 => Frame::Step {
+        shape::KIND_SUBMIT => Frame::Submit(submission_from(fields)),
+        shape::KIND_STEP => Frame::Step {
             station: fields.station,
         },
-        4 => Frame::Take {
+        shape::KIND_TAKE => Frame::Take {
             station: fields.station,
         },
-        5 => Frame::Run {
+        shape::KIND_RUN => Frame::Run {
             station: fields.station,
         },
         _ => Frame::Withdraw {
@@ -143,7 +157,7 @@ fn frame_from(kind: u16, fields: Fields) -> Frame
     }
 }
 
-// Writes the frame of a kind with its own of these fields; 14 for a kind that is none.
+// Writes the frame of a kind with its own of these fields; a refusal for a kind that is none.
 pub fn write_fields(kind: u16, fields: Fields) -> Writing
     ensures { λ r. ⌜ r ≡ writeOf kind fields ⌝ }
 {
@@ -154,9 +168,9 @@ pub fn write_fields(kind: u16, fields: Fields) -> Writing
         }
     } else {
         Writing {
-            number: 14,
+            number: shape::NO_KIND,
             written: Written {
-                bytes: [0; 28],
+                bytes: [0; shape::LONGEST],
                 count: 0,
             },
         }

@@ -16,17 +16,17 @@ four-at-requires c κs = search needs
 submission-in-requires : tie.Need-submission-in-requires
 submission-in-requires c κs = search needs
 
-byte-at-requires : tie.Need-byte-at-requires
-byte-at-requires c κs = search needs
+one-at-requires : tie.Need-one-at-requires
+one-at-requires c κs = search needs
 
-byte-at-requires-2 : tie.Need-byte-at-requires-2
-byte-at-requires-2 c κs = search needs
+one-at-requires-2 : tie.Need-one-at-requires-2
+one-at-requires-2 c κs = search needs
 
-byte-at-requires-3 : tie.Need-byte-at-requires-3
-byte-at-requires-3 c κs = search needs
+one-at-requires-3 : tie.Need-one-at-requires-3
+one-at-requires-3 c κs = search needs
 
-byte-at-requires-4 : tie.Need-byte-at-requires-4
-byte-at-requires-4 c κs = search needs
+one-at-requires-4 : tie.Need-one-at-requires-4
+one-at-requires-4 c κs = search needs
 
 returns : tie.Need-returns
 unfolding frameIn
@@ -38,21 +38,21 @@ returns-2 c = rw (c .before .match .keys2) (ap Submit (c .submission-in .ensures
 
 returns-3 : tie.Need-returns-3
 unfolding frameIn
-returns-3 c = rw (c .before .match .keys3) (ap Step (c .byte-at .ensures))
+returns-3 c = rw (c .before .match .keys3) (ap Step (c .one-at .ensures))
 
 returns-4 : tie.Need-returns-4
 unfolding frameIn
-returns-4 c = rw (c .before .match .keys4) (ap Take (c .byte-at2 .ensures))
+returns-4 c = rw (c .before .match .keys4) (ap Take (c .one-at2 .ensures))
 
 returns-5 : tie.Need-returns-5
 unfolding frameIn
-returns-5 c = rw (c .before .match .keys5) (ap Run (c .byte-at3 .ensures))
+returns-5 c = rw (c .before .match .keys5) (ap Run (c .one-at3 .ensures))
 
 returns-6 : tie.Need-returns-6
 unfolding frameIn
 returns-6 c =
     let r = c .before .match .rest in
-    simp (ne-eqb _ _ (r .0 .0 .0 .0 .1), ne-eqb _ _ (r .0 .0 .0 .1), ne-eqb _ _ (r .0 .0 .1), ne-eqb _ _ (r .0 .1), ne-eqb _ _ (r .1)) (ap Withdraw (c .byte-at4 .ensures))
+    simp (ne-eqb _ _ (r .0 .0 .0 .0 .1), ne-eqb _ _ (r .0 .0 .0 .1), ne-eqb _ _ (r .0 .0 .1), ne-eqb _ _ (r .0 .1), ne-eqb _ _ (r .1)) (ap Withdraw (c .one-at4 .ensures))
 
 pub frame-in-spec : {M : Type 1} → statement M
 frame-in-spec =
@@ -61,10 +61,10 @@ frame-in-spec =
     two-at-requires
     four-at-requires
     submission-in-requires
-    byte-at-requires
-    byte-at-requires-2
-    byte-at-requires-3
-    byte-at-requires-4
+    one-at-requires
+    one-at-requires-2
+    one-at-requires-3
+    one-at-requires-4
     returns
     returns-2
     returns-3

@@ -4,7 +4,7 @@ use Rattle.frames.proofs.read.read_rest.Statement.{statement}
 use Rattle.frames.proofs.read.read_rest.Tie as tie
 use native.Mathlib.Omega.{arith}
 use borrow.Author.Tests.{eq-eqb, ne-eqb}
-use mathlib.Core.Path.{sym, ap, _∙_}
+use mathlib.Core.Path.{sym, _∙_}
 use denote.Ref.{now}
 use Rattle.frames.proofs.QuestionLaws.{read-by-number, none-failed-whole, whole-there}
 
@@ -14,18 +14,15 @@ frame-question-requires c κs = search needs
 two-at-requires : tie.Need-two-at-requires
 two-at-requires c κs = search needs
 
-pair-as-count-requires : tie.Need-pair-as-count-requires
-pair-as-count-requires c κs = search needs
+size-of-requires : tie.Need-size-of-requires
+size-of-requires c κs = search needs
 
 add-next : tie.Need-add-next
-add-next c = search needs
-
-add-next-2 : tie.Need-add-next-2
-add-next-2 c =
+add-next c =
     let q = c .before .before .before in
     let rest = now (q .before .before .args .rest) in
     let there = whole-there rest (none-failed-whole rest (sym (q .frame-question .ensures) ∙ c .before .before .if1 .taken)) in
-    omega (arith, c .pair-as-count .ensures, c .before .two-at .ensures)
+    omega (arith, c .size-of .ensures, c .before .two-at .ensures)
 
 two-at-requires-2 : tie.Need-two-at-requires-2
 two-at-requires-2 c κs = search needs
@@ -45,9 +42,8 @@ read-rest-spec =
     (tie.spec
     frame-question-requires
     two-at-requires
-    pair-as-count-requires
+    size-of-requires
     add-next
-    add-next-2
     two-at-requires-2
     frame-in-requires
     returns

@@ -5,11 +5,11 @@ use Rattle.frames.proofs.read.submission_in.Tie as tie
 use Rattle.points.proofs.MachineLaws.{passed}
 use Rattle.frames.specs.Read.{submissionIn}
 
-byte-at-requires : tie.Need-byte-at-requires
-byte-at-requires c κs = search needs
+one-at-requires : tie.Need-one-at-requires
+one-at-requires c κs = search needs
 
-byte-at-requires-2 : tie.Need-byte-at-requires-2
-byte-at-requires-2 c κs = search needs
+one-at-requires-2 : tie.Need-one-at-requires-2
+one-at-requires-2 c κs = search needs
 
 two-at-requires : tie.Need-two-at-requires
 two-at-requires c κs = search needs
@@ -34,8 +34,8 @@ unfolding submissionIn
 returns c =
     let a = c .before .before .before .before in
     λ i. record {
-      station = a .before .before .before .byte-at .ensures i;
-      kind = a .before .before .byte-at2 .ensures i;
+      station = a .before .before .before .one-at .ensures i;
+      kind = a .before .before .one-at2 .ensures i;
       grade = a .before .two-at .ensures i;
       weight = passed (a .signed-at .ensures) (a .signed-at .ok) i;
       moisture = passed (c .before .before .before .signed-at2 .ensures) (c .before .before .before .signed-at2 .ok) i;
@@ -48,8 +48,8 @@ pub submission-in-spec : {M : Type 1} → statement M
 submission-in-spec =
     tie.close
     (tie.spec
-    byte-at-requires
-    byte-at-requires-2
+    one-at-requires
+    one-at-requires-2
     two-at-requires
     signed-at-requires
     signed-at-requires-2

@@ -2,7 +2,8 @@
 use borrow.Author.Needs.{needs}
 use Rattle.frames.proofs.write.write_frame.Statement.{statement}
 use Rattle.frames.proofs.write.write_frame.Tie as tie
-use Rattle.frames.specs.Write.{frameBytes, stationWritten, writtenOf}
+use Rattle.numbers.specs.Bytes.{bytesOf}
+use Rattle.frames.specs.Write.{headBytes, frameBytes, writtenBytes, counted, stationWritten, writtenOf}
 
 enum-known-frame : tie.Need-enum-known-frame
 enum-known-frame c = search needs
@@ -47,19 +48,19 @@ returns-2 : tie.Need-returns-2
 returns-2 c = rw (c .before .before .frame2 .given .1) (c .write-submission .ensures)
 
 returns-3 : tie.Need-returns-3
-unfolding writtenOf stationWritten frameBytes
+unfolding writtenOf writtenBytes stationWritten counted frameBytes headBytes bytesOf
 returns-3 c = rw (c .before .before .frame3 .given .1) (c .write-station .ensures)
 
 returns-4 : tie.Need-returns-4
-unfolding writtenOf stationWritten frameBytes
+unfolding writtenOf writtenBytes stationWritten counted frameBytes headBytes bytesOf
 returns-4 c = rw (c .before .before .frame4 .given .1) (c .write-station2 .ensures)
 
 returns-5 : tie.Need-returns-5
-unfolding writtenOf stationWritten frameBytes
+unfolding writtenOf writtenBytes stationWritten counted frameBytes headBytes bytesOf
 returns-5 c = rw (c .before .before .frame5 .given .1) (c .write-station3 .ensures)
 
 returns-6 : tie.Need-returns-6
-unfolding writtenOf stationWritten frameBytes
+unfolding writtenOf writtenBytes stationWritten counted frameBytes headBytes bytesOf
 returns-6 c = rw (c .before .before .frame6 .given .1) (c .write-station4 .ensures)
 
 pub write-frame-spec : {M : Type 1} → statement M

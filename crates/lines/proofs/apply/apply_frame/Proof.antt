@@ -1,0 +1,164 @@
+-- `lines::apply::apply_frame` meets its contract. Assumes nothing.
+use borrow.Author.Needs.{needs}
+use Rattle.lines.proofs.apply.apply_frame.Statement.{statement}
+use Rattle.lines.proofs.apply.apply_frame.Tie as tie
+use mathlib.Core.Path.{_≡_, ap}
+use Rattle.calls.specs.Reply.{Reply}
+use Rattle.calls.specs.Open.{openOf}
+use Rattle.lines.specs.declared.apply.Applied.the-variants.{Number}
+use Rattle.lines.specs.Apply.{applyOf, applyWords}
+use mathlib.Core.Path.{_∙_}
+use Prim.Native.Nat.{ℕ}
+use denote.Ref.{now}
+use Rattle.calls.specs.Step.{stepOf}
+use Rattle.calls.specs.Run.{runOf}
+use Rattle.calls.specs.Withdraw.{withdrawOf}
+
+enum-known-frame : tie.Need-enum-known-frame
+enum-known-frame c = search needs
+
+pair-as-word-requires : tie.Need-pair-as-word-requires
+pair-as-word-requires c κs = search needs
+
+open-requires : tie.Need-open-requires
+open-requires c κs = search needs
+
+enum-known-frame-2 : tie.Need-enum-known-frame-2
+enum-known-frame-2 c = search needs
+
+submit-all-requires : tie.Need-submit-all-requires
+submit-all-requires c κs = search needs
+
+enum-known-frame-3 : tie.Need-enum-known-frame-3
+enum-known-frame-3 c = search needs
+
+byte-as-word-requires : tie.Need-byte-as-word-requires
+byte-as-word-requires c κs = search needs
+
+step-requires : tie.Need-step-requires
+step-requires c κs = search needs
+
+enum-known-frame-4 : tie.Need-enum-known-frame-4
+enum-known-frame-4 c = search needs
+
+byte-as-word-requires-2 : tie.Need-byte-as-word-requires-2
+byte-as-word-requires-2 c κs = search needs
+
+take-requires : tie.Need-take-requires
+take-requires c κs = search needs
+
+applied-of-requires : tie.Need-applied-of-requires
+applied-of-requires c κs = search needs
+
+enum-known-frame-5 : tie.Need-enum-known-frame-5
+enum-known-frame-5 c = search needs
+
+byte-as-word-requires-3 : tie.Need-byte-as-word-requires-3
+byte-as-word-requires-3 c κs = search needs
+
+run-requires : tie.Need-run-requires
+run-requires c κs = search needs
+
+enum-known-frame-6 : tie.Need-enum-known-frame-6
+enum-known-frame-6 c = search needs
+
+byte-as-word-requires-4 : tie.Need-byte-as-word-requires-4
+byte-as-word-requires-4 c κs = search needs
+
+withdraw-requires : tie.Need-withdraw-requires
+withdraw-requires c κs = search needs
+
+same-length : tie.Need-same-length
+same-length c = search needs
+
+returns : tie.Need-returns
+unfolding applyOf applyWords
+returns c =
+    let f = c .before .before .before .before .before .before .frame in
+    let words = now (c .before .before .before .before .before .before .before .before .before .args .words) in
+    let e = c .before .before .«open» .ensures ∙ ap (λ (places : ℕ). openOf words places (f .given .0 .1 .0)) (c .before .before .before .pair-as-word .ensures) in
+    rw (f .given .1) (ap (λ (r : Reply). Number (r .number)) e, ap (λ (r : Reply). r .words) e)
+
+same-length-2 : tie.Need-same-length-2
+same-length-2 c = search needs
+
+returns-2 : tie.Need-returns-2
+unfolding applyOf applyWords
+returns-2 c =
+    let e = c .before .before .submit-all .ensures in
+    rw (c .before .before .before .before .before .frame2 .given .1) (ap (λ (r : Reply). Number (r .number)) e, ap (λ (r : Reply). r .words) e)
+
+same-length-3 : tie.Need-same-length-3
+same-length-3 c = search needs
+
+returns-3 : tie.Need-returns-3
+unfolding applyOf applyWords
+returns-3 c =
+    let f = c .before .before .before .before .before .before .frame3 in
+    let words = now (c .before .before .before .before .before .before .before .before .before .args .words) in
+    let e = c .before .before .step .ensures ∙ ap (stepOf words) (c .before .before .before .byte-as-word .ensures) in
+    rw (f .given .1) (ap (λ (r : Reply). Number (r .number)) e, ap (λ (r : Reply). r .words) e)
+
+same-length-4 : tie.Need-same-length-4
+same-length-4 c = search needs
+
+returns-4 : tie.Need-returns-4
+unfolding applyOf applyWords
+returns-4 c = rw (c .before .before .before .before .before .before .before .frame4 .given .1) (cc, cc)
+
+same-length-5 : tie.Need-same-length-5
+same-length-5 c = search needs
+
+returns-5 : tie.Need-returns-5
+unfolding applyOf applyWords
+returns-5 c =
+    let f = c .before .before .before .before .before .before .frame5 in
+    let words = now (c .before .before .before .before .before .before .before .before .before .args .words) in
+    let e = c .before .before .run .ensures ∙ ap (runOf words) (c .before .before .before .byte-as-word3 .ensures) in
+    rw (f .given .1) (ap (λ (r : Reply). Number (r .number)) e, ap (λ (r : Reply). r .words) e)
+
+same-length-6 : tie.Need-same-length-6
+same-length-6 c = search needs
+
+returns-6 : tie.Need-returns-6
+unfolding applyOf applyWords
+returns-6 c =
+    let f = c .before .before .before .before .before .before .frame6 in
+    let words = now (c .before .before .before .before .before .before .before .before .before .args .words) in
+    let e = c .before .before .withdraw .ensures ∙ ap (withdrawOf words) (c .before .before .before .byte-as-word4 .ensures) in
+    rw (f .given .1) (ap (λ (r : Reply). Number (r .number)) e, ap (λ (r : Reply). r .words) e)
+
+pub apply-frame-spec : {M : Type 1} → statement M
+apply-frame-spec =
+    tie.close
+    (tie.spec
+    enum-known-frame
+    pair-as-word-requires
+    open-requires
+    enum-known-frame-2
+    submit-all-requires
+    enum-known-frame-3
+    byte-as-word-requires
+    step-requires
+    enum-known-frame-4
+    byte-as-word-requires-2
+    take-requires
+    applied-of-requires
+    enum-known-frame-5
+    byte-as-word-requires-3
+    run-requires
+    enum-known-frame-6
+    byte-as-word-requires-4
+    withdraw-requires
+    same-length
+    returns
+    same-length-2
+    returns-2
+    same-length-3
+    returns-3
+    same-length-4
+    returns-4
+    same-length-5
+    returns-5
+    same-length-6
+    returns-6)
