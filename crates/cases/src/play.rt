@@ -1,4 +1,6 @@
-// A case is run: its rows in turn, or two actors in every order, and its line is printed.
+// The cases of a text are run: of each its rows in turn, or two parties in every order, and its line is printed.
+use crate::parts::end_from;
+use crate::parts::start_from;
 use crate::tally::end_case;
 use contests::contest::contests;
 use contests::hindered;
@@ -18,27 +20,27 @@ use plain_list::verdict::tried;
 use trial::random::seed;
 
 // A random history on the index as it is.
-fn busy(words: &mut [u32], spare: &mut [u32], book: &mut [u64], n: [u32; 9]) {
+fn busy(words: &mut [u32], copied: &mut [u32], book: &mut [u64], n: [u32; 9]) {
     seed(book, 2026);
-    events(words, spare, book, plan_of(n));
+    events(words, copied, book, plan_of(n));
 }
 
 // What a row asks for: h random histories of a plan, b one on the index as it is, x a stair, y every axis at its ends, v contests; l, m and p what
 // the line tells: the longest stretch, the most own steps of a search, their greatest share; a capital letter for a call on the index alone, and
 // any other for an event on the index and on the plain table.
-fn perform(words: &mut [u32], spare: &mut [u32], book: &mut [u64], row: Row) {
+fn perform(words: &mut [u32], copied: &mut [u32], book: &mut [u64], row: Row) {
     let n = row.n;
     let letter = row.letter;
     match letter {
-        b'h' => histories(words, spare, book, plan_of(n)),
-        b'b' => busy(words, spare, book, n),
+        b'h' => histories(words, copied, book, plan_of(n)),
+        b'b' => busy(words, copied, book, n),
         b'x' => build(words, book, n[0] == 1),
-        b'y' => raw::ends(words, spare, book),
+        b'y' => raw::ends(words, copied, book),
         b'v' => contests(words, book, n),
         b'l' => stretch::tell(book),
         b'm' => own::tell(book),
         b'p' => own::tell_share(book),
-        b'A'..=b'Z' => raw::judged(words, spare, book, row),
+        b'A'..=b'Z' => raw::judged(words, copied, book, row),
         _ => counted(words, book, row),
     }
 }
@@ -57,29 +59,58 @@ fn counted(words: &mut [u32], book: &mut [u64], row: Row) {
 }
 
 // Every row of a case.
-fn rows(words: &mut [u32], spare: &mut [u32], book: &mut [u64], text: &[u8]) {
+fn rows(words: &mut [u32], copied: &mut [u32], book: &mut [u64], text: &[u8]) {
     for k in 0..200u32 {
         let row = row_of(text, 2, k);
         if row.letter == 0 {
             return;
         }
-        perform(words, spare, book, row);
+        perform(words, copied, book, row);
     }
 }
 
-// The rows of a case in turn, or, where it has two actors, in every order.
-fn run_rows(words: &mut [u32], spare: &mut [u32], book: &mut [u64], text: &[u8]) {
-    let actor = row_of(text, 3, 0);
-    if actor.letter == 0 {
-        rows(words, spare, book, text);
+// The rows of a case in turn, or, where it has two parties, in every order.
+fn run_rows(words: &mut [u32], copied: &mut [u32], book: &mut [u64], text: &[u8]) {
+    let party = row_of(text, 3, 0);
+    if party.letter == 0 {
+        rows(words, copied, book, text);
     } else {
         every_order(words, book, text);
     }
 }
 
 // A case, from its text.
-pub fn run_case(words: &mut [u32], spare: &mut [u32], book: &mut [u64], text: &[u8]) {
+fn run_case(words: &mut [u32], copied: &mut [u32], book: &mut [u64], text: &[u8]) {
     begin_case(book);
-    run_rows(words, spare, book, text);
+    run_rows(words, copied, book, text);
     end_case(book, text);
+}
+
+// The case from one offset to another.
+fn run_part(
+    words: &mut [u32],
+    copied: &mut [u32],
+    book: &mut [u64],
+    text: &[u8],
+    start: usize,
+    end: usize,
+) {
+    if start <= end {
+        if end <= text.len() {
+            run_case(words, copied, book, &text[start..end]);
+        }
+    }
+}
+
+// Every case of a text.
+pub fn run_cases(words: &mut [u32], copied: &mut [u32], book: &mut [u64], text: &[u8]) {
+    let mut from = 0;
+    for k in 0..48u32 {
+        let start = start_from(text, from);
+        if text.len() <= start {
+            return;
+        }
+        from = end_from(text, start);
+        run_part(words, copied, book, text, start, from);
+    }
 }

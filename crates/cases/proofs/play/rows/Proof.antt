@@ -6,10 +6,10 @@ use lib.ListN.{length}
 use Prim.Native.Nat.{_-_}
 
 abbrev Inv-loop : tie.InvT-loop
-Inv-loop words₀ spare₀ book₀ text k₀ words spare book k = (length words ≡ length words₀) × (length spare ≡ length spare₀) × (length book ≡ length book₀)
+Inv-loop words₀ copied₀ book₀ text k₀ words copied book k = (length words ≡ length words₀) × (length copied ≡ length copied₀) × (length book ≡ length book₀)
 
 abbrev μ-loop : tie.MeasureT-loop
-μ-loop words₀ spare₀ book₀ text k₀ words spare book k = 200 - k
+μ-loop words₀ copied₀ book₀ text k₀ words copied book k = 200 - k
 
 loop-holds : tie.Need-loop-holds Inv-loop μ-loop
 loop-holds c = search needs
