@@ -42,3 +42,9 @@ unfoldable pub openOf : List ℕ → ℕ → ℕ → Reply
 openOf words places limit =
     ask (placesIn places) badPlaces words
     (ask (limitIn limit) badLimit words (ask (leb (wordsFor places) (length words)) shortSlice words (done (openedWords words places limit))))
+
+-- ---- for the code: the questions as one number (`open-settled` of `proofs/Questions` says that it is the same)
+
+-- the first of questions 1 to 3 that the opening fails, or 0
+unfoldable pub openQuestion : List ℕ → ℕ → ℕ → ℕ
+openQuestion words places limit = cond (placesIn places) (cond (limitIn limit) (cond (leb (wordsFor places) (length words)) 0 shortSlice) badLimit) badPlaces

@@ -20,7 +20,7 @@ ghost use mathlib.Core.Path.{_≡_};
 ghost use Prim.Native.Nat.{_≤_};
 ghost use Rattle.words.specs.Layout.{stations, mostPlaces};
 ghost use Rattle.calls.specs.Reply.{replied};
-ghost use Rattle.calls.specs.Open.{tracksCleared, rowsSpare, newCounts, headWords, openedWords, openOf};
+ghost use Rattle.calls.specs.Open.{tracksCleared, rowsSpare, newCounts, headWords, openedWords, openQuestion, openOf};
 
 // No station has a call.
 fn clear_tracks(words: &mut [u32])
@@ -87,19 +87,22 @@ fn open_words(words: &mut [u32], places: u32, limit: u32)
     spare_rows(words, 2 * places);
 }
 
-// Opens the slice, or gives the number of the first question that the call fails: 1, 2 or 3.
+// The first of questions 1 to 3 that the opening fails, or 0.
+fn open_question(words: &[u32], places: u32, limit: u32) -> u32
+    ensures { λ r. ⌜ r ≡ openQuestion (now (words .entry)) places limit ⌝ }
+{
+    let third = pick(words_for(places) <= words.len(), 0, SHORT_SLICE);
+    let second = pick(limit_in(limit), third, BAD_LIMIT);
+    pick(places_in(places), second, BAD_PLACES)
+}
+
+// Opens the slice, or gives the number of the first question that the call fails: 1, 2 or 3; then no word changes.
 pub fn open(words: &mut [u32], places: u32, limit: u32) -> u32
     ensures { λ r. ⌜ replied r (now (words .exit)) ≡ openOf (now (words .entry)) places limit ⌝ }
 {
-    if !places_in(places) {
-        return BAD_PLACES;
+    let number = open_question(words, places, limit);
+    if number == 0 {
+        open_words(words, places, limit);
     }
-    if !limit_in(limit) {
-        return BAD_LIMIT;
-    }
-    if words.len() < words_for(places) {
-        return SHORT_SLICE;
-    }
-    open_words(words, places, limit);
-    0
+    number
 }
