@@ -20,7 +20,7 @@ fn whole_queue(words: &[u32], l: Queued) -> bool
 }
 
 // Whether tree and queue are sound, and are all the rows.
-pub fn all_rows(words: &[u32], t: Count, l: Queued) -> bool
+pub(crate) fn all_rows(words: &[u32], t: Count, l: Queued) -> bool
     ensures { λ r. ⌜ r ≡ allRows (now (words .entry)) t l ⌝ }
 {
     t.sound & whole_queue(words, l) & (plus(tree_rows(t.leaves), l.rows) == rows_in(words))

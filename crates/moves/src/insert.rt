@@ -34,7 +34,8 @@ use words::word::pick;
 ghost use mathlib.Core.Path.{_≡_};
 ghost use Rattle.words.specs.Layout.{stations};
 ghost use Rattle.calls.specs.Reply.{replied};
-ghost use Rattle.calls.specs.Insert.{siteAt, siteSound, newLeaf, cutWith, putCut, insertRows, insertHead, insertRoot, countInserted, insertCounts, cursorTo, cursorMoved, cursorsMoved, insertWords, insertOf};
+ghost use Rattle.calls.specs.Insert.{siteAt, siteSound, newLeaf, cutWith, putCut, insertRows, insertHead, insertRoot};
+ghost use Rattle.calls.specs.Insert.{countInserted, insertCounts, cursorTo, cursorMoved, cursorsMoved, insertWords, insertOf};
 
 // Reads the rows. Where there is no leaf no second free row is needed, and reading at `NONE` gives a bad row.
 fn gather(words: &[u32], rows: u32, at: u32) -> Site

@@ -16,7 +16,7 @@ pub struct Compared {
 }
 
 // The order of two points on one axis.
-pub fn by_axis(a: Point, b: Point, axis: u32) -> Order
+pub(crate) fn by_axis(a: Point, b: Point, axis: u32) -> Order
     ensures { λ r. ⌜ r ≡ byAxis a b axis ⌝ }
 {
     let x = a.coordinate(axis);
@@ -31,7 +31,7 @@ pub fn by_axis(a: Point, b: Point, axis: u32) -> Order
 }
 
 // The order of two points. The comparison ends at the first axis that differs.
-pub fn compare(a: Point, b: Point) -> Compared
+pub(crate) fn compare(a: Point, b: Point) -> Compared
     ensures { λ r. ⌜ r ≡ comparedOf a b ⌝ }
 {
     let mut looked = 1;
@@ -60,7 +60,7 @@ pub fn tie(a: Point, b: Point) -> Order
 }
 
 impl Order {
-    pub fn is_less(self) -> bool
+    pub(crate) fn is_less(self) -> bool
         ensures { λ r. ⌜ r ≡ isLess self ⌝ }
     {
         match self {
@@ -70,7 +70,7 @@ impl Order {
         }
     }
 
-    pub fn is_equal(self) -> bool
+    pub(crate) fn is_equal(self) -> bool
         ensures { λ r. ⌜ r ≡ isEqual self ⌝ }
     {
         match self {

@@ -33,7 +33,7 @@ pub fn apart(x: i32, y: i32) -> u64
 }
 
 // The square of how far apart two numbers lie.
-pub fn squared_apart(x: i32, y: i32) -> u64
+pub(crate) fn squared_apart(x: i32, y: i32) -> u64
     ensures { λ r. ⌜ r ≡ natAbs (x -ℤ y) * natAbs (x -ℤ y) ⌝ }
 {
     let d = apart(x, y);
@@ -41,7 +41,7 @@ pub fn squared_apart(x: i32, y: i32) -> u64
 }
 
 // The sum of two numbers, which stops at the least and at the greatest `i32`.
-pub fn capped_sum(x: i32, y: i32) -> i32
+pub(crate) fn capped_sum(x: i32, y: i32) -> i32
     ensures { λ r. ⌜ r ≡ cappedOf (x +ℤ y) ⌝ }
 {
     let sum = extended(x) + extended(y);

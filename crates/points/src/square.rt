@@ -7,7 +7,7 @@ ghost use Prim.Native.Nat.{_+_, _*_};
 ghost use Rattle.points.specs.Square.{gapOf, topped, squareOf};
 
 // How far apart two points lie on an axis.
-pub fn gap(a: Point, b: Point, axis: u32) -> u64
+pub(crate) fn gap(a: Point, b: Point, axis: u32) -> u64
     ensures { λ r. ⌜ r ≡ gapOf a b axis ⌝ }
 {
     apart(a.coordinate(axis), b.coordinate(axis))
