@@ -1,4 +1,4 @@
-// The cases, each a part of a text: its name, what it counts, and its rows. `raw` says what the capital letters mean, `script` and `play` the small
+// The cases, each a part of a text: its name, what it counts, and its items. `raw` says what the capital letters mean, `script` and `play` the small
 // ones, and `parts` how the cases of a text and the remarks between them are told apart.
 // Kinds of calls are document 01's: 1 add, 2 remove, 3 contains, 4 nearest.
 use crate::play::run_cases;
@@ -24,14 +24,13 @@ pub fn calls(words: &mut [u32], copied: &mut [u32], book: &mut [u64]) {
     );
 }
 
-// Every refusal.
+// Refusals of openings and submissions, and those of any call.
 pub fn refusals(words: &mut [u32], copied: &mut [u32], book: &mut [u64]) {
     run_cases(
         words,
         copied,
         book,
         b"
-        # Refusals of openings and of any call.
         # Each with the later questions failing as well.
         =refusals 1, 2 and 3|calls|
         O 0 0 0 0 0 1; O 672 5000 0 0 0 1; O 672 3 0 0 0 2; O 672 3 10 0 0 3;
@@ -57,8 +56,17 @@ pub fn refusals(words: &mut [u32], copied: &mut [u32], book: &mut [u64]) {
         # Kind, point and curve, the later ones wrong as well. A contains disregards the curve.
         =refusals 7, 8 and 9|calls|
         O 672 2 10 0 0 0; S 672 0 0 200000 0 7; S 672 0 5 8000 41 7; S 672 0 1 100001 0 8; S 672 0 4 100001 41 8;
-        S 672 0 1 8000 0 9; S 672 0 1 8000 1000000 9; S 672 0 3 8000 1000000 0;
-        # Refusals of steps and takings, and the audit.
+        S 672 0 1 8000 0 9; S 672 0 1 8000 1000000 9; S 672 0 3 8000 1000000 0;",
+    );
+}
+
+// Refusals of steps and takings, and the audit.
+pub fn step_refusals(words: &mut [u32], copied: &mut [u32], book: &mut [u64]) {
+    run_cases(
+        words,
+        copied,
+        book,
+        b"
         # The station is idle, and an answer is waiting.
         =refusal 10|calls|
         O 672 2 10 0 0 0; T 672 0 0 0 0 10; R 672 0 0 0 0 10; S 672 0 4 8000 0 0; R 672 0 0 0 0 0; T 672 0 0 0 0 10;
@@ -87,8 +95,17 @@ pub fn refusals(words: &mut [u32], copied: &mut [u32], book: &mut [u64]) {
         W 672 617 0 0 0 0; A 672 0 0 0 0 1; W 672 617 41 0 0 0;
         W 672 658 1 0 0 0; A 672 0 0 0 0 1; W 672 658 0 0 0 0;
         W 672 5 0 0 0 0; W 672 609 4294967295 0 0 0; W 672 641 2 0 0 0; W 672 646 2 0 0 0; A 672 0 0 0 0 1;
-        W 672 5 2 0 0 0; W 672 609 2 0 0 0; W 672 641 4294967295 0 0 0; W 672 646 0 0 0 0; A 672 0 0 0 0 0;
-        # Refusals of frames.
+        W 672 5 2 0 0 0; W 672 609 2 0 0 0; W 672 641 4294967295 0 0 0; W 672 646 0 0 0 0; A 672 0 0 0 0 0;",
+    );
+}
+
+// Refusals of frames.
+pub fn frame_refusals(words: &mut [u32], copied: &mut [u32], book: &mut [u64]) {
+    run_cases(
+        words,
+        copied,
+        book,
+        b"
         # A length byte and a byte that it counts not there; no kind, and kinds 0, 6, 7, 9 and 65,535; another kind's length; the later questions
           failing as well. The last four frames are whole, and their calls are refused.
         =refusals 13, 14 and 15|frames|
@@ -133,8 +150,17 @@ pub fn stations(words: &mut [u32], copied: &mut [u32], book: &mut [u64]) {
         =a tie while the heavier is removed and added again|orders|
         o 4 100; c 1 1 12 8990 41 41; c 1 1 12 9030 43 43; c 1 1 12 9010 42 42;|
         c 0 4 12 9000; c 0 4 12 9000;|
-        c 5 2 12 9010 0 42; c 5 1 12 9010 44 44;
-        # What two stations met at one point.
+        c 5 2 12 9010 0 42; c 5 1 12 9010 44 44;",
+    );
+}
+
+// What two stations met at one point.
+pub fn one_point(words: &mut [u32], copied: &mut [u32], book: &mut [u64]) {
+    run_cases(
+        words,
+        copied,
+        book,
+        b"
         # Station 2 removes the point again and again, station 1 adds it again and again, with another record beside it.
         =an add while another station removes the point|orders|
         o 3 100; c 0 1 12 9000 40 40; c 0 1 12 8000 41 41;|

@@ -16,7 +16,10 @@ fn main() {
     fill(&mut words, 1515870811);
     cases::calls(&mut words, &mut copied, &mut book);
     cases::refusals(&mut words, &mut copied, &mut book);
+    cases::step_refusals(&mut words, &mut copied, &mut book);
+    cases::frame_refusals(&mut words, &mut copied, &mut book);
     cases::stations(&mut words, &mut copied, &mut book);
+    cases::one_point(&mut words, &mut copied, &mut book);
     withdrawals::run(&mut words, &mut copied, &mut book);
     grades::run(&mut words, &mut copied, &mut book);
     cases::histories(&mut words, &mut copied, &mut book);

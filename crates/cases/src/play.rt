@@ -1,4 +1,4 @@
-// The cases of a text are run: of each its rows in turn, or two parties in every order, and its line is printed.
+// The cases of a text are run: of each its items in turn, or two parties in every order, and its line is printed.
 use crate::parts::end_from;
 use crate::parts::start_from;
 use crate::tally::end_case;
@@ -13,8 +13,8 @@ use paired::script;
 use paired::stairs::build;
 use plain_list::own;
 use plain_list::stretch;
-use plain_list::text::Row;
-use plain_list::text::row_of;
+use plain_list::text::Item;
+use plain_list::text::item_of;
 use plain_list::verdict::begin_case;
 use plain_list::verdict::tried;
 use trial::random::seed;
@@ -25,12 +25,12 @@ fn busy(words: &mut [u32], copied: &mut [u32], book: &mut [u64], n: [u32; 9]) {
     events(words, copied, book, plan_of(n));
 }
 
-// What a row asks for: h random histories of a plan, b one on the index as it is, x a stair, y every axis at its ends, v contests; l, m and p what
+// What an item asks for: h random histories of a plan, b one on the index as it is, x a stair, y every axis at its ends, v contests; l, m and p what
 // the line tells: the longest stretch, the most own steps of a search, their greatest share; a capital letter for a call on the index alone, and
 // any other for an event on the index and on the plain table.
-fn perform(words: &mut [u32], copied: &mut [u32], book: &mut [u64], row: Row) {
-    let n = row.n;
-    let letter = row.letter;
+fn perform(words: &mut [u32], copied: &mut [u32], book: &mut [u64], item: Item) {
+    let n = item.n;
+    let letter = item.letter;
     match letter {
         b'h' => histories(words, copied, book, plan_of(n)),
         b'b' => busy(words, copied, book, n),
@@ -40,40 +40,40 @@ fn perform(words: &mut [u32], copied: &mut [u32], book: &mut [u64], row: Row) {
         b'l' => stretch::tell(book),
         b'm' => own::tell(book),
         b'p' => own::tell_share(book),
-        b'A'..=b'Z' => raw::judged(words, copied, book, row),
-        _ => counted(words, book, row),
+        b'A'..=b'Z' => raw::judged(words, copied, book, item),
+        _ => counted(words, book, item),
     }
 }
 
 // An event of a script, counted; d, q and u are events of a search that is held up.
-fn counted(words: &mut [u32], book: &mut [u64], row: Row) {
-    let n = row.n;
-    let letter = row.letter;
+fn counted(words: &mut [u32], book: &mut [u64], item: Item) {
+    let n = item.n;
+    let letter = item.letter;
     tried(book);
     match letter {
         b'd' => hindered::remove_all(words, book, n[0]),
         b'q' => hindered::steps(words, book, n[0], n[1]),
         b'u' => hindered::hold_up(words, book, n[0], n[1]),
-        _ => script::event(words, book, row),
+        _ => script::event(words, book, item),
     }
 }
 
-// Every row of a case.
-fn rows(words: &mut [u32], copied: &mut [u32], book: &mut [u64], text: &[u8]) {
+// Every item of a case.
+fn items(words: &mut [u32], copied: &mut [u32], book: &mut [u64], text: &[u8]) {
     for k in 0..200u32 {
-        let row = row_of(text, 2, k);
-        if row.letter == 0 {
+        let item = item_of(text, 2, k);
+        if item.letter == 0 {
             return;
         }
-        perform(words, copied, book, row);
+        perform(words, copied, book, item);
     }
 }
 
-// The rows of a case in turn, or, where it has two parties, in every order.
-fn run_rows(words: &mut [u32], copied: &mut [u32], book: &mut [u64], text: &[u8]) {
-    let party = row_of(text, 3, 0);
+// The items of a case in turn, or, where it has two parties, in every order.
+fn run_items(words: &mut [u32], copied: &mut [u32], book: &mut [u64], text: &[u8]) {
+    let party = item_of(text, 3, 0);
     if party.letter == 0 {
-        rows(words, copied, book, text);
+        items(words, copied, book, text);
     } else {
         every_order(words, book, text);
     }
@@ -82,7 +82,7 @@ fn run_rows(words: &mut [u32], copied: &mut [u32], book: &mut [u64], text: &[u8]
 // A case, from its text.
 fn run_case(words: &mut [u32], copied: &mut [u32], book: &mut [u64], text: &[u8]) {
     begin_case(book);
-    run_rows(words, copied, book, text);
+    run_items(words, copied, book, text);
     end_case(book, text);
 }
 

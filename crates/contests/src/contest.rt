@@ -1,7 +1,7 @@
 // Contests: up to three stations search, and five others remove and add at their cursors, beside them and at their targets, by whole calls and by
 // single steps in any order, so that several changes are half done at a time.
-use crate::around::searches;
-use crate::around::submit_change;
+use crate::disturb::searches;
+use crate::disturb::submit_change;
 use crate::stand;
 use paired::drive;
 use paired::history::some_curve;

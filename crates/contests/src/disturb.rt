@@ -1,4 +1,4 @@
-// Changes around a search: another station removes a leaf at its cursor, below it or beside it, or adds a record next to such a leaf or to the
+// Changes that disturb a search: another station removes a leaf at its cursor, below it or beside it, or adds a record next to such a leaf or to the
 // target.
 use crate::contest::Contest;
 use crate::contest::some_record;
@@ -82,8 +82,8 @@ fn some_new(book: &mut [u64], contest: Contest, s: u32, victim: PlainPoint) -> P
     }
 }
 
-// A change around the search of station s is submitted by station t, where a victim was found.
-fn submit_around(
+// A change that disturbs the search of station s is submitted by station t, where a victim was found.
+fn submit_disturbing(
     words: &mut [u32],
     book: &mut [u64],
     contest: Contest,
@@ -113,14 +113,14 @@ pub fn searches(book: &[u64], s: u32) -> bool {
     reference::state(book, s) == reference::UNFINISHED
 }
 
-// A change is submitted by station t: around the search of station s, or an add where that station does not search or the tree is empty.
+// A change is submitted by station t: one that disturbs the search of station s, or an add where that station does not search or the tree is empty.
 pub fn submit_change(words: &mut [u32], book: &mut [u64], contest: Contest, s: u32, t: u32) {
     let victim = some_victim(words, book, s);
     match victim {
         Found::Nothing => submit_add(words, book, contest, t),
         Found::At(p) => {
             if searches(book, s) {
-                submit_around(words, book, contest, s, t, p);
+                submit_disturbing(words, book, contest, s, t, p);
             } else {
                 submit_add(words, book, contest, t);
             }

@@ -1,5 +1,6 @@
 // Where a search stands in the tree, read from the words of the index: a station that would hold it up looks there first.
 use plain_list::book::AT_PLACES;
+use plain_list::book::MOST_PLACES;
 use plain_list::book::PlainPoint;
 use plain_list::book::plain_of;
 use rows::row::Row;
@@ -18,7 +19,11 @@ pub enum Found {
 // The rows of the index under way: two for each place.
 pub fn rows_of(book: &[u64]) -> u32 {
     let places = trial::cells::get(book, AT_PLACES);
-    if places <= 4096 { low(2 * places) } else { 0 }
+    if places <= MOST_PLACES {
+        low(2 * places)
+    } else {
+        0
+    }
 }
 
 // The root.

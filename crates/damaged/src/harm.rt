@@ -4,13 +4,15 @@ use trial::cells::put_word;
 use trial::cells::word;
 use trial::random::below;
 use trial::random::next;
+use words::layout::COMMON_SIZE;
+use words::layout::RECORDS;
 
 // The offset of a word: the common record, a station's record, or a row.
-fn some_offset(book: &mut [u64]) -> usize {
+fn some_offset(book: &mut [u64], length: usize) -> usize {
     match below(book, 4) {
-        0 => below(book, 96) as usize,
-        1 => below(book, 608) as usize,
-        _ => below(book, 800) as usize,
+        0 => below(book, COMMON_SIZE as u64) as usize,
+        1 => below(book, RECORDS as u64) as usize,
+        _ => below(book, length as u64) as usize,
     }
 }
 
@@ -33,7 +35,7 @@ fn flip(k: u32) -> u32 {
 
 // One word of the index is replaced.
 pub fn harm(words: &mut [u32], book: &mut [u64]) {
-    let at = some_offset(book);
+    let at = some_offset(book, words.len());
     let new = harmed(book, word(words, at));
     put_word(words, at, new);
 }

@@ -13,18 +13,20 @@ use trial::cells::get;
 use trial::cells::same;
 use trial::random::below;
 use trial::random::seed;
+use words::layout::RECORDS;
+use words::layout::ROW_SIZE;
 
 // The index of six places, in the middle of a larger slice.
 const START: usize = 100;
 
-const END: usize = 900;
-
-// Where its rows begin.
-const ROWS: usize = 708;
-
-const WHOLE: usize = 1000;
-
 const PLACES: u32 = 6;
+
+// Where its rows begin, and where they end.
+const ROWS: usize = START + RECORDS;
+
+const END: usize = ROWS + 2 * (PLACES as usize) * ROW_SIZE;
+
+const WHOLE: usize = END + START;
 
 const LIMIT: u32 = 60;
 

@@ -1,4 +1,4 @@
-// Calls on the index alone, from the rows of a text: each gives the number that its row says, and a refused one leaves every word. A row has
+// Calls on the index alone, from the items of a text: each gives the number that its item says, and a refused one leaves every word. An item has
 // a capital letter for the call, how many words it is lent, four arguments and the number.
 use crate::framed::framed;
 use audits::audit::audit;
@@ -6,7 +6,7 @@ use audits::report::read_report;
 use openings::open::open;
 use plain_list::book::at_weight;
 use plain_list::book::point_of;
-use plain_list::text::Row;
+use plain_list::text::Item;
 use plain_list::verdict::judge;
 use plain_list::verdict::tried;
 use points::point::Point;
@@ -19,6 +19,7 @@ use submissions::take::take;
 use trial::cells::copy;
 use trial::cells::put_word;
 use trial::cells::same_from;
+use words::layout::words_for;
 ghost use Prim.Native.Nat.{_<_};
 
 // A number that no call gives.
@@ -43,11 +44,11 @@ fn audited(words: &[u32]) -> u32 {
     }
 }
 
-// The call of a row, and its number. Places and limit of an opening; station, kind, weight of a point of grade 12 and curve of a submission;
+// The call of an item, and its number. Places and limit of an opening; station, kind, weight of a point of grade 12 and curve of a submission;
 // the station of a step, a run, a taking and a withdrawal (D); the bytes there, the length and the kind of a frame; an offset and the word that is written there.
-fn perform(words: &mut [u32], row: Row) -> u32 {
-    let n = row.n;
-    let letter = row.letter;
+fn perform(words: &mut [u32], item: Item) -> u32 {
+    let n = item.n;
+    let letter = item.letter;
     match letter {
         b'O' => open(words, n[1], n[2]),
         b'S' => submit(words, n[1], n[2], point_of(at_weight(12, n[3])), n[4]),
@@ -76,34 +77,34 @@ fn length_of(x: u32) -> usize
     x as usize
 }
 
-// The call of a row in the words that it is lent.
-fn perform_in(words: &mut [u32], length: usize, row: Row) -> u32 {
+// The call of an item in the words that it is lent.
+fn perform_in(words: &mut [u32], length: usize, item: Item) -> u32 {
     if words.len() < length {
         return NEVER;
     }
-    perform(&mut words[0..length], row)
+    perform(&mut words[0..length], item)
 }
 
 // Where the words begin that a call must leave: all of them for a refusal, and those past its rows for an opening.
-fn kept_from(row: Row, number: u32) -> usize {
+fn kept_from(item: Item, number: u32) -> usize {
     if number != 0 {
         return 0;
     }
-    if row.letter != b'O' {
+    if item.letter != b'O' {
         return usize::MAX;
     }
-    let n = row.n;
-    608 + 32 * length_of(n[1])
+    let n = item.n;
+    words_for(n[1])
 }
 
-// A row is judged: the number, which stands sixth, and the words kept.
-pub fn judged(words: &mut [u32], copied: &mut [u32], book: &mut [u64], row: Row) {
-    let n = row.n;
+// An item is judged: the number, which stands sixth, and the words kept.
+pub fn judged(words: &mut [u32], copied: &mut [u32], book: &mut [u64], item: Item) {
+    let n = item.n;
     tried(book);
     copy(words, copied);
-    let number = perform_in(words, length_of(n[0]), row);
+    let number = perform_in(words, length_of(n[0]), item);
     judge(book, number == n[5]);
-    judge(book, same_from(words, copied, kept_from(row, number)));
+    judge(book, same_from(words, copied, kept_from(item, number)));
 }
 
 // Of each axis the coordinate before the least, the least, the greatest and the one after it.

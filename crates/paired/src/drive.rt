@@ -3,6 +3,7 @@ use audits::audit::audit;
 use audits::report::read_report;
 use calls::take::Taking;
 use plain_list::book::AT_PLACES;
+use plain_list::book::MOST_PLACES;
 use plain_list::book::PlainPoint;
 use plain_list::book::as_due;
 use plain_list::book::at_code;
@@ -20,7 +21,11 @@ use trial::cells::get;
 // The most steps of a call that is left alone, as document 01 allows them.
 pub fn most_steps(book: &[u64]) -> u64 {
     let places = get(book, AT_PLACES);
-    if places <= 4096 { 16 * places + 64 } else { 0 }
+    if places <= MOST_PLACES {
+        16 * places + 64
+    } else {
+        0
+    }
 }
 
 // A new history of the index and of the table.

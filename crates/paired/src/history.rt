@@ -12,6 +12,7 @@ use trial::cells::low;
 use trial::cells::same_from;
 use trial::random::below;
 use trial::random::seed;
+use words::layout::words_for;
 
 // A kind of history: its opening, how many weights its points have, a code that must come up, how many histories and their events, whether
 // the audit is asked after each event, and after how many events each unfinished call is tried alone.
@@ -203,11 +204,11 @@ fn seeded_in(words: &mut [u32], copied: &mut [u32], book: &mut [u64], plan: Plan
 // but those for every place taken and for changes spent.
 pub fn histories(words: &mut [u32], copied: &mut [u32], book: &mut [u64], plan: Plan) {
     let places = plan.places;
-    seeded_in(words, copied, book, plan, 608 + 32 * (places as usize));
+    seeded_in(words, copied, book, plan, words_for(places));
     judge(book, most_met(book) & met(book, plan.code));
 }
 
-// The plan of a row: its numbers in the order of the fields.
+// The plan of an item: its numbers in the order of the fields.
 pub fn plan_of(n: [u32; 9]) -> Plan {
     Plan {
         places: n[0],

@@ -3,8 +3,8 @@ use crate::drive;
 use crate::script;
 use plain_list::book::AT_PARTIES;
 use plain_list::reference;
-use plain_list::text::Row;
-use plain_list::text::row_of;
+use plain_list::text::Item;
+use plain_list::text::item_of;
 use plain_list::verdict::judge;
 use plain_list::verdict::tried;
 use trial::cells::count;
@@ -38,29 +38,29 @@ fn call_event(words: &mut [u32], book: &mut [u64], n: [u32; 9], party: usize) {
     }
 }
 
-// The next row of a party, whose rows done are counted in a cell.
-fn next_row(book: &[u64], text: &[u8], section: u32, party: usize) -> Row {
-    row_of(text, section, low(get(book, party)))
+// The next item of a party, whose items done are counted in a cell.
+fn next_item(book: &[u64], text: &[u8], section: u32, party: usize) -> Item {
+    item_of(text, section, low(get(book, party)))
 }
 
-// The event of a row that is no whole call. It counts.
-fn single_event(words: &mut [u32], book: &mut [u64], row: Row, party: usize) {
-    script::event(words, book, row);
+// The event of an item that is no whole call. It counts.
+fn single_event(words: &mut [u32], book: &mut [u64], item: Item, party: usize) {
+    script::event(words, book, item);
     count(book, party);
 }
 
-// The next event of a party; none where all its rows are done.
+// The next event of a party; none where all its items are done.
 fn act(words: &mut [u32], book: &mut [u64], text: &[u8], section: u32, party: usize) {
-    let row = next_row(book, text, section, party);
-    let n = row.n;
-    let letter = row.letter;
+    let item = next_item(book, text, section, party);
+    let n = item.n;
+    let letter = item.letter;
     match letter {
         0 => {}
         b'c' => {
             call_event(words, book, n, party);
             drive::judge_event(words, book);
         }
-        _ => single_event(words, book, row, party),
+        _ => single_event(words, book, item, party),
     }
 }
 
@@ -85,10 +85,10 @@ fn dealt(words: &mut [u32], book: &mut [u64], text: &[u8], order: u32) {
     }
 }
 
-// Every row of a party has been done.
+// Every item of a party has been done.
 fn judge_done(book: &mut [u64], text: &[u8], section: u32, party: usize) {
-    let row = next_row(book, text, section, party);
-    judge(book, row.letter == 0);
+    let item = next_item(book, text, section, party);
+    judge(book, item.letter == 0);
 }
 
 // One order, from the opening.
@@ -104,11 +104,11 @@ fn one_order(words: &mut [u32], book: &mut [u64], text: &[u8], order: u32) {
 // The events before the first turn.
 fn setup(words: &mut [u32], book: &mut [u64], text: &[u8]) {
     for k in 0..100u32 {
-        let row = row_of(text, SETUP, k);
-        if row.letter == 0 {
+        let item = item_of(text, SETUP, k);
+        if item.letter == 0 {
             return;
         }
-        script::event(words, book, row);
+        script::event(words, book, item);
     }
 }
 

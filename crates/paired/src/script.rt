@@ -1,15 +1,15 @@
-// Events on the index and on the plain table, from the rows of a text. A row has a letter for the event, station, kind, grade, weight, curve,
+// Events on the index and on the plain table, from the items of a text. An item has a letter for the event, station, kind, grade, weight, curve,
 // and the one curve that the answer may have, 0 where it may be any.
 use crate::drive;
 use audits::report::read_report;
 use plain_list::book::at_weight;
 use plain_list::reference;
-use plain_list::text::Row;
+use plain_list::text::Item;
 use plain_list::verdict::judge;
 use stations::answer::Waiting;
 use stations::answer::read_waiting;
 
-// The submission of a row.
+// The submission of an item.
 pub fn submit(words: &mut [u32], book: &mut [u64], n: [u32; 9]) {
     let p = at_weight(n[2], n[3]);
     drive::submit(words, book, n[0], n[1], p, n[4]);
@@ -23,21 +23,21 @@ fn may_answer(words: &[u32], s: u32, curve: u32) -> bool {
     }
 }
 
-// The taking of a row, with the curve that it may have.
+// The taking of an item, with the curve that it may have.
 pub fn take(words: &mut [u32], book: &mut [u64], n: [u32; 9]) {
     let s = n[0];
     judge(book, may_answer(words, s, n[5]));
     drive::take(words, book, s);
 }
 
-// The whole call of a row.
+// The whole call of an item.
 fn call(words: &mut [u32], book: &mut [u64], n: [u32; 9]) {
     submit(words, book, n);
     drive::run(words, book, n[0]);
     take(words, book, n);
 }
 
-// The eight calls of a row, each at a weight that lies so far from the one before it.
+// The eight calls of an item, each at a weight that lies so far from the one before it.
 fn eight(words: &mut [u32], book: &mut [u64], n: [u32; 9]) {
     let mut weight = n[3];
     for s in 0..8u32 {
@@ -59,7 +59,7 @@ pub fn turn(words: &mut [u32], book: &mut [u64], s: u32) {
     }
 }
 
-// The turns of a row: sixty of each station where it names no number.
+// The turns of an item: sixty of each station where it names no number.
 fn turns_of(n: u32) -> u32 {
     if n == 0 { 480 } else { n }
 }
@@ -97,11 +97,11 @@ fn take_back(words: &mut [u32], book: &mut [u64], s: u32) {
     drive::withdraw(words, book, s);
 }
 
-// The event of a row: o an opening with its places and limit, c a whole call, s a submission, t a step, r a run, k a taking, w a withdrawal, n the
+// The event of an item: o an opening with its places and limit, c a whole call, s a submission, t a step, r a run, k a taking, w a withdrawal, n the
 // places taken, e eight calls at once, and any other letter turns of all stations.
-fn perform(words: &mut [u32], book: &mut [u64], row: Row) {
-    let n = row.n;
-    let letter = row.letter;
+fn perform(words: &mut [u32], book: &mut [u64], item: Item) {
+    let n = item.n;
+    let letter = item.letter;
     match letter {
         b'o' => drive::open(words, book, n[0], n[1]),
         b'c' => call(words, book, n),
@@ -116,8 +116,8 @@ fn perform(words: &mut [u32], book: &mut [u64], row: Row) {
     }
 }
 
-// The event of a row, with what is asked after every event.
-pub fn event(words: &mut [u32], book: &mut [u64], row: Row) {
-    perform(words, book, row);
+// The event of an item, with what is asked after every event.
+pub fn event(words: &mut [u32], book: &mut [u64], item: Item) {
+    perform(words, book, item);
     drive::judge_event(words, book);
 }

@@ -9,6 +9,9 @@ use trial::cells::less;
 use trial::cells::low;
 use trial::cells::put;
 
+// The places of the largest index: as many records are held and removals awaited at most.
+pub const MOST_PLACES: u64 = 4096;
+
 // Places and change limit of the opening, changes, records held, removals awaited.
 pub const AT_PLACES: usize = 1;
 
@@ -32,7 +35,7 @@ pub const AT_CASES: usize = 9;
 
 pub const AT_WRONG_CASES: usize = 10;
 
-// How many rows each of two parties has done.
+// How many items each of two parties has done.
 pub const AT_PARTIES: usize = 11;
 
 // Steps dealt to stations with an unfinished call since the last answer or withdrawal, and the most of them in the case under way.
@@ -95,7 +98,7 @@ pub fn at_station(s: u32, field: usize) -> usize {
 
 // The six cells of a record: its point and its curve.
 pub fn at_record(i: u64, field: usize) -> usize {
-    if 4096 <= i {
+    if MOST_PLACES <= i {
         return NOWHERE;
     }
     if 6 <= field {
@@ -106,7 +109,7 @@ pub fn at_record(i: u64, field: usize) -> usize {
 
 // The cell of an awaited removal: the stations whose nearest calls it waits for, a bit for each.
 pub fn at_removal(i: u64) -> usize {
-    if i < 4096 {
+    if i < MOST_PLACES {
         24800 + (i as usize)
     } else {
         NOWHERE

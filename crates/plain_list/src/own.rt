@@ -4,6 +4,7 @@ use crate::book::AT_MOST_OWN;
 use crate::book::AT_PLACES;
 use crate::book::AT_SHARE;
 use crate::book::AT_TRIED;
+use crate::book::MOST_PLACES;
 use crate::book::at_own;
 use crate::reference::kind;
 use trial::cells::count;
@@ -16,7 +17,11 @@ const NEAREST: u64 = 4;
 // The most own steps that may leave a search unanswered.
 fn most_own(book: &[u64]) -> u64 {
     let places = get(book, AT_PLACES);
-    if places <= 4096 { 9 * places / 5 } else { 0 }
+    if places <= MOST_PLACES {
+        9 * places / 5
+    } else {
+        0
+    }
 }
 
 // After a submission, which was accepted or not.

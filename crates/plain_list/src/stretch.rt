@@ -4,6 +4,7 @@ use crate::book::AT_LONGEST;
 use crate::book::AT_PLACES;
 use crate::book::AT_STRETCH;
 use crate::book::AT_TRIED;
+use crate::book::MOST_PLACES;
 use trial::cells::count;
 use trial::cells::get;
 use trial::cells::put;
@@ -11,7 +12,7 @@ use trial::cells::put;
 // The most steps that may answer nobody.
 fn most_unanswered(book: &[u64]) -> u64 {
     let places = get(book, AT_PLACES);
-    if places <= 4096 { 8 * places } else { 0 }
+    if places <= MOST_PLACES { 8 * places } else { 0 }
 }
 
 // No step was dealt yet, or since a withdrawal.

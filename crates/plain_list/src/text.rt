@@ -1,21 +1,21 @@
-// The text of a case. Bars part its sections: its name, what it counts, its rows, and where two parties meet the rows of each. A row is a
+// The text of a case. Bars part its sections: its name, what it counts, its items, and where two parties meet the items of each. An item is a
 // letter and up to nine numbers, and ends with a semicolon.
 
-// A row: its letter, 0 where there is no such row, and its numbers, 0 where they are left out.
-pub struct Row {
+// An item: its letter, 0 where there is no such item, and its numbers, 0 where they are left out.
+pub struct Item {
     pub letter: u8,
     pub n: [u32; 9],
 }
 
-// A position in a text: sections and rows passed.
+// A position in a text: sections and items passed.
 struct Position {
     section: u32,
-    row: u32,
+    item: u32,
 }
 
-// A row as far as it is read: the numbers begun, whether the last byte was a digit, and whether the row has ended.
+// An item as far as it is read: the numbers begun, whether the last byte was a digit, and whether the item has ended.
 struct Reading {
-    row: Row,
+    item: Item,
     begun: usize,
     digit: bool,
     ended: bool,
@@ -41,21 +41,24 @@ fn past(position: Position, byte: u8) -> Position {
     match byte {
         b'|' => Position {
             section: more(position.section),
-            row: 0,
+            item: 0,
         },
         b';' => Position {
             section: position.section,
-            row: more(position.row),
+            item: more(position.item),
         },
         _ => position,
     }
 }
 
-// Where a row begins; the end of the text where there is none.
-pub fn start_of(text: &[u8], section: u32, row: u32) -> usize {
-    let mut position = Position { section: 0, row: 0 };
+// Where an item begins; the end of the text where there is none.
+pub fn start_of(text: &[u8], section: u32, item: u32) -> usize {
+    let mut position = Position {
+        section: 0,
+        item: 0,
+    };
     for i in 0..text.len() {
-        if (position.section == section) & (position.row == row) {
+        if (position.section == section) & (position.item == item) {
             return i;
         }
         position = past(position, byte(text, i));
@@ -63,13 +66,13 @@ pub fn start_of(text: &[u8], section: u32, row: u32) -> usize {
     text.len()
 }
 
-// The number of a row after one more digit.
+// The number of an item after one more digit.
 fn grown(x: u32, digit: u8) -> u32 {
     let d = extended(digit) % 16;
     ((10 * (x as u64) + d) % 4294967296) as u32
 }
 
-// The numbers of a row after one more digit of the number at an index.
+// The numbers of an item after one more digit of the number at an index.
 fn with_digit(n: [u32; 9], at: usize, digit: u8) -> [u32; 9] {
     let mut m = n;
     if at < 9 {
@@ -96,12 +99,12 @@ fn last(begun: usize) -> usize {
 
 // A digit goes to the number begun, or begins the next one.
 fn digit_read(r: Reading, digit: u8) -> Reading {
-    let old = r.row;
+    let old = r.item;
     let begun = begun_after(r.begun, r.digit);
     let numbers = old.n;
     let n = with_digit(numbers, last(begun), digit);
     Reading {
-        row: Row {
+        item: Item {
             letter: old.letter,
             n: n,
         },
@@ -111,9 +114,9 @@ fn digit_read(r: Reading, digit: u8) -> Reading {
     }
 }
 
-// Any other byte: an end, a blank, or the row's letter.
+// Any other byte: an end, a blank, or the item's letter.
 fn other_read(r: Reading, byte: u8) -> Reading {
-    let old = r.row;
+    let old = r.item;
     let n = old.n;
     let ended = (byte == b';') | (byte == b'|');
     let letter = if ended | (byte < b'A') {
@@ -122,7 +125,7 @@ fn other_read(r: Reading, byte: u8) -> Reading {
         byte
     };
     Reading {
-        row: Row {
+        item: Item {
             letter: letter,
             n: n,
         },
@@ -132,7 +135,7 @@ fn other_read(r: Reading, byte: u8) -> Reading {
     }
 }
 
-// One more byte of a row; nothing changes after its end.
+// One more byte of an item; nothing changes after its end.
 fn read(r: Reading, byte: u8) -> Reading {
     if r.ended {
         return r;
@@ -143,10 +146,10 @@ fn read(r: Reading, byte: u8) -> Reading {
     }
 }
 
-// The row that begins at an offset.
-fn row_from(text: &[u8], start: usize) -> Row {
+// The item that begins at an offset.
+fn item_from(text: &[u8], start: usize) -> Item {
     let mut r = Reading {
-        row: Row {
+        item: Item {
             letter: 0,
             n: [0; 9],
         },
@@ -156,14 +159,14 @@ fn row_from(text: &[u8], start: usize) -> Row {
     };
     for i in start..text.len() {
         if r.ended {
-            return r.row;
+            return r.item;
         }
         r = read(r, byte(text, i));
     }
-    r.row
+    r.item
 }
 
-// A row of a section.
-pub fn row_of(text: &[u8], section: u32, row: u32) -> Row {
-    row_from(text, start_of(text, section, row))
+// An item of a section.
+pub fn item_of(text: &[u8], section: u32, item: u32) -> Item {
+    item_from(text, start_of(text, section, item))
 }

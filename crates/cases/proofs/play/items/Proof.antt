@@ -1,6 +1,6 @@
 use borrow.Author.Needs.{needs}
-use Rattle.cases.proofs.play.rows.Statement.{statement}
-use Rattle.cases.proofs.play.rows.Tie as tie
+use Rattle.cases.proofs.play.items.Statement.{statement}
+use Rattle.cases.proofs.play.items.Tie as tie
 use mathlib.Core.Path.{_≡_}
 use lib.ListN.{length}
 use Prim.Native.Nat.{_-_}
@@ -14,8 +14,8 @@ abbrev μ-loop : tie.MeasureT-loop
 loop-holds : tie.Need-loop-holds Inv-loop μ-loop
 loop-holds c = search needs
 
-row-of-requires : tie.Need-row-of-requires Inv-loop μ-loop
-row-of-requires c κs = search needs
+item-of-requires : tie.Need-item-of-requires Inv-loop μ-loop
+item-of-requires c κs = search needs
 
 same-length : tie.Need-same-length Inv-loop μ-loop
 same-length c = search needs
@@ -53,14 +53,14 @@ same-length-6 c = search needs
 returns-2 : tie.Need-returns-2 Inv-loop μ-loop
 returns-2 c = search needs
 
-pub rows-spec : {M : Type 1} → statement M
-rows-spec =
+pub items-spec : {M : Type 1} → statement M
+items-spec =
     tie.close
     (tie.spec
     Inv-loop
     μ-loop
     loop-holds
-    row-of-requires
+    item-of-requires
     same-length
     same-length-2
     same-length-3

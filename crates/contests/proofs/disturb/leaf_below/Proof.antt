@@ -1,6 +1,6 @@
 use borrow.Author.Needs.{needs}
-use Rattle.contests.proofs.around.leaf_below.Statement.{statement}
-use Rattle.contests.proofs.around.leaf_below.Tie as tie
+use Rattle.contests.proofs.disturb.leaf_below.Statement.{statement}
+use Rattle.contests.proofs.disturb.leaf_below.Tie as tie
 use mathlib.Core.Path.{_≡_}
 use lib.ListN.{length}
 use Prim.Native.Nat.{_-_}

@@ -14,8 +14,8 @@ abbrev μ-loop : tie.MeasureT-loop
 loop-holds : tie.Need-loop-holds Inv-loop μ-loop
 loop-holds c = search needs
 
-row-of-requires : tie.Need-row-of-requires Inv-loop μ-loop
-row-of-requires c κs = search needs
+item-of-requires : tie.Need-item-of-requires Inv-loop μ-loop
+item-of-requires c κs = search needs
 
 same-length : tie.Need-same-length Inv-loop μ-loop
 same-length c = search needs
@@ -54,7 +54,7 @@ setup-spec =
     Inv-loop
     μ-loop
     loop-holds
-    row-of-requires
+    item-of-requires
     same-length
     same-length-2
     returns

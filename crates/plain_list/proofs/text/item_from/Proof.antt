@@ -1,6 +1,6 @@
 use borrow.Author.Needs.{needs}
-use Rattle.plain_list.proofs.text.row_from.Statement.{statement}
-use Rattle.plain_list.proofs.text.row_from.Tie as tie
+use Rattle.plain_list.proofs.text.item_from.Statement.{statement}
+use Rattle.plain_list.proofs.text.item_from.Tie as tie
 use Prim.Native.Nat.{_-_}
 
 abbrev Inv-loop : tie.InvT-loop
@@ -33,8 +33,8 @@ loop-again c = search needs
 returns-2 : tie.Need-returns-2 Inv-loop μ-loop
 returns-2 c = search needs
 
-pub row-from-spec : {M : Type 1} → statement M
-row-from-spec =
+pub item-from-spec : {M : Type 1} → statement M
+item-from-spec =
     tie.close
     (tie.spec
     Inv-loop

@@ -4,10 +4,10 @@ use Rattle.plain_list.proofs.text.start_of.Tie as tie
 use Prim.Native.Nat.{_-_}
 
 abbrev Inv-loop : tie.InvT-loop
-Inv-loop text section row position₀ i₀ i-end position i = Unit {0}
+Inv-loop text section item position₀ i₀ i-end position i = Unit {0}
 
 abbrev μ-loop : tie.MeasureT-loop
-μ-loop text section row position₀ i₀ i-end position i = i-end - i
+μ-loop text section item position₀ i₀ i-end position i = i-end - i
 
 loop-holds : tie.Need-loop-holds Inv-loop μ-loop
 loop-holds c = search needs
