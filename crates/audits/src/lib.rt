@@ -1,8 +1,7 @@
-// The calls that only look: audit and report. An audit is made of the tree, the queue, and whether they are all the rows.
+// The audit: the tree, the queue, and whether they are all the rows. It only looks.
 pub mod audit;
 mod climb;
 mod queue;
-pub mod report;
 mod sum;
 mod tree;
 mod whole;

@@ -1,14 +1,14 @@
 // The calls for programs in C, as the benchmark makes them: a slice is lent as its first word and its length.
 use audits::audit::audit;
-use audits::report::read_report;
 use openings::open::open;
 use points::point::Point;
-use steps::run::run;
+use reports::report::read_report;
+use runs::run::run;
 use steps::step::step;
 use steps::withdraw::withdraw;
 use submissions::submit::submit;
-use submissions::take::number_of;
-use submissions::take::take;
+use takings::take::number_of;
+use takings::take::take;
 ghost use mathlib.Core.Path.{_≡_};
 ghost use Rattle.calls.specs.Reply.{replied};
 ghost use Rattle.calls.specs.Open.{openOf};

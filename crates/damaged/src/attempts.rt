@@ -67,7 +67,7 @@ fn number_of(taking: Taking) -> u32 {
 
 // A report.
 fn report(words: &[u32]) -> u32 {
-    let read = audits::report::read_report(words);
+    let read = reports::report::read_report(words);
     read.number
 }
 
@@ -100,8 +100,8 @@ pub fn call(words: &mut [u32], book: &mut [u64], kind: u64) -> u32 {
     match kind {
         0 => submit(words, book),
         1 => steps::step::step(words, s),
-        2 => steps::run::run(words, s),
-        3 => number_of(submissions::take::take(words, s)),
+        2 => runs::run::run(words, s),
+        3 => number_of(takings::take::take(words, s)),
         4 => steps::withdraw::withdraw(words, s),
         5 => report(words),
         6 => audit(words),

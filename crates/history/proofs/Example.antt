@@ -20,13 +20,14 @@ use Rattle.table.proofs.Play.{run}
 use Rattle.table.proofs.Cases.{atWeight, m, p, target}
 use Rattle.calls.specs.Open.{openOf}
 use Rattle.calls.specs.Submit.{submitOf}
+use Rattle.words.specs.Layout.{wordsFor}
 use Rattle.stations.proofs.OpeningLaws.{places-of, limit-of}
 use Rattle.history.proofs.Called.{RunGives, CallGives, calledWords, standing-open, Called, called, Begun, begun, set-gives}
 
 -- "open 2 places, limit 10"
-opens : (words : List ℕ) → 672 ≤ length words → openOf words 2 10 .number ≡ 0
+opens : (words : List ℕ) → wordsFor 2 ≤ length words → openOf words 2 10 .number ≡ 0
 unfolding openOf
-opens words l = rw (places-of 2 (omega arith) (omega arith), limit-of 10 (omega arith) (omega arith), le-leb 672 (length words) l)
+opens words l = rw (places-of 2 (omega arith) (omega arith), limit-of 10 (omega arith) (omega arith), le-leb (wordsFor 2) (length words) l)
 
 -- the table after a call
 abbrev effect : Table → ℕ → Point → ℕ → Table
@@ -40,7 +41,7 @@ pub record FrameRunner (words : List ℕ) : Type 0 where
   pub finds : CallGives (calledWords (openOf words 2 10 .words) 0 1 (atWeight 12 8_000) 41) 1 4 (atWeight 12 12_000) 0 (answer 8 (atWeight 12 8_000) 41 16_000_000)
 
 -- "station 0 submits add 12, 8000, 550, 9000, 0 with curve 41; run 0; take 0; station 1 submits nearest 12, 12000, 550, 9000, 0; run 1; take 1"
-pub frame-runner : (words : List ℕ) → 672 ≤ length words → FrameRunner words
+pub frame-runner : (words : List ℕ) → wordsFor 2 ≤ length words → FrameRunner words
 unfolding run
 frame-runner words l =
     let w = standing-open words 2 10 (opens words l) in
@@ -105,7 +106,7 @@ submits-p : (t : Table) → t .stations 0 ≡ idle → submit t 0 2 p 0 .number 
 unfolding run
 submits-p t e = rw e
 
-module _ (words : List ℕ) (l : 672 ≤ length words) where
+module _ (words : List ℕ) (l : wordsFor 2 ≤ length words) where
   -- the tables with m, and with m and p held
   abbrev heldM : Table
   heldM = effect (opened 2 10) 1 m 41

@@ -2,7 +2,6 @@
 // a capital letter for the call, how many words it is lent, four arguments and the number.
 use crate::framed::framed;
 use audits::audit::audit;
-use audits::report::read_report;
 use openings::open::open;
 use plain_list::book::at_weight;
 use plain_list::book::point_of;
@@ -10,12 +9,13 @@ use plain_list::text::Item;
 use plain_list::verdict::judge;
 use plain_list::verdict::tried;
 use points::point::Point;
-use steps::run::run;
+use reports::report::read_report;
+use runs::run::run;
 use steps::step::step;
 use steps::withdraw::withdraw;
 use submissions::submit::submit;
-use submissions::take::number_of;
-use submissions::take::take;
+use takings::take::number_of;
+use takings::take::take;
 use trial::cells::copy;
 use trial::cells::put_word;
 use trial::cells::same_from;

@@ -1,17 +1,20 @@
 // One event at a time, on the index and on the plain table, with what each gives compared.
 use audits::audit::audit;
-use audits::report::read_report;
 use calls::take::Taking;
 use plain_list::book::AT_PLACES;
+use plain_list::book::Due;
 use plain_list::book::MOST_PLACES;
 use plain_list::book::PlainPoint;
-use plain_list::book::as_due;
 use plain_list::book::at_code;
+use plain_list::book::plain_of;
 use plain_list::book::point_of;
+use plain_list::book::same_plain;
 use plain_list::own;
 use plain_list::reference;
 use plain_list::stretch;
 use plain_list::verdict::judge;
+use reports::report::read_report;
+use stations::answer::Answer;
 use stations::answer::Waiting;
 use stations::answer::read_waiting;
 use trial::cells::copy;
@@ -86,6 +89,14 @@ pub fn withdraw(words: &mut [u32], book: &mut [u64], s: u32) -> u32 {
     number
 }
 
+// Whether an answer is the one expected.
+fn as_due(answer: Answer, due: Due) -> bool {
+    ((answer.code as u64) == due.code)
+        & same_plain(plain_of(answer.point), due.point)
+        & ((answer.curve as u64) == due.curve)
+        & (answer.square == due.square)
+}
+
 // The answer of a taking is the one that the table has. Gives the number of the taking.
 fn judge_taking(book: &mut [u64], s: u32, taking: Taking) -> u32 {
     match taking {
@@ -101,7 +112,7 @@ fn judge_taking(book: &mut [u64], s: u32, taking: Taking) -> u32 {
 
 // A taking.
 pub fn take(words: &mut [u32], book: &mut [u64], s: u32) -> u32 {
-    let number = judge_taking(book, s, submissions::take::take(words, s));
+    let number = judge_taking(book, s, takings::take::take(words, s));
     let due = reference::take(book, s);
     judge(book, number == due);
     number
@@ -153,7 +164,7 @@ fn judge_alone(copied: &[u32], book: &mut [u64], s: u32, number: u32) {
 fn alone(words: &[u32], copied: &mut [u32], book: &mut [u64], s: u32) {
     if reference::state(book, s) == reference::UNFINISHED {
         copy(words, copied);
-        let number = steps::run::run(copied, s);
+        let number = runs::run::run(copied, s);
         judge_alone(copied, book, s, number);
     }
 }

@@ -1,11 +1,11 @@
 // Events on the index and on the plain table, from the items of a text. An item has a letter for the event, station, kind, grade, weight, curve,
 // and the one curve that the answer may have, 0 where it may be any.
 use crate::drive;
-use audits::report::read_report;
 use plain_list::book::at_weight;
 use plain_list::reference;
 use plain_list::text::Item;
 use plain_list::verdict::judge;
+use reports::report::read_report;
 use stations::answer::Waiting;
 use stations::answer::read_waiting;
 

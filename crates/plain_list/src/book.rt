@@ -3,7 +3,6 @@
 use points::point::Point;
 use points::word::point_at;
 use points::word::word;
-use stations::answer::Answer;
 use trial::cells::get;
 use trial::cells::less;
 use trial::cells::low;
@@ -182,12 +181,4 @@ pub fn plain_of(p: Point) -> PlainPoint {
         speed: word(p, 4) as u64,
         draw: word(p, 5) as u64,
     }
-}
-
-// Whether an answer is the one expected.
-pub fn as_due(answer: Answer, due: Due) -> bool {
-    ((answer.code as u64) == due.code)
-        & same_plain(plain_of(answer.point), due.point)
-        & ((answer.curve as u64) == due.curve)
-        & (answer.square == due.square)
 }

@@ -1,5 +1,4 @@
-// Steps, runs and withdrawals, each in a module of its own; `advance` is what a step and a withdrawal share.
+// Steps and withdrawals, each in a module of its own; `advance` is what they share.
 mod advance;
-pub mod run;
 pub mod step;
 pub mod withdraw;

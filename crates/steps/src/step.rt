@@ -1,6 +1,5 @@
 // A step: its questions, and the work of its call.
 use crate::advance::advance;
-use moves::walk::walk;
 use searches::search::search;
 use stations::call::Call;
 use stations::call::NEAREST_KIND;
@@ -9,6 +8,7 @@ use stations::common::common_sound;
 use stations::common::is_opened;
 use stations::counts::read_counts;
 use stations::station::read_state;
+use walks::walk::walk;
 use words::layout::STATIONS;
 use words::refusal::NO_STATION;
 use words::refusal::NOT_OPENED;

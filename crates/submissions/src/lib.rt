@@ -1,3 +1,2 @@
-// Submission and taking, which touch two records and no row.
+// Submission, which touches two records and no row.
 pub mod submit;
-pub mod take;

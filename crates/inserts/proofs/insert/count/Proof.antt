@@ -1,0 +1,26 @@
+-- `moves::insert::count` meets its contract. Assumes nothing.
+use borrow.Author.Needs.{needs}
+use Rattle.inserts.proofs.insert.count.Statement.{statement}
+use Rattle.inserts.proofs.insert.count.Tie as tie
+use Rattle.calls.specs.Insert.{insertCounts}
+
+read-counts-requires : tie.Need-read-counts-requires
+read-counts-requires c κs = search needs
+
+counted-requires : tie.Need-counted-requires
+counted-requires c κs = search needs
+
+write-counts-requires : tie.Need-write-counts-requires
+write-counts-requires c κs = search needs
+
+same-length : tie.Need-same-length
+same-length c = search needs
+
+returns : tie.Need-returns
+unfolding insertCounts
+returns c = cc
+
+pub count-spec : {M : Type 1} → statement M
+count-spec =
+    tie.close
+    (tie.spec read-counts-requires counted-requires write-counts-requires same-length returns)

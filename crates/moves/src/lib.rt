@@ -1,4 +1,0 @@
-// The moves of an add, a remove and a contains: walks, insertions and unlinkings.
-mod insert;
-mod unlink;
-pub mod walk;

@@ -1,0 +1,2 @@
+// The report, which reads the common record.
+pub mod report;

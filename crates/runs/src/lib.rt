@@ -1,0 +1,2 @@
+// A run: steps of one station, until it is answered.
+pub mod run;
