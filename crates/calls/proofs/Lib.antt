@@ -8,3 +8,6 @@ pub mod QueueLaws
 pub mod Questions
 pub mod SubmitLaws
 pub mod UnseenLaws
+pub mod SearchNeeds
+pub mod WalkNeeds
+pub mod NeedLaws

@@ -24,3 +24,4 @@ pub mod Held
 pub mod Audit
 pub mod Withdraw
 pub mod Advance
+pub mod Needs

@@ -6,17 +6,20 @@
 -- Of `frames`, `readers` and `lines` the same: `read_frame`, `write_frame`, `write_fields`, `apply_frame` and `next_line` are `readOf`, `writtenOf`, `writeOf`, `applyOf` with `applyWords`, and `lineOf` with
 -- `lineWords`; a reader's `next` is `readOf` and `positionAfter`; the bytes are lent for reading alone.
 -- A question is a test and its number; `firstNo` is the number of the first that fails, and 0 where none does.
-use Prim.Native.Nat.{ℕ, _<_}
+use Prim.Native.Nat.{ℕ, _+_, _<_}
 use mathlib.Core.Path.{_≡_, refl, _∙_}
-use mathlib.Core.Bool.{Bool, true, false, cond}
-use mathlib.Core.List.{List, [], _∷_}
-use lib.Dec.{eqb, leb, ltb}
+use mathlib.Core.Bool.{Bool, true, false, cond, _&&_}
+use mathlib.Core.List.{List, [], _∷_, List·Memᴰ}
+use lib.Dec.{leb, ltb}
 use lib.ListN.{length, drop, replicate}
-use Rattle.claims.specs.Definitions.{Point, inRange, wordsFor, placesIn, limitIn, openedIn, isIdle, isUnfinished, stateAt, callAt, waitingAt}
-use Rattle.claims.specs.Definitions.{isOpened, rowsIn, openOf, kindIn, curveFits, submitOf, recordsSound, workOf, stepOf, isGiven, takeOf, numberOf, takeWords, withdrawOf}
-use Rattle.claims.specs.Definitions.{reportOf, verdictOf, asked, firstNo}
+use Rattle.claims.specs.Definitions.{Point, inRange, wordsFor, placesIn, limitIn, openedIn, isIdle, isUnfinished, stateAt, waitingAt}
+use Rattle.claims.specs.Definitions.{isOpened, rowsIn, openOf, kindIn, curveFits, submitOf, recordsSound, stepOf, isGiven, takeOf, numberOf, takeWords, withdrawOf}
+use Rattle.claims.specs.Definitions.{part, atRow, rowOf, inRows, Need, rowsOf, stepNeeds, rowsSound, reportOf, verdictOf, asked, firstNo}
 use Rattle.claims.specs.Definitions.{Frame, Open, Submit, Step, Take, Run, Withdraw, Refused as Unread, isKind, isWhole, hasKind, ownLength, frameQuestion, readOf, readingNumber}
 use Rattle.claims.specs.Definitions.{positionAfter, Fields, padded, writtenBytes, writeOf, pointOf, submissionReply, applyOf, appliedNumber, applyWords, lineWords}
+use borrow.Author.Tests.{lt-ltb}
+use Rattle.rows.proofs.RowLaws.{row-exact}
+use Rattle.calls.proofs.NeedLaws.{needed-row}
 use Rattle.history.proofs.Refused
 use Rattle.frames.proofs.OutcomeLaws
 use Rattle.lines.proofs.LineLaws
@@ -37,12 +40,31 @@ pub submit-number : (words : List ℕ) (s kind : ℕ) (p : Point) (c : ℕ)
 submit-number = Refused.submit-number
 
 -- "Step: has the station an unfinished call? 10. Are the fields of both records and of every row this step needs in range? 11": first those of the two
--- records; the work then finds the rows that it needs, and its number is 0, or 11 where one is not what it must be.
+-- records, then the rows: `stepNeeds` lists what the step needs, and `rowsSound` is that all of it is met. 11 exactly if one of these fails, and else 0.
 pub step-number : (words : List ℕ) (s : ℕ)
     → stepOf words s .number
     ≡ firstNo (asked (isOpened (openedIn words)) 4 ∷ asked (ltb s 8) 5
-    ∷ asked (isUnfinished (stateAt words s)) 10 ∷ asked (recordsSound words s) 11 ∷ asked (eqb (workOf words (rowsIn words) s (callAt words s) .number) 0) 11 ∷ [])
+    ∷ asked (isUnfinished (stateAt words s)) 10 ∷ asked (recordsSound words s) 11 ∷ asked (rowsSound words s) 11 ∷ [])
 step-number = Refused.step-number
+
+-- A needed row with a field out of range is one of them: such a step gets 11.
+pub field-out-of-range : (words : List ℕ) (s : ℕ) → isOpened (openedIn words) ≡ true → s < 8 → isUnfinished (stateAt words s) ≡ true
+    → (need : Need) → List·Memᴰ need (stepNeeds words s) → (r : ℕ) → List·Memᴰ r (rowsOf need)
+    → inRows (rowsIn words) (rowOf (part words (atRow r) 16)) ≡ false → stepOf words s .number ≡ 11
+unfolding firstNo
+field-out-of-range words s o l u need m r k e =
+    step-number words s ∙ rw (o, lt-ltb s 8 l, u, needed-row words s m k (row-exact words (rowsIn words) r ∙ rw e (behind there))) (either (recordsSound words s))
+  where
+    there : Bool
+    there = ltb r (rowsIn words) && leb (atRow r + 16) (length words)
+
+    behind : (b : Bool) → (b && false) ≡ false
+    behind true = refl
+    behind false = refl
+
+    either : (b : Bool) → firstNo (asked true 4 ∷ asked true 5 ∷ asked true 10 ∷ asked b 11 ∷ asked false 11 ∷ []) ≡ 11
+    either true = refl
+    either false = refl
 
 -- A withdrawal (2026-06): "question 10 applies, then 11 as for a step". It needs the two records and no row, so that 11 is asked of these alone.
 pub withdrawal-number : (words : List ℕ) (s : ℕ)

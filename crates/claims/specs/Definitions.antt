@@ -16,15 +16,15 @@ pub use Rattle.points.specs.Choice.{sameGrade, chosenOver, Chosen}
 -- ---- words, stations and rows
 
 -- words, rows, question 4, and the counts of the common record
-pub use Rattle.words.specs.Layout.{wordsFor}
-pub use Rattle.words.specs.Words.{get}
-pub use Rattle.rows.specs.Row.{rowAt}
+pub use Rattle.words.specs.Layout.{wordsFor, atRow}
+pub use Rattle.words.specs.Words.{get, part}
+pub use Rattle.rows.specs.Row.{rowAt, rowOf, inRows}
 pub use Rattle.rows.specs.declared.row.Row.the-variants.{Spare}
 pub use Rattle.stations.specs.Common.{placesIn, limitIn, placesAt, openedIn, isOpened, rowsIn}
 pub use Rattle.stations.specs.Counts.{countsAt}
 -- a station's record
 pub use Rattle.stations.specs.Station.{isIdle, isUnfinished, stateAt}
-pub use Rattle.stations.specs.Call.{callAt, kindIn}
+pub use Rattle.stations.specs.Call.{kindIn}
 pub use Rattle.stations.specs.Answer.{waitingAt}
 -- where a station's words are, and how many
 pub use Rattle.words.specs.Agree.{inStation, startOf, sizeOf}
@@ -49,7 +49,9 @@ pub use Rattle.calls.specs.Reply.{Reply as WordReply, done}
 -- the calls
 pub use Rattle.calls.specs.Open.{openOf}
 pub use Rattle.calls.specs.Submit.{curveFits, submitOf}
-pub use Rattle.calls.specs.Step.{recordsSound, workOf, stepOf}
+pub use Rattle.calls.specs.Step.{recordsSound, stepOf}
+-- what a step needs of the rows, and whether all of it is met
+pub use Rattle.calls.specs.Needs.{Need, rowsOf, stepNeeds, rowsSound}
 pub use Rattle.calls.specs.Run.{isGiven, goesOn}
 unfoldable pub use Rattle.calls.specs.Run.{runFor, mostSteps, runOf}
 pub use Rattle.calls.specs.Take.{takeOf, numberOf, takeWords}

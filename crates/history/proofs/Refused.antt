@@ -1,7 +1,7 @@
 -- Refusals: the number of every call is that of the first question answered no, for all words and arguments (`open-number` to `audit-number`), and a
 -- refused call leaves every word as it was (`open-refused` to `take-refused`); a refused audit does not say yes (`audit-refused`).
 use Prim.Native.Nat.{ℕ}
-use mathlib.Core.Path.{_≡_, refl, ap}
+use mathlib.Core.Path.{_≡_, refl, ap, _∙_}
 use mathlib.Core.Logic.{_≢_, _⊎_, inl, inr}
 use mathlib.Core.Bool.{Bool, true, false, cond, _&&_, _||_}
 use mathlib.Core.List.{List}
@@ -31,6 +31,8 @@ use Rattle.calls.specs.Insert.{siteAt, siteSound, insertOf}
 use Rattle.calls.specs.Unlink.{aroundAt, aroundSound, unlinkOf}
 use Rattle.calls.specs.Walk.{wayOf, codeAt, conclude, standsAt, walkOf}
 use Rattle.calls.specs.Step.{recordsSound, workOf, askUnfinished, stepOf}
+use Rattle.calls.specs.Needs.{rowsSound}
+use Rattle.calls.proofs.NeedLaws.{step-needs}
 use Rattle.calls.specs.Withdraw.{withdrawnWords, withdrawOf}
 use Rattle.calls.specs.Take.{takingOf, takeOf, numberOf, emptiedWords, takeWords}
 use Rattle.calls.specs.declared.report.Report.{Report}
@@ -106,11 +108,6 @@ submit-number words s kind p c = go (isOpened (openedIn words)) (ltb s stations)
     go true false i k r f = refl
     go false l i k r f = refl
 
--- a reply of 0 or 11, by the test of its number
-settled-number : (words : List ℕ) (r : Reply) → Settles 11 words r → r .number ≡ orElse (eqb (r .number) 0) 11 0
-settled-number words r (is-done e) = rw e
-settled-number words r (is-refused e) = rw e
-
 pub step-number : (words : List ℕ) (s : ℕ) → stepOf words s .number ≡ firstNo (stepQuestions words s)
 unfolding stepOf firstNo
 step-number words s = go (isOpened (openedIn words)) (ltb s stations) (isUnfinished (stateAt words s)) (recordsSound words s)
@@ -118,8 +115,12 @@ step-number words s = go (isOpened (openedIn words)) (ltb s stations) (isUnfinis
     work : Reply
     work = workOf words (rowsIn words) s (callAt words s)
 
-    go : (o l u r : Bool) → ask o 4 words (ask l 5 words (ask u 10 words (ask r 11 words work))) .number ≡ orElse o 4 (orElse l 5 (orElse u 10 (orElse r 11 (orElse (eqb (work .number) 0) 11 0))))
-    go true true true true = settled-number words work (work-settles words (rowsIn words) s (callAt words s))
+    rows : (b : Bool) → cond b 0 11 ≡ orElse b 11 0
+    rows true = refl
+    rows false = refl
+
+    go : (o l u r : Bool) → ask o 4 words (ask l 5 words (ask u 10 words (ask r 11 words work))) .number ≡ orElse o 4 (orElse l 5 (orElse u 10 (orElse r 11 (orElse (rowsSound words s) 11 0))))
+    go true true true true = step-needs words s ∙ rows (rowsSound words s)
     go true true true false = refl
     go true true false r = refl
     go true false u r = refl

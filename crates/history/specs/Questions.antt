@@ -2,17 +2,18 @@
 use Prim.Native.Nat.{ℕ}
 use mathlib.Core.Bool.{Bool, true, false}
 use mathlib.Core.List.{List, [], _∷_}
-use lib.Dec.{eqb, leb, ltb}
+use lib.Dec.{leb, ltb}
 use lib.ListN.{length}
 use Rattle.points.specs.declared.point.Point.{Point}
 use Rattle.points.specs.Point.{inRange}
 use Rattle.words.specs.Layout.{wordsFor, stations}
-use Rattle.stations.specs.Common.{placesIn, limitIn, openedIn, isOpened, rowsIn}
+use Rattle.stations.specs.Common.{placesIn, limitIn, openedIn, isOpened}
 use Rattle.stations.specs.Station.{isIdle, isUnfinished, stateAt}
-use Rattle.stations.specs.Call.{callAt, kindIn}
+use Rattle.stations.specs.Call.{kindIn}
 use Rattle.stations.specs.Answer.{waitingAt}
 use Rattle.calls.specs.Submit.{curveFits}
-use Rattle.calls.specs.Step.{recordsSound, workOf}
+use Rattle.calls.specs.Step.{recordsSound}
+use Rattle.calls.specs.Needs.{rowsSound}
 use Rattle.calls.specs.Run.{isGiven}
 
 -- a question: whether it is answered yes, and its number
@@ -48,11 +49,11 @@ submitQuestions words s kind p c =
     stationQuestions words s (asked (isIdle (stateAt words s)) 6 ∷ (asked (kindIn kind) 7 ∷ (asked (inRange p) 8 ∷ (asked (curveFits kind c) 9 ∷ []))))
 
 -- "Step: has the station an unfinished call? 10. Are the fields of both records and of every row this step needs in range? 11": first those of
--- the two records; the work finds the rows that it needs, and says 11 where one is not what it must be
+-- the two records, then the rows that the step needs
 abbrev pub stepQuestions : List ℕ → ℕ → List Question
 stepQuestions words s =
     stationQuestions words s
-    (asked (isUnfinished (stateAt words s)) 10 ∷ (asked (recordsSound words s) 11 ∷ (asked (eqb (workOf words (rowsIn words) s (callAt words s) .number) 0) 11 ∷ [])))
+    (asked (isUnfinished (stateAt words s)) 10 ∷ (asked (recordsSound words s) 11 ∷ (asked (rowsSound words s) 11 ∷ [])))
 
 -- a withdrawal: "question 10 applies, then 11 as for a step", of the two records, since it needs no row
 abbrev pub withdrawQuestions : List ℕ → ℕ → List Question

@@ -110,6 +110,20 @@ row-sound w rows r e = go (ltb r rows && leb (atRow r + rowSize) (length w)) e
     go true h = checked-sound rows (rowOf (part w (atRow r) rowSize)) h
     go false h = absurd (false≢true h)
 
+-- a row is read exactly if it is one of the index, in the slice, and every field of its words is in range
+pub row-exact : (w : List ℕ) (rows r : ℕ)
+    → isRow (rowAt w rows r) ≡ ((ltb r rows && leb (atRow r + rowSize) (length w)) && inRows rows (rowOf (part w (atRow r) rowSize)))
+unfolding rowAt checkedRow
+row-exact w rows r = go (ltb r rows && leb (atRow r + rowSize) (length w)) (inRows rows row) refl
+  where
+    row : Row
+    row = rowOf (part w (atRow r) rowSize)
+
+    go : (b i : Bool) → inRows rows row ≡ i → isRow (cond b (cond i row Bad) Bad) ≡ (b && i)
+    go true true e = in-rows-row rows row e
+    go true false e = refl
+    go false i e = refl
+
 -- there is no row from rows on, so none at NONE
 pub rowAt-outside : (w : List ℕ) (rows r : ℕ) → rows ≤ r → rowAt w rows r ≡ Bad
 unfolding rowAt

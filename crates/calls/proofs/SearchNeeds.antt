@@ -1,0 +1,203 @@
+-- A search's step is sound exactly if all that it needs is met (`search-needs`). Assumes nothing.
+use mathlib.Core.Path.{_≡_, refl, sym, ap, _∙_}
+use mathlib.Core.Bool.{Bool, true, false, cond, not, _&&_, _||_}
+use mathlib.Core.List.{List, [], _∷_, _++_}
+use Prim.Native.Nat.{ℕ, zero, suc}
+use lib.Dec.{eqb}
+use Rattle.points.specs.declared.cut.Cut.{Cut as PointCut}
+use Rattle.points.specs.Cut.{goesLeft}
+use Rattle.points.specs.Word.{NONE}
+use Rattle.words.specs.Refusal.{unsound}
+use Rattle.rows.specs.declared.row.Row.{Row}
+use Rattle.rows.specs.declared.row.Row.the-variants.{Bad, Spare, Removed, Leaf, Cut}
+use Rattle.stations.specs.declared.call.Call.{Call}
+use Rattle.rows.specs.Row.{rowAt}
+use Rattle.rows.specs.Grades.{slotOf, admits}
+use Rattle.calls.specs.declared.progress.Progress.{Progress}
+use Rattle.calls.specs.Link.{nextOf, parentOf, linksTo, isTree, isFree}
+use Rattle.calls.specs.Progress.{pickProgress, onward, strayed}
+use Rattle.calls.specs.Look.{lookAt, look}
+use Rattle.calls.specs.Tour.{farShut, downCut, tourDown, fromChild, aboveCut, tourAbove, tourUp, tour, toured}
+use Rattle.calls.specs.Reply.{done, ask}
+use Rattle.calls.specs.Search.{toursOf, seek, progressAt, searchWords, searchOf}
+use Rattle.calls.specs.Needs.{Need, treeAt, cutOver, freeAt, met, allMet, unless, lookNeeds, tourNeeds, toursNeeds, searchNeeds}
+
+-- ---- tests
+
+and-false : (a : Bool) → false ≡ (a && false)
+and-false true = refl
+and-false false = refl
+
+and-true : (a : Bool) → a ≡ (a && true)
+and-true true = refl
+and-true false = refl
+
+and-both : (a b c : Bool) → ((a && b) && c) ≡ (a && (b && c))
+and-both true b c = refl
+and-both false b c = refl
+
+-- two lists are met where both are
+pub met-append : (words : List ℕ) (rows : ℕ) (xs ys : List Need) → (allMet words rows xs && allMet words rows ys) ≡ allMet words rows (xs ++ ys)
+unfolding allMet
+met-append words rows [] ys = refl
+met-append words rows (x ∷ xs) ys = and-both (met words rows x) (allMet words rows xs) (allMet words rows ys) ∙ ap (λ (b : Bool). met words rows x && b) (met-append words rows xs ys)
+
+module _ (words : List ℕ) (rows slot : ℕ) (call : Call) (p : Progress) where
+  -- ---- one move
+
+  -- down from a cut, whichever way
+  cut-sound : (cut : PointCut) (left right : ℕ) (goes : Bool) → downCut words slot call p cut left right goes .sound ≡ p .sound
+  cut-sound cut left right goes = go (admits words (p .cursor) goes slot) (farShut words slot call (p .best) (p .cursor) cut goes)
+    where
+      go : (a f : Bool)
+          → pickProgress a (onward p (cond goes left right) 0 (p .best)) (pickProgress f (onward p (p .cursor) 1 (p .best)) (onward p (cond goes right left) 0 (p .best))) .sound
+          ≡ p .sound
+      go true f = refl
+      go false true = refl
+      go false false = refl
+
+  down-sound : (row : Row) → tourDown words slot call p row .sound ≡ (p .sound && (isTree row && true))
+  down-sound Bad = and-false (p .sound)
+  down-sound (Spare next freed) = and-false (p .sound)
+  down-sound (Removed next freed added point curve) = and-false (p .sound)
+  down-sound (Leaf parent added point curve) = and-true (p .sound)
+  down-sound (Cut parent cut left right) = cut-sound cut left right (goesLeft cut (call .point)) ∙ and-true (p .sound)
+
+  -- up at a cut from one of its children
+  child-sound : (above near far : ℕ) (shut : Bool) → fromChild p above near far shut .sound ≡ (p .sound && (eqb near (p .cursor) || eqb far (p .cursor)))
+  child-sound above near far shut = go (eqb near (p .cursor)) (eqb far (p .cursor)) shut
+    where
+      go : (n f s : Bool)
+          → pickProgress n (pickProgress s (onward p above 1 (p .best)) (onward p far 0 (p .best))) (pickProgress f (onward p above 1 (p .best)) (strayed p)) .sound
+          ≡ (p .sound && (n || f))
+      go true f true = and-true (p .sound)
+      go true f false = and-true (p .sound)
+      go false true s = and-true (p .sound)
+      go false false s = and-false (p .sound)
+
+  either-way : (a b : Bool) → (a || b) ≡ (b || a)
+  either-way true true = refl
+  either-way true false = refl
+  either-way false true = refl
+  either-way false false = refl
+
+  sides-sound : (above : ℕ) (cut : PointCut) (left right : ℕ) (goes : Bool)
+      → aboveCut words slot call p above cut left right goes .sound ≡ (p .sound && (eqb left (p .cursor) || eqb right (p .cursor)))
+  sides-sound above cut left right true = child-sound above left right (farShut words slot call (p .best) above cut true)
+  sides-sound above cut left right false =
+      child-sound above right left (farShut words slot call (p .best) above cut false)
+      ∙ ap (λ (b : Bool). p .sound && b) (either-way (eqb right (p .cursor)) (eqb left (p .cursor)))
+
+  above-sound : (above : ℕ) (row : Row) → tourAbove words slot call p above row .sound ≡ (p .sound && linksTo (p .cursor) row)
+  above-sound above Bad = and-false (p .sound)
+  above-sound above (Spare next freed) = and-false (p .sound)
+  above-sound above (Removed next freed added point curve) = and-false (p .sound)
+  above-sound above (Leaf parent added point curve) = and-false (p .sound)
+  above-sound above (Cut parent cut left right) = sides-sound above cut left right (goesLeft cut (call .point))
+
+  -- what is asked of the parent
+  abbrev parentNeeds : ℕ → Bool → List Need
+  parentNeeds parent top = unless top (cutOver parent (p .cursor) ∷ [])
+
+  up-sound : (row : Row) → tourUp words rows slot call p row .sound ≡ (p .sound && (isTree row && allMet words rows (parentNeeds (parentOf row) (eqb (parentOf row) NONE))))
+  unfolding allMet
+  up-sound row = go (isTree row) (eqb (parentOf row) NONE)
+    where
+      go : (t top : Bool)
+          → pickProgress t (pickProgress top (onward p NONE 1 (p .best)) (tourAbove words slot call p (parentOf row) (rowAt words rows (parentOf row)))) (strayed p) .sound
+          ≡ (p .sound && (t && allMet words rows (parentNeeds (parentOf row) top)))
+      go true true = and-true (p .sound)
+      go true false =
+          above-sound (parentOf row) (rowAt words rows (parentOf row))
+          ∙ ap (λ (b : Bool). p .sound && b) (and-true (linksTo (p .cursor) (rowAt words rows (parentOf row))))
+      go false top = and-false (p .sound)
+
+  tour-sound : tour words rows slot call p .sound ≡ (p .sound && allMet words rows (tourNeeds words rows p))
+  unfolding tour allMet
+  tour-sound = go (eqb (p .cursor) NONE) (eqb (p .phase) 0)
+    where
+      row : Row
+      row = rowAt words rows (p .cursor)
+
+      go : (over down : Bool)
+          → pickProgress over p (pickProgress down (tourDown words slot call p row) (tourUp words rows slot call p row)) .sound
+          ≡ (p .sound && allMet words rows (unless over (treeAt (p .cursor) ∷ unless (down || eqb (parentOf row) NONE) (cutOver (parentOf row) (p .cursor) ∷ []))))
+      go true down = and-true (p .sound)
+      go false true = down-sound row
+      go false false = up-sound row
+
+  -- ---- the look
+
+  look-sound : look words rows call p .sound ≡ (p .sound && allMet words rows (lookNeeds words rows p))
+  unfolding look allMet
+  look-sound = go (eqb (p .missed) NONE) (eqb (nextOf row) NONE)
+    where
+      row : Row
+      row = rowAt words rows (p .missed)
+
+      after : Row
+      after = rowAt words rows (nextOf row)
+
+      goal : (s f n a : Bool) → ((s && f) && (n || a)) ≡ (s && (f && (n || (a && true))))
+      goal true true true a = refl
+      goal true true false true = refl
+      goal true true false false = refl
+      goal true false n a = refl
+      goal false f n a = refl
+
+      split : (n : Bool) → (n || (isFree after && true)) ≡ allMet words rows (unless n (freeAt (nextOf row) ∷ []))
+      split true = refl
+      split false = refl
+
+      go : (none last : Bool)
+          → pickProgress none p (record {
+            cursor = p .cursor;
+            phase = p .phase;
+            missed = lookAt call p row after .missed;
+            best = lookAt call p row after .best;
+            sound = (p .sound && isFree row) && (last || isFree after);
+          }) .sound
+          ≡ (p .sound && allMet words rows (unless none (freeAt (p .missed) ∷ unless last (freeAt (nextOf row) ∷ []))))
+      go true last = and-true (p .sound)
+      go false last = goal (p .sound) (isFree row) last (isFree after) ∙ ap (λ (b : Bool). p .sound && (isFree row && b)) (split last)
+
+-- ---- so many moves
+
+toured-sound : (words : List ℕ) (rows slot : ℕ) (call : Call) (n : ℕ) (p : Progress)
+    → toured words rows slot call n p .sound ≡ (p .sound && allMet words rows (toursNeeds words rows slot call n p))
+unfolding toured toursNeeds allMet
+toured-sound words rows slot call zero p = and-true (p .sound)
+toured-sound words rows slot call (suc n) p =
+    let q = toured words rows slot call n p in
+    tour-sound words rows slot call q
+    ∙ ap (λ (b : Bool). b && allMet words rows (tourNeeds words rows q)) (toured-sound words rows slot call n p)
+    ∙ and-both (p .sound) (allMet words rows (toursNeeds words rows slot call n p)) (allMet words rows (tourNeeds words rows q))
+    ∙ ap (λ (b : Bool). p .sound && b) (met-append words rows (toursNeeds words rows slot call n p) (tourNeeds words rows q))
+
+-- ---- the step of a nearest
+
+pub search-needs : (words : List ℕ) (rows s : ℕ) (call : Call) → searchOf words rows s call .number ≡ cond (allMet words rows (searchNeeds words rows s call)) 0 unsound
+unfolding searchOf seek searchNeeds progressAt
+search-needs words rows s call = number (q .sound) ∙ ap (λ (b : Bool). cond b 0 unsound) sound
+  where
+    p : Progress
+    p = progressAt words s call
+
+    looked : Progress
+    looked = look words rows call p
+
+    q : Progress
+    q = toured words rows (slotOf (call .point)) call (toursOf (p .missed)) looked
+
+    moves : List Need
+    moves = toursNeeds words rows (slotOf (call .point)) call (toursOf (p .missed)) looked
+
+    number : (b : Bool) → ask b unsound words (done (searchWords words s call q)) .number ≡ cond b 0 unsound
+    number true = refl
+    number false = refl
+
+    sound : q .sound ≡ allMet words rows (lookNeeds words rows p ++ moves)
+    sound =
+        toured-sound words rows (slotOf (call .point)) call (toursOf (p .missed)) looked
+        ∙ ap (λ (b : Bool). b && allMet words rows moves) (look-sound words rows (slotOf (call .point)) call p)
+        ∙ met-append words rows (lookNeeds words rows p) moves
