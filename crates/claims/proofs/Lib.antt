@@ -28,3 +28,4 @@ pub mod Effects
 pub mod Stepping
 -- Demand 3 as it is written out here says the same as the definition that `history` proves.
 pub mod Same
+pub mod Contracts

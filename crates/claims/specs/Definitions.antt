@@ -45,7 +45,7 @@ unfoldable pub use Rattle.table.specs.History.{reply, answered}
 -- ---- calls
 
 -- number and words of a call
-pub use Rattle.calls.specs.Reply.{Reply as WordReply, done}
+pub use Rattle.calls.specs.Reply.{Reply as WordReply, replied, done}
 -- the calls
 pub use Rattle.calls.specs.Open.{openOf}
 pub use Rattle.calls.specs.Submit.{curveFits, submitOf}
@@ -97,7 +97,7 @@ unfoldable pub use Rattle.frames.specs.Write.{padded, writtenBytes, writtenOf, 
 -- a frame on the words: what it gives, the number of that, and the words after it; the words after a reading
 pub use Rattle.lines.specs.Apply.{appliedNumber}
 unfoldable pub use Rattle.lines.specs.Apply.{pointOf, submissionReply, applyOf, applyWords}
-unfoldable pub use Rattle.lines.specs.Line.{lineWords}
+unfoldable pub use Rattle.lines.specs.Line.{lineOf, lineWords}
 -- ---- window
 
 -- a window's state, what is told of the readings present, and what a call gives back
