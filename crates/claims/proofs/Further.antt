@@ -20,7 +20,7 @@ use Rattle.history.proofs.Demand3.{accepted}
 use Rattle.history.proofs.Reached.{Stands, history-related}
 use Rattle.history.proofs.StepNumbers.{step-numbers, step-never-11}
 use Rattle.history.proofs.Run.{run-answers}
-use Rattle.claims.proofs.Stepping.{run-steps}
+use Rattle.claims.proofs.Stepping.{IsSteps, run-steps}
 use Rattle.history.proofs.Refused
 use Rattle.claims.proofs.Demand1.{report-number, audit-number}
 use Rattle.claims.proofs.Demand3.{Moments, demand-3}
@@ -105,10 +105,9 @@ pub never-11 : (words : List ℕ) (places limit : ℕ) → openOf words places l
     → ¬ (stepOf (after evs (openOf words places limit .words)) s .number ≡ 11)
 never-11 = step-never-11
 
--- "Run gives the station steps …, at most 16 × places + 64. Each of them is a call of its own: a refused step ends the run, its number is the run's result, and the
--- steps before it stand": for all words, n steps are accepted, and number and words are those of the step after them.
-pub run-is-steps : (words : List ℕ) (s : ℕ)
-    → (n : ℕ) × (n < mostSteps words) × ((k : ℕ) → k < n → stepOf (stepped k words s) s .number ≡ 0) × (runOf words s ≡ stepOf (stepped n words s) s)
+-- "Run gives the station steps until it is answered, at most 16 × places + 64. Each of them is a call of its own: a refused step ends the run, its number is the run's
+-- result, and the steps before it stand": for all words.
+pub run-is-steps : (words : List ℕ) (s : ℕ) → (n : ℕ) × IsSteps words s n
 run-is-steps = run-steps
 
 -- "Run gives the station steps until it is answered": after every history a run of a station with an unfinished call is accepted, and its answer waits.
