@@ -117,6 +117,22 @@ pub run-after : (words : List ℕ) (places limit : ℕ) → openOf words places 
     × (numberOf (takeOf (runOf (after evs (openOf words places limit .words)) s .words) s) ≡ 0)
 run-after words places limit e evs s u = let x = run-answers words places limit e evs s u in (x .number, x .answered)
 
+-- ---- records
+
+-- the ranges of a point's coordinates, in this order: grade, basis weight, reel moisture, speed, draw (`leZ` compares numbers with a sign)
+pub point-ranges : (p : Point)
+    → inRange p
+    ≡ (((((leZ (pos 1) (p .grade) && leZ (p .grade) (pos 9999))
+    && (leZ (pos 1) (p .weight) && leZ (p .weight) (pos 100000)))
+    && (leZ (pos 0) (p .moisture) && leZ (p .moisture) (pos 10000)))
+    && (leZ (pos 0) (p .speed) && leZ (p .speed) (pos 30000)))
+    && (leZ (negsuc 1999) (p .draw) && leZ (p .draw) (pos 2000)))
+point-ranges = PointLaws.point-ranges
+
+-- the square of two points in range is "at most 11,015,800,001"
+pub square-most : (a b : Point) → inRange a ≡ true → inRange b ≡ true → squareOf a b ≤ 11015800001
+square-most = square-le
+
 -- ---- the comparison of points
 
 -- 2026-03: "the comparison should end at the first axis that differs. It also tells how many axes it looked at, proved to be the number of that axis, or 5 where none differs;

@@ -34,7 +34,7 @@ pub use Rattle.words.specs.Agree.{inStation, startOf, sizeOf}
 pub use Rattle.table.specs.Record.{Record, Same, Once, curveAt}
 pub use Rattle.table.specs.Call.{Call, add, remove, contains, nearest, callOf, Answer, answer, isChange}
 -- the plain table: at first, the number of places taken, a call's answer and its effect
-pub use Rattle.table.specs.Table.{Table, unfinished, eight}
+pub use Rattle.table.specs.Table.{Table, unfinished, busy, eight}
 unfoldable pub use Rattle.table.specs.Table.{opened, taken, answerOf, changedIf}
 -- the unfinished nearest calls of some stations, some stations but one, and the removals that such calls hold
 pub use Rattle.table.specs.Table.{searches, others, holding}

@@ -16,7 +16,7 @@ use Rattle.points.specs.declared.point.Point.{Point}
 use Rattle.stations.specs.Station.{isUnfinished, stateAt}
 use Rattle.stations.specs.Call.{callAt}
 use Rattle.table.specs.Call.{Call, add, remove, contains, nearest, Answer, withdrawnAnswer}
-use Rattle.table.specs.Table.{Station, idle, unfinished, waiting, Table, put, withStations}
+use Rattle.table.specs.Table.{Station, idle, unfinished, waiting, Table, busy, put, withStations}
 use Rattle.table.specs.Event.{singleStep}
 use Rattle.table.specs.History.{answered}
 use Rattle.table.proofs.Eager.{unsettled, Settled}
@@ -27,7 +27,7 @@ use Rattle.table.proofs.Stations.{put-other}
 use Rattle.table.proofs.Taken.{search-places}
 use Rattle.table.proofs.Retract.{retract}
 use Rattle.table.proofs.Reached.{sound-wait}
-use Rattle.table.proofs.Settled.{busy, retract-ends}
+use Rattle.table.proofs.Settled.{retract-ends}
 use Rattle.trees.specs.Measure.{stepMoves}
 use Rattle.calls.specs.Step.{stepOf}
 use Rattle.calls.specs.Withdraw.{withdrawOf, withdrawnWords}

@@ -15,7 +15,7 @@ use Rattle.table.proofs.Stations.{put-other}
 use Rattle.table.proofs.Sound.{Sound, sound-set}
 use Rattle.table.proofs.Reached.{sound-submit, sound-take}
 use Rattle.table.proofs.Trim.{trim}
-use Rattle.table.proofs.Alike.{Alike, alike-trim, alike-answer, alike-submit, alike-changed, alike-agree}
+use Rattle.table.proofs.Alike.{Alike, alike-busy, alike-trim, alike-answer, alike-submit, alike-changed, alike-agree}
 use Rattle.table.proofs.Eager.{unsettled, settle}
 use Rattle.table.proofs.Settled.{settled, settle-keeps, settle-stays}
 use Rattle.table.proofs.Simulation.{Matches, finished, simulation-leads}
@@ -40,6 +40,7 @@ use Rattle.history.proofs.Demand3.{Accepted, accepted, simulation, fini
 use Rattle.history.proofs.Reached.{history-related}
 use Rattle.history.proofs.Stepped.{Stepped, stepped-ends}
 use Rattle.history.proofs.Run.{run-related}
+use Rattle.history.proofs.Everybody.{unfinished-same}
 use Rattle.trees.specs.Measure.{stepMoves}
 
 -- ---- one call
@@ -176,6 +177,7 @@ demand-2-opened words places limit a evs =
       ends = w .ends;
       agrees = alike-agree wordIndex now (alike-trim (λ s. false) t) (related-agrees (w .sound) (w .related));
       submits = λ s kind p c. related-submits s kind p c (w .sound) (w .related) .number ∙ alike-submit (alike-trim (λ s. false) t) s kind p c;
+      unfinished = λ s l. unfinished-same (w .related) s l ∙ alike-busy (alike-trim (λ s. false) t) s;
       alone = λ s kind p c e.
           runs-alike (alike-trim (λ s. false) t) (subst (λ (m : ℕ). RunsAlone now t (16 * m + 64) s kind p c) n (related-alone now t (w .sound) (w .related) s kind p c e));
     }

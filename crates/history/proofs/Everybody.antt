@@ -9,11 +9,11 @@ use native.Mathlib.Decide.{decLt, ℕ-discrete}
 use borrow.Author.Tests.{eq-eqb, ne-eqb}
 use Rattle.words.specs.Layout.{stations}
 use Rattle.stations.specs.Station.{isUnfinished, stateAt}
-use Rattle.table.specs.Table.{Station, idle, unfinished, waiting, Table}
+use Rattle.table.specs.Table.{Station, idle, unfinished, waiting, Table, busy}
 use Rattle.table.specs.Event.{Event, submission, singleStep, taking, withdrawal, accept}
 use Rattle.table.specs.History.{reply, answered}
 use Rattle.table.proofs.Eager.{own}
-use Rattle.table.proofs.Settled.{busy, take-busy, retract-busy, retract-ends, answer-busy}
+use Rattle.table.proofs.Settled.{take-busy, retract-busy, retract-ends, answer-busy}
 use Rattle.table.proofs.Simulation.{finished, answer-step}
 use Rattle.calls.specs.Open.{openOf}
 use Rattle.calls.specs.Step.{stepOf}

@@ -144,6 +144,17 @@ tests p e =
     let e2 = and-l (a && b) c e3 in
     record { grade = and-l a b e2; weight = and-r a b e2; moisture = and-r (a && b) c e3; speed = and-r ((a && b) && c) d e4; draw = and-r (((a && b) && c) && d) f e }
 
+-- the ranges of the five coordinates, in numbers
+pub point-ranges : (p : Point)
+    → inRange p
+    ≡ (((((leZ (pos 1) (p .grade) && leZ (p .grade) (pos 9999))
+    && (leZ (pos 1) (p .weight) && leZ (p .weight) (pos 100000)))
+    && (leZ (pos 0) (p .moisture) && leZ (p .moisture) (pos 10000)))
+    && (leZ (pos 0) (p .speed) && leZ (p .speed) (pos 30000)))
+    && (leZ (negsuc 1999) (p .draw) && leZ (p .draw) (pos 2000)))
+unfolding inRange onAxis withinRange rangeOf indexOf coordinateOf
+point-ranges p = refl
+
 -- a point in range is so on every axis
 pub in-range-axis : (p : Point) → inRange p ≡ true → (axis : ℕ) → onAxis p axis ≡ true
 unfolding onAxis coordinateOf rangeOf indexOf

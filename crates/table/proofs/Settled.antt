@@ -12,7 +12,7 @@ use lib.Dec.{ltb}
 use Rattle.points.specs.declared.point.Point.{Point}
 use Rattle.points.specs.Point.{inRange}
 use Rattle.table.specs.Call.{Call, callOf, kindInRange, isSearch, Answer, withdrawnAnswer}
-use Rattle.table.specs.Table.{Station, idle, unfinished, waiting, Table, eight, put, withStations, answerOf}
+use Rattle.table.specs.Table.{Station, idle, unfinished, waiting, Table, busy, eight, put, withStations, answerOf}
 use Rattle.table.specs.Event.{Event, singleStep, Reply, accept, isIdle, curveFits, enter, submit, setDown, stepAt, step, takeAt, take, perform, moments, feed}
 use Rattle.table.proofs.Stations.{put-cases, put-same, Each, each-mem, each-eight, eight-mem}
 use Rattle.table.proofs.Moments.{set-same, set-cases, Moment, moments-keep, moment-own, moment-other, feed-inv}
@@ -22,12 +22,6 @@ use Rattle.table.proofs.Retract.{retract, retract-all}
 use Rattle.table.proofs.Eager.{unsettled, Settled, settleOne, settle, Unsettled, unsettled-cases}
 
 -- ## The first moments
-
--- the station's call is unfinished
-unfoldable pub busy : Station → Bool
-busy idle = false
-busy (waiting a) = false
-busy (unfinished i c o) = true
 
 -- station u after a first moment of station s: as it was, or its own call with its answer set down
 abbrev AfterFirst : Table → ℕ → ℕ → Type 0

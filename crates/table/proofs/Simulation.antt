@@ -12,7 +12,7 @@ use borrow.Author.Tests.{eqb-true, eq-eqb, lt-ltb}
 use Rattle.points.specs.declared.point.Point.{Point}
 use Rattle.table.specs.Record.{Same}
 use Rattle.table.specs.Call.{Call, isSearch, Answer, isChange}
-use Rattle.table.specs.Table.{Station, idle, unfinished, waiting, Table, eight, opened, put, withStations, answerOf, changedIf}
+use Rattle.table.specs.Table.{Station, idle, unfinished, waiting, Table, busy, eight, opened, put, withStations, answerOf, changedIf}
 use Rattle.table.specs.Event.{Event, submission, singleStep, taking, withdrawal, Reply, accept, refuse, ask, submit, setDown, ownStep, mayFall, onlyIf, momentAt, moment, stepAt, step, take, perform, moments, feed}
 use Rattle.table.specs.History.{Index, reply, after, answered, Agree, effects, AtEnd, Follows, Ends, Linear}
 use Rattle.table.proofs.Tests.{and-left}
@@ -24,7 +24,7 @@ use Rattle.table.proofs.Trim.{keepIf, trim, trimReply, station-trim, tr
 use Rattle.table.proofs.Retract.{retract, sound-retract}
 use Rattle.table.proofs.Alike.{alike-trim, alike-agree}
 use Rattle.table.proofs.Eager.{Rest, answeredIn, Settled, settle, performed, ownAt, own, fed, fed-inv, eager, feed-trim}
-use Rattle.table.proofs.Settled.{busy, settle-busy, settled, settle-keeps, forget-end, submit-busy, take-busy, retract-busy, still-next, answer-busy}
+use Rattle.table.proofs.Settled.{settle-busy, settled, settle-keeps, forget-end, submit-busy, take-busy, retract-busy, still-next, answer-busy}
 
 -- ## What is to be shown
 
