@@ -1,6 +1,5 @@
--- The audit: "An audit says yes exactly if the rows linked from the root, if any, have fields in range as for question 11 and form a tree in
--- which each leaf's point is on the side that every cut above it sends it, parent links agree, and every row lies in the tree, among the spare
--- rows, or in the records awaiting release, once and in order of removal."
+-- The audit (Rules 6.6, 6.7): question 4, and then whether the rows linked from the root form a tree with its leaves on their sides, and every row lies
+-- in the tree or in the queue, "once and in order of removal".
 -- `treeIn` counts the leaves of the tree, `queueIn` walks the free rows; together they must be all the rows.
 use Prim.Native.Nat.{ℕ}
 use mathlib.Core.Bool.{Bool, false, cond}

@@ -1,4 +1,4 @@
--- The records held: "those on the leaves linked from the root".
+-- The records held: "those on the leaves linked from the root" (Rules 6.1).
 use Prim.Native.Nat.{ℕ, zero, suc}
 use mathlib.Core.List.{List, [], _∷_, _++_}
 use Rattle.stations.specs.Counts.{countsAt}

@@ -1,4 +1,4 @@
--- A record is inserted where the walk of its point ended, at row `at`: beside the leaf there, or alone where `at` is none.
+-- A record is inserted where the walk of its point ended, at row `at`: beside the leaf there, under a new cut (Rules 6.2), or alone where `at` is none.
 use Prim.Native.Nat.{ℕ, zero, suc}
 use mathlib.Core.Bool.{Bool, true, false, cond, _&&_, _||_, not}
 use mathlib.Core.List.{List}
@@ -44,7 +44,7 @@ unfoldable pub siteAt : List ℕ → ℕ → ℕ → Site
 siteAt words rows at =
     siteWith words rows at (rowAt words rows (countsAt words .head)) (cond (eqb at NONE) NONE (nextOf (rowAt words rows (countsAt words .head)))) (rowAt words rows at)
 
--- the rows are what a queue and a tree have there: free rows with a row behind them, and a leaf whose parent, if any, links to it
+-- the rows are what a queue and a tree have there (Rules 7.13): free rows with a row behind them, and a leaf whose parent, if any, links to it
 unfoldable pub siteSound : Site → Bool
 siteSound site =
     not (eqb (nextOf (site .front)) NONE)
@@ -111,7 +111,7 @@ cursorTo gone to track = standing (cond (eqb (track .cursor) gone) to (track .cu
 unfoldable pub cursorMoved : ℕ → ℕ → ℕ → List ℕ → List ℕ
 cursorMoved gone to s words = putTrack words s (cursorTo gone to (trackAt words s))
 
--- "every cursor on e moves to b; phases stay": of the first n stations
+-- every cursor on the row gone moves, and phases stay: of the first n stations
 unfoldable pub cursorsMoved : ℕ → ℕ → ℕ → List ℕ → List ℕ
 cursorsMoved gone to zero words = words
 cursorsMoved gone to (suc n) words = cursorMoved gone to n (cursorsMoved gone to n words)

@@ -1,4 +1,4 @@
--- Opening (document 01, "Questions": 1, 2 and 3): no record held, every row spare, every station idle and no change counted.
+-- Opening: questions 1 to 3 (Rules 7.3); it begins with "no record held, every row spare, every station idle and no change counted" (Rules 7.4).
 use Prim.Native.Nat.{ℕ, zero, suc, _+_, _*_, _-_}
 use mathlib.Core.Bool.{cond}
 use mathlib.Core.List.{List}

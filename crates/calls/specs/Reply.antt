@@ -15,7 +15,7 @@ replied number words = record { number = number; words = words }
 abbrev pub done : List ℕ → Reply
 done words = record { number = 0; words = words }
 
--- "a refused call changes no word"
+-- a refusal is "its number alone" (Rules 7.2): the words stay
 abbrev pub refused : ℕ → List ℕ → Reply
 refused number words = record { number = number; words = words }
 

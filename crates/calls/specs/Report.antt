@@ -1,4 +1,4 @@
--- A report: "A report gives the number of places taken, as the common record counts them".
+-- A report: "the number of places taken, as the common record counts them" (Rules 3.6).
 use Prim.Native.Nat.{ℕ}
 use mathlib.Core.Bool.{cond}
 use mathlib.Core.List.{List}

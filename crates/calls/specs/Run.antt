@@ -1,5 +1,5 @@
--- A run: "Run gives the station steps until it is answered, at most 16 × places + 64. Each of them is a call of its own: a refused step ends
--- the run, its number is the run's result, and the steps before it stand."
+-- A run (Rules 8.2): steps of the station until it is answered, at most 16 × places + 64; "a refused step ends the run, its number is the run's result,
+-- and the steps before it stand".
 use Prim.Native.Nat.{ℕ, zero, suc, _+_, _*_}
 use mathlib.Core.Bool.{Bool, true, false, cond, _&&_, not}
 use mathlib.Core.List.{List}

@@ -1,4 +1,5 @@
--- The work of one step of a nearest call: five moves, or a look and three where a row was missed, and an answer where nothing is left.
+-- The work of one step of a nearest call: five moves, or a look and three where a row was missed, and an answer where nothing is left. What it asks of
+-- rows is Rules 7.15.
 use Prim.Native.Nat.{ℕ}
 use mathlib.Core.Bool.{Bool, true, false, cond, _&&_}
 use mathlib.Core.List.{List}
@@ -36,7 +37,7 @@ progressAt words s call =
 abbrev pub isFinished : Progress → Bool
 isFinished p = eqb (p .cursor) NONE && eqb (p .missed) NONE
 
--- 8 with the best and its square, or 9
+-- 8 with the best and its square, or 9 (Rules 2.8)
 unfoldable pub foundAnswer : Call → Best → Answer
 foundAnswer call best = cond (eqb (best .curve) 0) (answer codeNone (call .point) 0 0) (answer codeNearest (best .point) (best .curve) (squareOf (call .point) (best .point)))
 

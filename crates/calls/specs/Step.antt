@@ -1,4 +1,4 @@
--- A step (document 01, "Questions": 4, 5, 10, 11): all that it needs is read and checked before anything is written.
+-- A step: questions 4, 5, 10 and 11 (Rules 7.8). All that it needs is read and checked before anything is written (Rules 8.1).
 use Prim.Native.Nat.{ℕ}
 use mathlib.Core.Bool.{Bool, cond, _&&_}
 use mathlib.Core.List.{List}
@@ -14,7 +14,7 @@ use Rattle.calls.specs.Reply.{Reply, pickReply, ask}
 use Rattle.calls.specs.Search.{searchOf}
 use Rattle.calls.specs.Walk.{walkOf}
 
--- the fields of the common record and of the station's call are in range
+-- the fields of the common record and of the station's call are in range (Rules 7.10)
 unfoldable pub recordsSound : List ℕ → ℕ → Bool
 recordsSound words s = commonSound words (rowsIn words) && callSound (callAt words s) (countsAt words .changes)
 

@@ -1,4 +1,4 @@
--- Submission (document 01, "Questions": 4 to 9). It reads and writes the common record and the station's alone.
+-- Submission: questions 4 to 9 (Rules 7.7). It reads and writes the common record and the station's alone (Rules 5.1).
 use Prim.Native.Nat.{ℕ}
 use mathlib.Core.Bool.{Bool, cond, _&&_, _||_, not}
 use mathlib.Core.List.{List}
@@ -20,7 +20,7 @@ use Rattle.stations.specs.Target.{putTarget}
 use Rattle.stations.specs.Call.{noBest, putCall, addKind, nearestKind, kindIn}
 use Rattle.calls.specs.Reply.{Reply, done, ask}
 
--- "For an add, curve in range? Other kinds disregard the curve."
+-- question 9: for an add the curve is in range; "other kinds disregard the curve" (Rules 7.7)
 abbrev pub curveFits : ℕ → ℕ → Bool
 curveFits kind curve = not (eqb kind addKind) || curveIn curve
 
@@ -28,7 +28,7 @@ curveFits kind curve = not (eqb kind addKind) || curveIn curve
 unfoldable pub callFor : ℕ → ℕ → Point → ℕ → Call
 callFor changes kind point curve = record { kind = kind; point = point; curve = cond (eqb kind addKind) curve 0; asof = changes; best = noBest }
 
--- "since": the removals at the submission of a nearest, none for another call
+-- since: the removals at the submission of a nearest, none for another call
 abbrev pub sinceFor : ℕ → ℕ → ℕ
 sinceFor removals kind = cond (eqb kind nearestKind) removals NONE
 

@@ -1,4 +1,4 @@
--- A taking (document 01, "Questions": 4, 5, 12). It writes one word.
+-- A taking: questions 4, 5 and 12 (Rules 7.17). It writes one word.
 use Prim.Native.Nat.{ℕ}
 use mathlib.Core.Bool.{Bool, true, false, cond}
 use mathlib.Core.List.{List}
@@ -26,12 +26,12 @@ stationTaking words s = cond (ltb s stations) (takingOf (waitingAt words s)) (Re
 unfoldable pub takeOf : List ℕ → ℕ → Taking
 takeOf words s = cond (isOpened (openedIn words)) (stationTaking words s) (Refusal notOpened)
 
--- document 01's number of a taking
+-- the number of a taking (Rules 7.1)
 abbrev pub numberOf : Taking → ℕ
 numberOf (Refusal number) = number
 numberOf (Taken a) = 0
 
--- "Taking leaves the station idle"; a refusal leaves every word
+-- a taking "leaves the station idle" (Rules 2.3); a refusal leaves every word (Rules 7.2)
 abbrev pub emptiedWords : List ℕ → ℕ → Taking → List ℕ
 emptiedWords words s (Refusal number) = words
 emptiedWords words s (Taken a) = putState words s (emptied (stateAt words s))

@@ -44,7 +44,7 @@ aroundWith words rows at leaf cut = record {
 unfoldable pub aroundAt : List ℕ → ℕ → ℕ → Around
 aroundAt words rows at = aroundWith words rows at (rowAt words rows at) (rowAt words rows (parentOf (rowAt words rows at)))
 
--- the rows are what a queue and a tree have there
+-- the rows are what a queue and a tree have there (Rules 7.14)
 unfoldable pub aroundSound : Around → Bool
 aroundSound a =
     ((isFree (a .last) && eqb (nextOf (a .last)) NONE) && isLeaf (a .leaf))

@@ -1,4 +1,4 @@
--- The work of one step of an add, a remove or a contains: six rows down, or the decision at the leaf or in the empty tree.
+-- The work of one step of an add, a remove or a contains: six rows down, or the decision at the leaf or in the empty tree. What it asks of rows is Rules 7.12.
 use Prim.Native.Nat.{ℕ}
 use mathlib.Core.Bool.{Bool, true, false, cond, _||_}
 use mathlib.Core.List.{List}
@@ -76,8 +76,7 @@ walkTo words s call way = pickReply (eqb (way .to) NONE) (refused unsound words)
 
 -- ---- the decision
 
--- "Add: held already? 2. Else changes used up? 4. Else every place taken? 3. Else 1. Remove: not held? 6. Else changes used up? 4. Else 5.
--- Contains: 7 or 6."
+-- the code of an add (Rules 2.5), a remove (Rules 2.6) or a contains (Rules 2.7)
 unfoldable pub codeOf : ℕ → Bool → Bool → Bool → ℕ
 codeOf kind held spent full =
     cond (eqb kind addKind) (cond held codeHeld (cond spent codeSpent (cond full codeFull codeAdded)))

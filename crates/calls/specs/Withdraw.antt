@@ -1,4 +1,4 @@
--- A withdrawal (document 02, 2026-06): the questions of a step about the two records, and the call is answered 11. No row is read, so that a damaged row
+-- A withdrawal: the questions of a step about the two records (Rules 7.9), and the call is answered 11 (Rules 2.9). No row is read, so that a damaged row
 -- keeps nobody in. No unfinished call has taken effect: an add or a remove is answered by the step that changes the held records.
 use Prim.Native.Nat.{ℕ}
 use mathlib.Core.List.{List}
@@ -10,7 +10,7 @@ use Rattle.calls.specs.Reply.{Reply, done}
 use Rattle.calls.specs.Answer.{answer, answeredWords}
 use Rattle.calls.specs.Step.{askUnfinished}
 
--- "11, withdrawn, with its point, curve 0 and square 0"
+-- 11 with its point, curve 0 and square 0 (Rules 2.4)
 abbrev pub withdrawnAnswer : Call → Answer
 withdrawnAnswer call = answer codeWithdrawn (call .point) 0 0
 

@@ -1,6 +1,6 @@
 // The cases, each a part of a text: its name, what it counts, and its items. `raw` says what the capital letters mean, `script` and `play` the small
 // ones, and `parts` how the cases of a text and the remarks between them are told apart.
-// Kinds of calls are document 01's: 1 add, 2 remove, 3 contains, 4 nearest.
+// Kinds of calls (Rules 2.2): 1 add, 2 remove, 3 contains, 4 nearest.
 use crate::play::run_cases;
 
 // Calls at the ends of their ranges.

@@ -1,4 +1,4 @@
--- The table P1 to P10 of document 01, proved as one (`proved-cases`). Rows about calls are one law, `answered-calls`: by demand 2, words that stand for a
+-- The table P1 to P10 (Rules 13), proved as one (`proved-cases`). Rows about calls are one law, `answered-calls`: by demand 2, words that stand for a
 -- table answer each call run alone as it does, and then stand for the table after the call (`called` of `history`). What the table answers is computed.
 use Prim.Native.Nat.{ℕ, _≤_}
 use mathlib.Core.Path.{_≡_, refl, subst, _∙_}
@@ -48,7 +48,7 @@ answered-calls places limit calls answers p m k e = record {
 
 -- ---- the table
 
--- "P1 to P10 form one proved table with one theorem."
+-- P1 to P10, one table with one theorem
 pub proved-cases : ProvedCases
 unfolding run answersOf
 proved-cases = record {

@@ -5,7 +5,7 @@
 -- are defined for every content and every argument; and Rattle proves that each call ends. `read_report` and `audit` are lent the words for reading alone.
 -- Of `frames`, `readers` and `lines` the same: `read_frame`, `write_frame`, `write_fields`, `apply_frame` and `next_line` are `readOf`, `writtenOf`, `writeOf`, `applyOf` with `applyWords`, and `lineOf` with
 -- `lineWords`; a reader's `next` is `readOf` and `positionAfter`; the bytes are lent for reading alone.
--- A question is a test and its number; `firstNo` is the number of the first that fails, and 0 where none does.
+-- A question is a test and its number; `firstNo` is the number of the first that fails, and 0 where none does (Rules 7.1).
 use Prim.Native.Nat.{ℕ, _+_, _<_}
 use mathlib.Core.Path.{_≡_, refl, _∙_}
 use mathlib.Core.Bool.{Bool, true, false, cond, _&&_}
@@ -26,21 +26,20 @@ use Rattle.lines.proofs.LineLaws
 
 -- ---- the number of the first check it fails
 
--- "Opening: places 1 to 4,096? 1. Change limit 1 to 4,000,000,000? 2. Slice at least 32 × places + 608 words? 3."
+-- opening: questions 1 to 3 (Rules 7.3)
 pub open-number : (words : List ℕ) (places limit : ℕ)
     → openOf words places limit .number ≡ firstNo (asked (placesIn places) 1 ∷ asked (limitIn limit) 2 ∷ asked (leb (wordsFor places) (length words)) 3 ∷ [])
 open-number = Refused.open-number
 
--- "Every other call on a slice: are the mark that opening writes, places and limit in range, and length enough for them all there? 4. Station 0 to 7? 5."
--- "Submission: is the station idle? 6. Call kind 1 to 4? 7. Point within its ranges? 8. For an add, curve in range? 9."
+-- submission: questions 4 and 5, as every call that names a station asks them (Rules 7.5, 7.6), then 6 to 9 (Rules 7.7)
 pub submit-number : (words : List ℕ) (s kind : ℕ) (p : Point) (c : ℕ)
     → submitOf words s kind p c .number
     ≡ firstNo (asked (isOpened (openedIn words)) 4 ∷ asked (ltb s 8) 5
     ∷ asked (isIdle (stateAt words s)) 6 ∷ asked (kindIn kind) 7 ∷ asked (inRange p) 8 ∷ asked (curveFits kind c) 9 ∷ [])
 submit-number = Refused.submit-number
 
--- "Step: has the station an unfinished call? 10. Are the fields of both records and of every row this step needs in range? 11": first those of the two
--- records, then the rows: `stepNeeds` lists what the step needs, and `rowsSound` is that all of it is met. 11 exactly if one of these fails, and else 0.
+-- Step: question 10, and question 11 first of the two records (Rules 7.8, 7.10), then of the rows (Rules 7.11 to 7.15): `stepNeeds` lists what the step needs, and
+-- `rowsSound` is that all of it is met. 11 exactly if one of these fails, and else 0.
 pub step-number : (words : List ℕ) (s : ℕ)
     → stepOf words s .number
     ≡ firstNo (asked (isOpened (openedIn words)) 4 ∷ asked (ltb s 8) 5
@@ -66,18 +65,18 @@ field-out-of-range words s o l u need m r k e =
     either true = refl
     either false = refl
 
--- A withdrawal (2026-06): "question 10 applies, then 11 as for a step". It needs the two records and no row, so that 11 is asked of these alone.
+-- Withdrawal: question 10, then 11 (Rules 7.9). It needs the two records and no row, so that 11 is asked of these alone.
 pub withdrawal-number : (words : List ℕ) (s : ℕ)
     → withdrawOf words s .number
     ≡ firstNo (asked (isOpened (openedIn words)) 4 ∷ asked (ltb s 8) 5 ∷ asked (isUnfinished (stateAt words s)) 10 ∷ asked (recordsSound words s) 11 ∷ [])
 withdrawal-number = Refused.withdraw-number
 
--- "Taking: is an answer waiting? 12."
+-- taking: question 12 (Rules 7.17)
 pub take-number : (words : List ℕ) (s : ℕ)
     → numberOf (takeOf words s) ≡ firstNo (asked (isOpened (openedIn words)) 4 ∷ asked (ltb s 8) 5 ∷ asked (isGiven (waitingAt words s)) 12 ∷ [])
 take-number = Refused.take-number
 
--- A report names no station: question 4 alone.
+-- A report names no station: question 4 alone (Rules 7.5).
 pub report-number : (words : List ℕ) → reportOf words .number ≡ firstNo (asked (isOpened (openedIn words)) 4 ∷ [])
 report-number = Refused.report-number
 
@@ -113,8 +112,7 @@ audit-refused = Refused.audit-refused
 
 -- ---- frames
 
--- "Frame: are both length bytes and all the bytes they count there? 13. Is there a kind, 1 to 5? 14, also for lengths 0 and 1. Is the length that kind's own? 15."
--- "question 14 admits 8" (2026-06).
+-- Reading a frame: questions 13 to 15 (Rules 7.18).
 pub frame-number : (bytes : List ℕ) (at : ℕ) → at < length bytes
     → readingNumber (readOf bytes at) ≡ firstNo (asked (isWhole (drop at bytes)) 13 ∷ asked (hasKind (drop at bytes)) 14 ∷ asked (ownLength (drop at bytes)) 15 ∷ [])
 unfolding frameQuestion firstNo
@@ -126,13 +124,13 @@ frame-number bytes at l = OutcomeLaws.reading-number bytes at l ∙ same (isWhol
     same true false c = refl
     same false b c = refl
 
--- "A refusal is its number alone, with nothing written anywhere": a frame that is not read changes no word, and "its position, which a refusal does not move".
+-- "A refusal is its number alone, with nothing written anywhere" (Rules 7.2): a frame that is not read changes no word, and does not move the position (Rules 9.5).
 pub frame-refused : (words bytes : List ℕ) (at number : ℕ) → readOf bytes at ≡ Unread number
     → (lineWords words (readOf bytes at) ≡ words) × (positionAfter (readOf bytes at) at ≡ at)
 unfolding lineWords
 frame-refused words bytes at number e = rw e (refl, refl)
 
--- "The writer takes a kind (question 14)".
+-- "The writer takes a kind (question 14)" (Rules 9.6).
 pub writer-number : (kind : ℕ) (fields : Fields) → writeOf kind fields .number ≡ firstNo (asked (isKind kind) 14 ∷ [])
 unfolding writeOf firstNo
 writer-number kind fields = go (isKind kind) refl
@@ -141,7 +139,7 @@ writer-number kind fields = go (isKind kind) refl
     go true e = rw (e, writeOf)
     go false e = rw (e, writeOf)
 
--- A refused writing has no byte of a frame: "gives back 28 bytes, unused ones zero, with the count used".
+-- A refused writing has no byte of a frame: "all are zero and the count is 0" (Rules 9.6).
 pub writer-refused : (kind : ℕ) (fields : Fields) → ¬ (writeOf kind fields .number ≡ 0)
     → (writeOf kind fields .written .bytes ≡ replicate 28 0) × (writeOf kind fields .written .count ≡ 0)
 unfolding writeOf writtenBytes padded

@@ -1,6 +1,7 @@
 -- Demand 2: "Each call run alone answers as a plain table of records does, after Definition 1 of the LFkD-tree paper: added unless held, removed only if held,
--- and the nearest record of the same grade by squared distance over weight, moisture, speed and draw, the heavier on a tie. No room and changes spent are
--- answered exactly under document 01's counts."
+-- and the nearest record of the same grade by squared distance over weight, moisture, speed and draw, the [heavier] on a tie. No room and changes spent are
+-- answered exactly under document 01's counts. Frames written read back as the same call; frames read write back as the same bytes." The
+-- [heavier] wins by Rules 1.7; the counts are those of Rules 3.
 -- First the plain table's answers, one by one; then `demand-2`, that a call run alone after any history gives them; then frames.
 use Prim.Native.Nat.{ℕ, suc, _+_, _-_, _*_, _<_}
 use mathlib.Core.Path.{_≡_, refl}
@@ -27,49 +28,49 @@ use Rattle.claims.proofs.Demand3.{Agrees, agrees-with, Moments, moments
 -- ---- the plain table's answers
 
 module _ (t : Table) (p : Point) where
-  -- "Add: held already? 2, with the held curve, which is not replaced."
+  -- add (Rules 2.5): the point is held, 2 with the held curve
   pub add-held : (c held : ℕ) → curveAt p (t .held) ≡ some held → answerOf t (add p c) ≡ answer 2 p held 0
   add-held = Answers.add-held t p
 
-  -- "Else changes used up? 4."
+  -- else the changes are used up, 4
   pub add-spent : (c : ℕ) → curveAt p (t .held) ≡ none → t .changes ≡ t .limit → answerOf t (add p c) ≡ answer 4 p 0 0
   add-spent = Answers.add-spent t p
 
-  -- "Else every place taken? 3."
+  -- else every place is taken, 3
   pub add-full : (c : ℕ) → curveAt p (t .held) ≡ none → ¬ (t .changes ≡ t .limit) → taken t ≡ t .places → answerOf t (add p c) ≡ answer 3 p 0 0
   add-full = Answers.add-full t p
 
-  -- "Else 1."
+  -- else 1
   pub add-new : (c : ℕ) → curveAt p (t .held) ≡ none → ¬ (t .changes ≡ t .limit) → ¬ (taken t ≡ t .places) → answerOf t (add p c) ≡ answer 1 p c 0
   add-new = Answers.add-new t p
 
-  -- "Remove: not held? 6."
+  -- remove (Rules 2.6): the point is not held, 6
   pub remove-absent : curveAt p (t .held) ≡ none → answerOf t (remove p) ≡ answer 6 p 0 0
   remove-absent = Answers.remove-absent t p
 
-  -- "Else changes used up? 4."
+  -- else the changes are used up, 4
   pub remove-spent : (held : ℕ) → curveAt p (t .held) ≡ some held → t .changes ≡ t .limit → answerOf t (remove p) ≡ answer 4 p 0 0
   remove-spent = Answers.remove-spent t p
 
-  -- "Else 5, with the curve that was held."
+  -- else 5, with the curve that was held
   pub remove-held : (held : ℕ) → curveAt p (t .held) ≡ some held → ¬ (t .changes ≡ t .limit) → answerOf t (remove p) ≡ answer 5 p held 0
   remove-held = Answers.remove-held t p
 
-  -- "Contains: 7 with the curve"
+  -- contains (Rules 2.7): 7 with the curve
   pub contains-held : (held : ℕ) → curveAt p (t .held) ≡ some held → answerOf t (contains p) ≡ answer 7 p held 0
   contains-held = Answers.contains-held t p
 
-  -- "or 6."
+  -- or 6
   pub contains-absent : curveAt p (t .held) ≡ none → answerOf t (contains p) ≡ answer 6 p 0 0
   contains-absent = Answers.contains-absent t p
 
--- "by squared distance over weight, moisture, speed and draw, the heavier on a tie": of two points the one with the smaller square is chosen; of two with the
+-- the choice (Rules 1.6, 1.7): of two points the one with the smaller square is chosen; of two with the
 -- same square the one of the higher basis weight; of two with the same square and weight the lower, compared axis by axis
 pub chosen-exact : (target a b : Point) → (chosenOver target a b ≡ true) ↔ Chosen target a b
 chosen-exact = ChoiceLaws.chosen-exact
 
--- "Nearest: 8 with the record and the square": a held record of the grade, and "every other held record of the grade has a greater square, or the same and loses
--- the tie", so that the found one is chosen over it
+-- nearest (Rules 2.8), 8 with the record and the square: a held record of the grade, and "every other held record of the grade has a greater square, or the same
+-- and loses the tie" (Rules 4.10), so that the found one is chosen over it
 pub record Found (t : Table) (p : Point) : Type 0 where
   pub found : Record
   pub held : List·Memᴰ found (t .held)
@@ -77,12 +78,12 @@ pub record Found (t : Table) (p : Point) : Type 0 where
   pub first : (q : Record) → List·Memᴰ q (t .held) → sameGrade p (q .point) ≡ true → ¬ (q .point ≡ found .point) → chosenOver p (found .point) (q .point) ≡ true
   pub answers : answerOf t (nearest p) ≡ answer 8 (found .point) (found .curve) (squareOf p (found .point))
 
--- "or 9 where the grade has no record"
+-- "or 9 where the grade has no record" (Rules 2.8)
 pub record NoneFound (t : Table) (p : Point) : Type 0 where
   pub grade : (q : Record) → List·Memᴰ q (t .held) → ¬ (sameGrade p (q .point) ≡ true)
   pub answers : answerOf t (nearest p) ≡ answer 9 p 0 0
 
--- "Nearest: 8 with the record and the square, or 9 where the grade has no record."
+-- one of the two
 pub nearest-either : (t : Table) (p : Point) → Found t p ⊎ NoneFound t p
 unfolding answerOf nearestAnswer
 nearest-either t p = go (nearestOf p (t .held)) refl

@@ -1,6 +1,6 @@
 -- Demand 3, about whole histories: `demand-3` and `solo`. What an event may touch is in Touch.antt.
--- "A history is any list of submissions, single steps and takings, refused ones included, each for any station number, in any order, from a fresh opening, each
--- getting the index as the last one left it, and nobody else writing it." "Withdrawals are events of a history" too (2026-06). An `Event` is one of these four,
+-- Demand 3: "A history is any list of submissions, single steps and takings, refused ones included, each for any station number, in any order, from a fresh opening, each
+-- getting the index as the last one left it, and nobody else writing it." Withdrawals are events of a history too (Rules 4.1). An `Event` is one of these four,
 -- with any numbers; `after evs words` are the words after the events.
 use Prim.Native.Nat.{ℕ, suc, _+_, _*_, _≤_, _<_}
 use mathlib.Core.Path.{_≡_}
@@ -23,12 +23,12 @@ use Rattle.claims.proofs.Stepping.{steps-accepted, steps-unanswered, st
 
 -- the words say what the plain table says
 pub record Agrees (words : List ℕ) (t : Table) : Type 0 where
-  -- "the records on the leaves linked from the root are the table's", each once
+  -- the records on the leaves linked from the root are the table's, each once (Rules 4.15)
   pub records : Same (map recordOf (heldIn words)) (t .held)
   pub once : Once (map recordOf (heldIn words))
-  -- the number of places taken that a report gives "is the plain table's number"
+  -- and so is the number of places taken that a report gives (Rules 3.6)
   pub places : reportOf words .taken ≡ taken t
-  -- a taking by any station would be refused with the same number, or accepted; "what that taking would give is the answer waiting"
+  -- a taking by any station would be refused with the same number, or accepted; "What that taking would give is the answer waiting" (Rules 4.8)
   pub accepted : (s : ℕ) → numberOf (takeOf words s) ≡ take t s .number
   pub waiting : (s : ℕ) → givenBy (takeOf words s) ≡ take t s .given
 
@@ -45,7 +45,7 @@ givenAt words (singleStep s) = none
 givenAt words (taking s) = givenBy (takeOf words s)
 givenAt words (withdrawal s) = none
 
--- "A step that is not refused has answered if a taking by its station would be accepted next"
+-- "A step that is not refused has answered if a taking by its station would be accepted next" (Rules 4.8)
 abbrev pub answersAt : List ℕ → Event → Bool
 answersAt words (submission s kind p c) = false
 answersAt words (singleStep s) = eqb (stepOf words s .number) 0 && eqb (numberOf (takeOf (stepOf words s .words) s)) 0
@@ -74,7 +74,7 @@ pub record TookEffect (start : List ℕ) (evs : List Event) (s : ℕ) : Type 0 w
 pub record Moments (start : List ℕ) (places limit : ℕ) (evs : List Event) : Type 0 where
   -- at the event that comes after the events `before` the calls of these stations have their moment, in this order
   pub moments : List Event → List ℕ
-  -- the plain table after the events `before`; "At first nothing is held or counted and all are idle"
+  -- the plain table after the events `before`; "At first nothing is held or counted, and all stations are idle" (Rules 4.6)
   pub table : List Event → Table
   pub first : table [] ≡ opened places limit
   -- before the first event and after each
@@ -114,9 +114,9 @@ moments-of start places limit evs mss f = record {
       );
 }
 
--- "For every history, each answered call, and of the unfinished ones exactly those that have taken effect, has a moment of its own between submission and
+-- Demand 3: "For every history, each answered call, and of the unfinished ones exactly those that have taken effect, has a moment of its own between submission and
 -- answer, so that every refusal, every answer, waiting or taken, and the records held after each event are those of document 01's plain table, fed these
--- events and moments in order." A withdrawn call that has not taken effect "is answered 11, withdrawn, [...] and has no part in the order of moments" (2026-06):
+-- events and moments in order." The table is that of Rules 4. A call that was withdrawn before it took effect "has no part in the order of moments" (Rules 4.2):
 -- the table is undefined where a moment was given to it, and `Fed` says that it is defined.
 pub demand-3 : (words : List ℕ) (places limit : ℕ) → openOf words places limit .number ≡ 0 → (evs : List Event) → Moments (openOf words places limit .words) places limit evs
 demand-3 words places limit e evs =
@@ -131,7 +131,7 @@ pub record AnsweredAt (words : List ℕ) (s n : ℕ) : Type 0 where
   pub unanswered : (k : ℕ) → k < n → ¬ (numberOf (takeOf (stepped (suc k) words s) s) ≡ 0)
   pub answers : numberOf (takeOf (stepped (suc n) words s) s) ≡ 0
 
--- "After every history, a station with an unfinished call, stepped while the others stand still, is answered within 16 × places + 64 steps."
+-- Demand 3: "After every history, a station with an unfinished call, stepped while the others stand still, is answered within 16 × places + 64 steps."
 pub solo : (words : List ℕ) (places limit : ℕ) → openOf words places limit .number ≡ 0 → (evs : List Event) (s : ℕ)
     → isUnfinished (stateAt (after evs (openOf words places limit .words)) s) ≡ true
     → (n : ℕ) × (n < 16 * places + 64) × AnsweredAt (after evs (openOf words places limit .words)) s n

@@ -1,16 +1,20 @@
--- What document 01 says besides the demands: what an opening leaves (`opening-fresh`, `opening-again`, `opening-beyond`), the report (`report-after`), the audit (`audit-says`,
--- `audit-exact`, `audit-after`), question 11 (`never-11`) and runs (`run-is-steps`, `run-after`); and of document 02 the comparison of points (`comparison-tells`).
+-- What the rules say besides the demands: what an opening leaves (`opening-fresh`, `opening-again`, `opening-beyond`), the report (`report-after`), the audit (`audit-says`,
+-- `audit-exact`, `audit-after`), question 11 (`never-11`), runs (`run-is-steps`, `run-after`) and the comparison of points (`comparison-tells`).
 use Prim.Native.Nat.{ℕ, _+_, _*_, _≤_, _<_}
 use mathlib.Core.Path.{_≡_, refl, ap, _∙_, subst}
 use mathlib.Core.Logic.{_⊎_, _↔_}
-use mathlib.Core.Bool.{true}
+use mathlib.Core.Bool.{true, _&&_}
 use mathlib.Core.List.{List, [], map, append-nil, List·Memᴰ, List·Memᴰ·not-nil}
 use lib.ListN.{length}
+use lib.IntN.{pos, negsuc}
+use lib.Signed.{leZ}
 use Rattle.stations.specs.Counts.{countsAt}
 use Rattle.stations.specs.declared.counts.Counts.{Counts}
-use Rattle.claims.specs.Definitions.{Point, orderOf, comparedOf, Looked}
+use Rattle.claims.specs.Definitions.{Point, inRange, squareOf, orderOf, comparedOf, Looked}
 use Rattle.claims.specs.Definitions.{get, rowAt, Spare, isIdle, isUnfinished, stateAt, Record, Table, opened, taken, Event}
 use Rattle.claims.specs.Definitions.{openOf, stepOf, mostSteps, runOf, takeOf, numberOf, reportOf, auditOf, verdictOf, heldIn, recordOf, after, stepped, firstNo, Audited}
+use Rattle.points.proofs.PointLaws
+use Rattle.points.proofs.SquareLaws.{square-le}
 use Rattle.points.proofs.ComparedLaws.{compared-tells}
 use Rattle.history.specs.View.{seatAt}
 use Rattle.history.proofs.OpenEffects.{OpenedAs, open-written}
@@ -27,15 +31,14 @@ use Rattle.claims.proofs.Demand3.{Moments, demand-3}
 
 -- ---- opening
 
--- no record held, every row spare, every station idle and no change counted
+-- "no record held, every row spare, every station idle and no change counted" (Rules 7.4)
 pub record Fresh (words : List ℕ) (places : ℕ) : Type 0 where
   pub held : (r : Record) → ¬ List·Memᴰ r (map recordOf (heldIn words))
   pub spare : (r : ℕ) → r < 2 * places → (next : ℕ) × (rowAt words (2 * places) r ≡ Spare next 0)
   pub idle : (s : ℕ) → s < 8 → isIdle (stateAt words s) ≡ true
   pub unchanged : countsAt words .changes ≡ 0
 
--- "Opening, also of an opened slice, begins a new history with no record held, every row spare, every station idle and no change counted": for all words, as
--- `demand-3` is.
+-- An accepted opening, also of an opened slice, leaves this (Rules 7.4): for all words, as `demand-3` is.
 pub opening-fresh : (words : List ℕ) (places limit : ℕ) → openOf words places limit .number ≡ 0 → Fresh (openOf words places limit .words) places
 unfolding opened seatAt
 opening-fresh words places limit e =
@@ -54,14 +57,14 @@ pub opening-again : (words : List ℕ) (places limit : ℕ) (evs : List Event) (
     → (evs′ : List Event) → Moments (openOf (after evs (openOf words places limit .words)) places′ limit′ .words) places′ limit′ evs′
 opening-again words places limit evs = demand-3 (after evs (openOf words places limit .words))
 
--- "words beyond that length stay"
+-- words beyond the index stay (Rules 7.4)
 pub opening-beyond : (words : List ℕ) (places limit : ℕ) → openOf words places limit .number ≡ 0
     → (length (openOf words places limit .words) ≡ length words) × ((k : ℕ) → 32 * places + 608 ≤ k → get (openOf words places limit .words) k ≡ get words k)
 opening-beyond words places limit e = let b = open-beyond words places limit e in (b .lengths, b .words)
 
 -- ---- report and audit
 
--- "A report gives the number of places taken, as the common record counts them; after a history that is the plain table's number." It is not refused, and the
+-- After a history the number that a report gives is that of the plain table (Rules 3.6). It is not refused, and the
 -- number is that of the table of `demand-3` at the end.
 pub report-after : (words : List ℕ) (places limit : ℕ) (e : openOf words places limit .number ≡ 0) (evs : List Event)
     → (reportOf (after evs (openOf words places limit .words)) .number ≡ 0)
@@ -77,13 +80,11 @@ report-after words places limit e evs =
 pub audit-says : (words : List ℕ) → verdictOf words .sound ≡ auditOf words
 audit-says = Refused.audit-says
 
--- "An audit says yes exactly if the rows linked from the root, if any, have fields in range as for question 11 and form a tree in which each leaf's point is on
--- the side that every cut above it sends it, parent links agree, and every row lies in the tree, among the spare rows, or in the records awaiting release, once
--- and in order of removal." For all words.
+-- Rules 6.6: "An audit says yes exactly if" what `Audited` says holds, for all words.
 pub audit-exact : (words : List ℕ) → (auditOf words ≡ true) ↔ Audited words
 audit-exact = Audits.audit-exact
 
--- "After every history the audit says yes." It is not refused.
+-- "After every history the audit says yes" (Rules 6.9). It is not refused.
 pub audit-after : (words : List ℕ) (places limit : ℕ) → openOf words places limit .number ≡ 0 → (evs : List Event)
     → (verdictOf (after evs (openOf words places limit .words)) .number ≡ 0) × (auditOf (after evs (openOf words places limit .words)) ≡ true)
 unfolding firstNo
@@ -95,7 +96,7 @@ audit-after words places limit e evs =
 
 -- ---- steps and runs
 
--- "11, never met on an index that only these calls wrote": after every history a step of any station number gets 0, 5 or 10, and so never 11.
+-- Rules 7.16: after every history a step of any station number gets 0, 5 or 10, and so never 11.
 pub step-after : (words : List ℕ) (places limit : ℕ) → openOf words places limit .number ≡ 0 → (evs : List Event) (s : ℕ)
     → (stepOf (after evs (openOf words places limit .words)) s .number ≡ 0)
     ⊎ ((stepOf (after evs (openOf words places limit .words)) s .number ≡ 5) ⊎ (stepOf (after evs (openOf words places limit .words)) s .number ≡ 10))
@@ -105,12 +106,11 @@ pub never-11 : (words : List ℕ) (places limit : ℕ) → openOf words places l
     → ¬ (stepOf (after evs (openOf words places limit .words)) s .number ≡ 11)
 never-11 = step-never-11
 
--- "Run gives the station steps until it is answered, at most 16 × places + 64. Each of them is a call of its own: a refused step ends the run, its number is the run's
--- result, and the steps before it stand": for all words.
+-- Rules 8.2: "a refused step ends the run, its number is the run's result, and the steps before it stand": for all words, what a run comes to, to its end.
 pub run-is-steps : (words : List ℕ) (s : ℕ) → (n : ℕ) × IsSteps words s n
 run-is-steps = run-steps
 
--- "Run gives the station steps until it is answered": after every history a run of a station with an unfinished call is accepted, and its answer waits.
+-- Rules 8.2, 8.3: after every history a run of a station with an unfinished call is accepted, and its answer waits.
 pub run-after : (words : List ℕ) (places limit : ℕ) → openOf words places limit .number ≡ 0 → (evs : List Event) (s : ℕ)
     → isUnfinished (stateAt (after evs (openOf words places limit .words)) s) ≡ true
     → (runOf (after evs (openOf words places limit .words)) s .number ≡ 0)
@@ -119,7 +119,7 @@ run-after words places limit e evs s u = let x = run-answers words places limit 
 
 -- ---- records
 
--- the ranges of a point's coordinates, in this order: grade, basis weight, reel moisture, speed, draw (`leZ` compares numbers with a sign)
+-- Rules 1.1: the ranges of a point's five coordinates (`leZ` compares numbers with a sign)
 pub point-ranges : (p : Point)
     → inRange p
     ≡ (((((leZ (pos 1) (p .grade) && leZ (p .grade) (pos 9999))
@@ -129,14 +129,13 @@ pub point-ranges : (p : Point)
     && (leZ (negsuc 1999) (p .draw) && leZ (p .draw) (pos 2000)))
 point-ranges = PointLaws.point-ranges
 
--- the square of two points in range is "at most 11,015,800,001"
+-- Rules 1.5: the square of two points in range is at most 11,015,800,001
 pub square-most : (a b : Point) → inRange a ≡ true → inRange b ≡ true → squareOf a b ≤ 11015800001
 square-most = square-le
 
 -- ---- the comparison of points
 
--- 2026-03: "the comparison should end at the first axis that differs. It also tells how many axes it looked at, proved to be the number of that axis, or 5 where none differs;
--- the rest of its contract is untouched." For all points, in range or not: the order, and the number that it tells, which `Looked` says in words. That it looks no further is the
+-- Rules 1.4, for all points, in range or not: the order, and how many axes the comparison tells that it looked at, which `Looked` says in words. That it looks no further is the
 -- code's, whose loop counts this number; no contract speaks of the work that is done.
 pub comparison-tells : (a b : Point) → (comparedOf a b .order ≡ orderOf a b) × Looked a b (comparedOf a b .looked)
 comparison-tells = compared-tells

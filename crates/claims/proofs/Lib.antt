@@ -10,17 +10,17 @@ pub mod Demand3
 pub mod Touch
 -- The table of the proved cases P1 to P10; its rows are in specs/Cases.antt.
 pub mod Cases
--- What document 01 says besides: openings, report, audit, question 11, runs.
+-- What the rules say besides: openings, report, audit, question 11, runs, comparisons.
 pub mod Further
--- The fault that the user has seen: a farther record found while a nearer one was held.
+-- The fault that was seen: a farther record found while a nearer one was held.
 pub mod Nearer
--- Request 2026-06: taking back a call.
+-- Taking back a call (Rules 2.9, 2.10).
 pub mod Withdrawn
--- Request 2026-11: how long the busy case can last.
+-- How long the busy case can last (Rules 8.4, 8.5).
 pub mod Somebody
--- A search that nobody can hold up: how long a nearest can take, whatever the others do.
+-- A search that nobody can hold up: how long a nearest can take, whatever the others do (Rules 8.6).
 pub mod WaitFree
--- Request 2026-07: the window of the last moisture readings, which is no part of the index.
+-- The window of the last moisture readings, which is no part of the index (Rules 11).
 pub mod Scans
 -- What the claims rest on beside the laws of the other crates: the same facts said step by step instead of along a list.
 pub mod Unrolled

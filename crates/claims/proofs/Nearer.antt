@@ -1,4 +1,4 @@
--- The fault that the user has seen (`never-farther`): "I have seen a search come back with a record that was removed while a nearer one was still held."
+-- The fault that was seen (`never-farther`): "I have seen a search come back with a record that was removed while a nearer one was still held." Case N of Rules 13 is one of its kind.
 use Prim.Native.Nat.{ℕ}
 use mathlib.Core.Path.{_≡_, refl, sym, ap}
 use mathlib.Core.Bool.{true, false, false≢true}

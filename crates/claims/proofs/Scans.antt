@@ -1,5 +1,5 @@
--- Request 2026-07, moisture over the last scans: "a window of the last 1 to 64 readings, each in 0.01 % from 0 to 10,000, giving after every reading the sum, the least,
--- the greatest and the mean rounded half up, all over the readings present. The window's state is lent to the call and brought up to date there."
+-- Moisture over the last scans (Rules 11): a window of the last 1 to 64 readings, which gives after every reading "the sum, the least, the greatest and the mean
+-- rounded half up, all over the readings present".
 -- `window_begin` and `window_update` of `window` are lent the state by `&mut`; `begin` and `update` take it by value. They have no `requires`; their contracts are equations
 -- of result and state with `beginOf` and `updateOf`, for every state and every number.
 use Prim.Native.Nat.{ℕ, _*_, _≤_, _<_, _+_}
@@ -18,7 +18,7 @@ use Rattle.window.proofs.RefusedLaws
 use Rattle.window.proofs.SteadyLaws
 use Rattle.window.proofs.Cases
 
--- ---- "Refused: 18 for a window length out of range or a state no readings could leave, and 19 for a reading out of range, 18 first."
+-- ---- questions 18 and 19 (Rules 11.3, 11.4)
 
 pub begin-number : (w : Window) (n : ℕ) → beginOf w n .number ≡ firstNo (asked (lengthIn n) 18 ∷ [])
 unfolding firstNo
@@ -60,8 +60,7 @@ begin-refused = BeginLaws.begin-refused
 pub update-refused : (w : Window) (x : ℕ) → ¬ (updateOf w x .figures .number ≡ 0) → updateOf w x ≡ refusedOf (updateOf w x .figures .number) w
 update-refused = UpdateLaws.update-refused
 
--- ---- "What it reports must equal the same four numbers worked out afresh from the tail of the whole run of accepted readings since the window was begun, however long,
--- nobody else writing its state."
+-- ---- the four numbers, "worked out afresh from the tail of all the readings accepted since the window was begun" (Rules 11.6)
 
 -- A window, in whatever state, is begun at length n. Then come any events: readings in range and out of it, and further beginnings, refused or not. Then a reading x.
 module _ (w : Window) (n : ℕ) (begun : beginOf w n .number ≡ 0) (evs : List WindowEvent) (x : ℕ) where
@@ -95,11 +94,11 @@ mean-only = MeanLaws.mean-only
 pub mean-moisture : (w : Window) → length (w .readings) ≡ longest → (x : ℕ) → updateOf w x .figures .number ≡ 0 → updateOf w x .figures .mean ≤ wettest
 mean-moisture = UpdateLaws.mean-moisture
 
--- "the mean rounded half up": of 1 and 2 it is 2, in a window of two that was in whatever state
+-- the mean rounded half up (Rules 11.5): of 1 and 2 it is 2, in a window of two that was in whatever state
 pub mean-of-1-and-2 : (w : Window) → updateOf (stateAfter (beginOf w 2 .window) (reading 1 ∷ [])) 2 .figures ≡ record { number = 0; sum = 3; least = 1; greatest = 2; mean = 2 }
 mean-of-1-and-2 = Cases.half-up
 
--- ---- "its moisture must be steady"
+-- ---- steady (Rules 11.8)
 
 -- After the same events the window is steady exactly if as many readings were accepted since it was begun as it is long, and no two of the last so many differ by more than the spread.
 pub steady-exact : (w : Window) (n : ℕ) → beginOf w n .number ≡ 0 → (evs : List WindowEvent) (spread : ℕ)

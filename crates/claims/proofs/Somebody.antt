@@ -1,8 +1,6 @@
--- Request 2026-11, somebody always finishes: "Dispatchers need a figure for the busy case. In every run of 8 × 32 × (16 × places + 64) steps, each given to a
--- station that has an unfinished call, at least one call is answered. The premise: the run is part of a history, and neither withdrawal nor packing falls
--- inside it."
+-- Somebody always finishes: a figure for the busy case (Rules 8.4, 8.5).
 -- For a dispatcher: deal out steps to any stations in any order, submit, take, and name stations that have nothing to do. From any moment on, while nobody takes back
--- a call, count the steps that are not refused: one of the first 8 × places + 1 answers a call (`somebody`). The figure of the request is more than 512 times that
+-- a call, count the steps that are not refused: one of the first 8 × places + 1 answers a call (`somebody`). The greater figure of Rules 8.4 is more than 512 times that
 -- (`somebody-finishes`). Whose call it is, is not said: `solo` of Demand3.antt is about one station, and asks that the others stand still; `wait-free` of
 -- WaitFree.antt is about a nearest, and asks nothing of them. Where nobody submits anew,
 -- all eight are answered or withdrawn within eight times as many (`everybody`).
@@ -25,7 +23,7 @@ use Rattle.history.proofs.StepNumbers.{step-accepted}
 
 -- ---- what is said
 
--- "at least one call is answered": a step of the run is accepted, and a taking by its station would be accepted next
+-- at least one call is answered: a step of the run is accepted, and a taking by its station would be accepted next
 pub record OneAnswers (words : List ℕ) (run : List Event) : Type 0 where
   pub before : List Event
   pub station : ℕ
@@ -63,7 +61,7 @@ module _ (words : List ℕ) (places limit : ℕ) (e : openOf words places limit 
   abbrev pub reached : List ℕ
   reached = after evs (openOf words places limit .words)
 
-  -- `dealtSteps` counts the steps "given to a station that has an unfinished call": they are the steps that are not refused
+  -- `dealtSteps` counts the steps given to stations that have an unfinished call: they are the steps that are not refused (Rules 8.4)
   pub dealt-accepted : (s : ℕ) → (stepOf reached s .number ≡ 0) ↔ (isUnfinished (stateAt reached s) ≡ true)
   dealt-accepted s = step-accepted words places limit e evs s
 
@@ -71,7 +69,7 @@ module _ (words : List ℕ) (places limit : ℕ) (e : openOf words places limit 
   pub somebody : (run : List Event) → Undisturbed reached run → 8 * places < dealtSteps reached run → OneAnswers reached run
   somebody run d l = one-answers reached run (Finishes.somebody words places limit e evs run d l)
 
-  -- the request, by its own figure
+  -- the same by the greater figure of Rules 8.4
   pub somebody-finishes : (run : List Event) → Undisturbed reached run → 8 * 32 * (16 * places + 64) ≤ dealtSteps reached run → OneAnswers reached run
   somebody-finishes run d l = one-answers reached run (Finishes.somebody-finishes words places limit e evs run d l)
 
@@ -99,7 +97,7 @@ unfolding reply
 steps-undisturbed words [] = tt
 steps-undisturbed words (s ∷ stations) = (tt, steps-undisturbed (stepOf words s .words) stations)
 
--- Among more than 8 × places steps, each given to a station that has an unfinished call, one answers. By `everybody` no run of steps alone is as long as the request's figure.
+-- Among more than 8 × places steps, each given to a station that has an unfinished call, one answers. By `everybody` no run of steps alone is as long as the greater figure of Rules 8.4.
 pub somebody-steps : (words : List ℕ) (places limit : ℕ) (e : openOf words places limit .number ≡ 0) (evs : List Event) (stations : List ℕ)
     → EachDealt (reached words places limit e evs) stations → 8 * places < length stations → OneAnswers (reached words places limit e evs) (map singleStep stations)
 somebody-steps words places limit e evs stations f l =
@@ -108,7 +106,7 @@ somebody-steps words places limit e evs stations f l =
 
 -- ---- the premise
 
--- "neither withdrawal nor packing falls inside it": then the run is undisturbed, which asks only that no withdrawal is accepted. There is no packing yet.
+-- where no withdrawal falls inside it the run is undisturbed, which asks only that no withdrawal is accepted
 pub no-withdrawal : (words : List ℕ) (run : List Event) → ((before : List Event) (s : ℕ) (rest : List Event) → ¬ (before ++ (withdrawal s ∷ rest) ≡ run)) → Undisturbed words run
 no-withdrawal words [] n = tt
 no-withdrawal words (ev ∷ run) n = (

@@ -1,7 +1,7 @@
 -- Demand 3, what an event may touch: `submission-touches`, `taking-touches`, `withdrawal-touches` and `step-touches`, for every content of the words and no history.
--- "Two slices alike in length, common record and the station's own get the same result and the same words there from a submission or taking, and no other
+-- Demand 3: "Two slices alike in length, common record and the station's own get the same result and the same words there from a submission or taking, and no other
 -- word changes; a step may need and change at most six rows besides."
--- "The common record has 96 words, each station's 64; then come 2 × places rows", of sixteen words each.
+-- The common record has 96 words, each station's 64; then come 2 × places rows of sixteen words each (Rules 6.4).
 use Prim.Native.Nat.{ℕ, _+_, _*_, _≤_, _<_}
 use mathlib.Core.Path.{_≡_}
 use mathlib.Core.Logic.{_⊎_, inl, inr}
@@ -83,23 +83,22 @@ touches x = record { alike = alike (x .agree); first-length = x .first .lengths;
 
 -- ---- the claims
 
--- "from two slices of one length that agree in the common record and the station's, as far as they are there, the same submission … gets the same result,
--- leaves them agreeing there, and keeps every other word"
+-- Rules 5.1, of a submission: the same result, the slices alike there again, and every other word kept
 pub submission-touches : (v w : List ℕ) (s kind : ℕ) (p : Point) (c : ℕ) → Alike v w s []
     → (submitOf v s kind p c .number ≡ submitOf w s kind p c .number) × Touches v w (submitOf v s kind p c .words) (submitOf w s kind p c .words) s []
 submission-touches v w s kind p c a = let x = submit-touch v w s kind p c (agree-on a) in (x .0, touches (x .1))
 
--- "the same submission or taking gets the same result": its number, or its answer
+-- Rules 5.1, of a taking: its result is its number, or its answer
 pub taking-touches : (v w : List ℕ) (s : ℕ) → Alike v w s [] → (takeOf v s ≡ takeOf w s) × Touches v w (takeWords v s) (takeWords w s) s []
 taking-touches v w s a = let x = take-touch v w s (agree-on a) in (x .0, touches (x .1))
 
--- "A withdrawal may need and change what a step may" (2026-06): it needs and changes no row at all.
+-- Rules 5.3: a withdrawal needs and changes no row at all.
 pub withdrawal-touches : (v w : List ℕ) (s : ℕ) → Alike v w s []
     → (withdrawOf v s .number ≡ withdrawOf w s .number) × Touches v w (withdrawOf v s .words) (withdrawOf w s .words) s []
 withdrawal-touches v w s a = let x = withdraw-touch v w s (agree-on a) in (x .0, touches (x .1))
 
--- "For each slice and step there are at most six rows such that this holds, with those rows added to the two records, against every slice that agrees with it
--- there." Each is one of the rows of the index.
+-- Rules 5.2: for each slice and step there are at most six rows, each one of the rows of the index, such that this holds with them added to the two records, "against every
+-- slice that agrees with it there".
 pub step-touches : (v : List ℕ) (s : ℕ)
     → (rows : List ℕ) × (length rows ≤ 6) × ((r : ℕ) → List·Memᴰ r rows → r < rowsIn v)
     × ((w : List ℕ) → Alike v w s rows → (stepOf v s .number ≡ stepOf w s .number) × Touches v w (stepOf v s .words) (stepOf w s .words) s rows)

@@ -1,6 +1,5 @@
--- A search that nobody can hold up: "After any history a nearest is accepted at a station. Whatever the others do, it is answered within 3 × places + 1 of its
--- own steps." With five moves in a step it is answered within 9 × places / 5 + 1 of them (`wait-free`), and so within the figure of the sentence
--- (`wait-free-three`).
+-- A search that nobody can hold up (Rules 8.6): after any history a nearest is accepted at a station; whatever the others do, it is answered within
+-- 9 × places / 5 + 1 of its own steps (`wait-free`), and so within 3 × places + 1 (`wait-free-three`).
 -- For a dispatcher: whatever else is dealt out, a station that was given 9 × places / 5 + 1 steps since its nearest was accepted has been answered, unless the
 -- call was withdrawn. The figure of Somebody.antt is for all calls, and does not say whose is answered; this one is for a nearest, and asks nothing of the other
 -- stations. An add, a remove and a contains have none like it: the changes of others may delay them, and each delay is another call's answer.
@@ -20,7 +19,7 @@ use Rattle.history.proofs.WaitFree as Holds
 
 -- ---- what is said
 
--- "it is answered": a step of station s in the run is accepted, and a taking by the station would be accepted next
+-- it is answered: a step of station s in the run is accepted, and a taking by the station would be accepted next
 pub record OwnAnswers (s : ℕ) (words : List ℕ) (run : List Event) : Type 0 where
   pub before : List Event
   pub rest : List Event
@@ -52,13 +51,13 @@ own-answers s words (singleStep u ∷ run) (inl x) =
 
 -- ---- the claims
 
--- "After any history a nearest is accepted at a station": the words then.
+-- After any history a nearest is accepted at a station: the words then.
 module _ (words : List ℕ) (places limit : ℕ) (e : openOf words places limit .number ≡ 0) (evs : List Event) (s : ℕ) (p : Point) (c : ℕ)
     (f : submitOf (after evs (openOf words places limit .words)) s 4 p c .number ≡ 0) where
   abbrev pub begun : List ℕ
   begun = submitOf (after evs (openOf words places limit .words)) s 4 p c .words
 
-  -- "Whatever the others do": of any events in which the call is not withdrawn, one answers it where more than 9 × places / 5 are steps of its own
+  -- whatever the others do: of any events in which the call is not withdrawn, one answers it where more than 9 × places / 5 are steps of its own
   pub wait-free : (run : List Event) → KeepsCall s begun run → 9 * places < 5 * ownSteps s run → OwnAnswers s begun run
   wait-free run k l = own-answers s begun run (Holds.wait-free words places limit e evs s p c f run k l)
 

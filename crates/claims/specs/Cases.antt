@@ -1,4 +1,4 @@
--- "Proved cases (P)" of document 01, P5 as request 2026-02 has it, as one table, a row for each case (`ProvedCases`). P1 to P4 are about points, P7 and P8
+-- The cases P1 to P10 (Rules 13) as one table, a row for each case (`ProvedCases`). P1 to P4 are about points, P7 and P8
 -- about frames. P5, P6, P9 and P10 are about calls made one after the other: what the plain table answers, and what every slice long enough gives when it
 -- is opened and each call is submitted, run and taken.
 use Prim.Native.Nat.{ℕ, _≤_}

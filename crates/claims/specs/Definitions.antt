@@ -77,7 +77,7 @@ pub use Rattle.history.specs.WaitFree.{CallKept, KeepsCall}
 -- questions in their order, and the number of the first that is answered no
 pub use Rattle.history.specs.Questions.{asked}
 unfoldable pub use Rattle.history.specs.Questions.{firstNo}
--- what document 01's sentence on the audit says
+-- what an audit says yes to (Rules 6.6, 6.7)
 pub use Rattle.history.specs.Audited.{Audited}
 -- ---- numbers, frames and lines
 

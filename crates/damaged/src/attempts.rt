@@ -109,7 +109,7 @@ pub fn call(words: &mut [u32], book: &mut [u64], kind: u64) -> u32 {
     }
 }
 
-// Whether document 01 lets a call of a kind give this number.
+// Whether Rules 7.1 lets a call of a kind give this number.
 pub fn is_allowed(kind: u64, number: u32) -> bool {
     match kind {
         0 => (number == 0) | ((4 <= number) & (number <= 9)),

@@ -1,4 +1,4 @@
-// Damages words of a live index at random and makes every call on it: each call returns with one of document 01's numbers or an answer, a
+// Damages words of a live index at random and makes every call on it: each call returns with one of the numbers of Rules 7.1 or an answer, a
 // refused one changes nothing, a withdrawal changes no row, and none touches a word outside of its slice.
 mod attempts;
 mod harm;

@@ -1,4 +1,4 @@
--- P7 and P8 of document 01 and the kinds of request 2026-06, by computation of the definitions that the contracts cite. Assumes nothing.
+-- P7 and P8 (Rules 13), and the kinds 6 to 9, by computation of the definitions that the contracts cite. Assumes nothing.
 use mathlib.Core.Path.{_≡_, refl}
 use mathlib.Core.List.{List, [], _∷_, _++_}
 use Prim.Native.Nat.{ℕ}

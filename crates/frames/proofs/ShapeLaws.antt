@@ -45,7 +45,7 @@ beyond k h =
     other : (kind : ℕ) → kind < k → eqb k kind ≡ false
     other kind l = ne-eqb k kind (λ e. absurd (omega (arith, e)))
 
--- "Is there a kind, 1 to 5?" (document 01), "question 14 admits 8" (request 2026-06)
+-- Rules 7.1, question 14: a kind, "1 to 5 or 8"
 pub kinds-are : (k : ℕ) → shape.isKind k ≡ (leb 1 k && (leb k 5 || eqb k 8))
 kinds-are zero = refl
 kinds-are (suc zero) = refl

@@ -1,4 +1,4 @@
--- Reading a frame (document 01, "Questions": 13 to 15, and "Frames"; request 2026-06 for kind 8). `rest` is the bytes from the position on.
+-- Reading a frame (Rules 9): questions 13 to 15 (Rules 7.18). `rest` is the bytes from the position on.
 use Prim.Native.Nat.{ℕ, _+_}
 use mathlib.Core.Bool.{Bool, cond, _&&_}
 use mathlib.Core.List.{List}
@@ -13,27 +13,27 @@ use Rattle.numbers.specs.Bytes.{numberAt}
 use Rattle.numbers.specs.Signed.{signedOf}
 use Rattle.frames.specs.Shape as shape
 
--- "First two bytes of length, counting what follows"
+-- Rules 9.2: "two bytes of length, which counts what follows them"
 abbrev pub lengthIn : List ℕ → ℕ
 lengthIn rest = numberAt 2 rest shape.atLength
 
--- "then a two-byte kind"
+-- Rules 9.2: "then a kind of two bytes"
 abbrev pub kindIn : List ℕ → ℕ
 kindIn rest = numberAt 2 rest shape.atKind
 
--- 13: "are both length bytes and all the bytes they count there?"
+-- Rules 7.1, question 13: "Are both length bytes and all the bytes that they count there?"
 unfoldable pub isWhole : List ℕ → Bool
 isWhole rest = leb 2 (length rest) && leb (shape.sizeOf (lengthIn rest)) (length rest)
 
--- 14: "Is there a kind, 1 to 5? 14, also for lengths 0 and 1.", where 8 is a kind as well
+-- Rules 7.1, question 14: "Is there a kind, 1 to 5 or 8?"; there is none "also for the lengths 0 and 1" (Rules 7.18)
 unfoldable pub hasKind : List ℕ → Bool
 hasKind rest = leb 2 (lengthIn rest) && shape.isKind (kindIn rest)
 
--- 15: "Is the length that kind's own?"
+-- Rules 7.1, question 15: "Is the length that kind's own?"
 unfoldable pub ownLength : List ℕ → Bool
 ownLength rest = eqb (lengthIn rest) (shape.lengthOf (kindIn rest))
 
--- "station 1, call kind 1, grade 2, weight, moisture, speed, draw 4 each, signed, curve 4"
+-- Rules 9.3: "station 1, call kind 1, grade 2, weight, moisture, speed, draw 4 each, signed, curve 4"
 unfoldable pub submissionIn : List ℕ → Submission
 submissionIn rest = record {
   station = getD rest shape.atStation 0;
@@ -73,13 +73,13 @@ readRest rest at =
 unfoldable pub readOf : List ℕ → ℕ → Reading
 readOf bytes at = cond (ltb at (length bytes)) (readRest (drop at bytes) at) End
 
--- "its position, which a refusal does not move"
+-- the position after a reading: "a refusal does not move it" (Rules 9.5)
 abbrev pub positionAfter : Reading → ℕ → ℕ
 positionAfter (Read frame next) at = next
 positionAfter End at = at
 positionAfter (Refused number) at = at
 
--- document 01's number of a reading: that of a refusal, else 0
+-- the number of a reading: that of a refusal, else 0 (Rules 7.1)
 abbrev pub readingNumber : Reading → ℕ
 readingNumber (Read frame next) = 0
 readingNumber End = 0

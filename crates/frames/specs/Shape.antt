@@ -1,5 +1,5 @@
--- The shape of a frame, for reading and for writing (document 01, "Frames"; request 2026-06 for kind 8): the kinds with their lengths, where each
--- field starts, and the refusals. `src/shape` has the same names.
+-- The shape of a frame, for reading and for writing (Rules 9.2, 9.3): the kinds with their lengths, where each field starts, and the refusals. `src/shape`
+-- has the same names.
 use Prim.Native.Nat.{ℕ, _+_}
 use mathlib.Core.Bool.{Bool, cond}
 use lib.Dec.{eqb, ltb}
@@ -23,25 +23,25 @@ kindRun = 5
 abbrev pub kindWithdraw : ℕ
 kindWithdraw = 8
 
--- "First two bytes of length, counting what follows; then a two-byte kind"
+-- Rules 9.2: "two bytes of length, which counts what follows them; then a kind of two bytes"
 abbrev pub atLength : ℕ
 atLength = 0
 
 abbrev pub atKind : ℕ
 atKind = 2
 
--- "places 2 bytes, limit 4"
+-- Rules 9.3: "places 2, limit 4"
 abbrev pub atPlaces : ℕ
 atPlaces = 4
 
 abbrev pub atLimit : ℕ
 atLimit = 6
 
--- "station 1", in every frame that names one
+-- Rules 9.3: "station 1", in every frame that names one
 abbrev pub atStation : ℕ
 atStation = 4
 
--- "station 1, call kind 1, grade 2, weight, moisture, speed, draw 4 each, signed, curve 4"
+-- Rules 9.3: "station 1, call kind 1, grade 2, weight, moisture, speed, draw 4 each, signed, curve 4"
 abbrev pub atCall : ℕ
 atCall = 5
 
@@ -63,11 +63,11 @@ atDraw = 20
 abbrev pub atCurve : ℕ
 atCurve = 24
 
--- the bytes of the longest frame: "gives back 28 bytes"
+-- the bytes of the longest frame: "28 bytes" (Rules 9.6)
 abbrev pub longest : ℕ
 longest = 28
 
--- the numbers of the questions: 13 whole, 14 of a kind, 15 of the kind's own length
+-- the numbers of the questions (Rules 7.18): 13 whole, 14 of a kind, 15 of the kind's own length
 abbrev pub notWhole : ℕ
 notWhole = 13
 
@@ -88,7 +88,7 @@ lengthOf kind =
     (cond (eqb kind kindWithdraw) 3
     0)))))
 
--- "Is there a kind, 1 to 5?" (document 01), "question 14 admits 8" (request 2026-06); `ShapeLaws` says it so
+-- Rules 7.1, question 14: a kind, "1 to 5 or 8"; `ShapeLaws` says it so
 abbrev pub isKind : ℕ → Bool
 isKind kind = ltb 0 (lengthOf kind)
 

@@ -1,4 +1,4 @@
--- "fields of exactly these widths": the bounds that the types of the fields give them. `mag z` is n both for n and for −1 − n.
+-- Rules 9.6, "fields of exactly these widths": the bounds that the types of the fields give them. `mag z` is n both for n and for −1 − n.
 use Prim.Native.Nat.{ℕ, _<_}
 use mathlib.Core.List.{List, [], _∷_}
 use lib.Signed.{mag}

@@ -1,4 +1,4 @@
--- Writing a frame: "gives back 28 bytes, unused ones zero, with the count used".
+-- Writing a frame (Rules 9.6): "28 bytes, unused ones zero, with the count used".
 use Prim.Native.Nat.{ℕ, _-_}
 use mathlib.Core.Bool.{cond}
 use mathlib.Core.List.{List, [], _∷_, _++_}
@@ -81,7 +81,7 @@ frameFrom kind fields =
     (cond (eqb kind shape.kindRun) (Run (fields .station))
     (Withdraw (fields .station))))))
 
--- "The writer takes a kind (question 14) and fields of exactly these widths"
+-- Rules 9.6: "The writer takes a kind (question 14) and fields of exactly these widths"
 unfoldable pub writeOf : ℕ → Fields → Writing
 writeOf kind fields =
     cond (shape.isKind kind) (record { number = 0; written = writtenOf (frameFrom kind fields) })

@@ -1,5 +1,5 @@
--- The audit is exact: for every content of the words it says yes (`auditOf`) exactly if document 01's sentence holds (`Audited`), and the
--- sentence holds of words that are related to a table, so after every history.
+-- The audit is exact: for every content of the words it says yes (`auditOf`) exactly if Rules 6.6 holds (`Audited`), and that
+-- holds of words that are related to a table, so after every history.
 use Prim.Native.Nat.{ℕ, _+_, _-_, _*_, _≤_, _<_, min}
 use mathlib.Core.Path.{_≡_, refl, sym, _∙_, ap, subst}
 use mathlib.Core.Logic.{_≢_, _↔_, _⊎_, inl, inr}
@@ -203,7 +203,7 @@ audited words places limit o y =
     (subst (λ r. InLine words r (queueIn words .rows)) rows (queue-tells words few (b .1)))
     (eqb-true (plus (treeRows (treeIn words .leaves)) (queueIn words .rows)) (rowsIn words) (a .1) ∙ rows)
 
--- where the audit says yes the sentence holds
+-- where the audit says yes the rule holds
 pub audit-sound : (words : List ℕ) → auditOf words ≡ true → Audited words
 unfolding auditOf
 audit-sound words y = go (openedIn words) refl y
@@ -212,7 +212,7 @@ audit-sound words y = go (openedIn words) refl y
     go Refused e y = absurd (false≢true y)
     go (Opened places limit) e y = audited words places limit e y
 
--- ---- words of which the sentence holds
+-- ---- words of which the rule holds
 
 -- a free row is sound, and no leaf
 free-sound : (words : List ℕ) (rows root r : ℕ) (row : Row) → isFree row ≡ true → (rowSound words rows root r (wordRow row) ≡ true) × ¬ IsLeaf (wordRow row)
@@ -274,7 +274,7 @@ queue-holds words h q few e t k s w l o =
     subst (λ (x : Queued). (wholeQueue words x ≡ true) × (x .rows ≡ min (length q) NONE)) (sym walked)
     (whole-of words end (sound .0) (all-at (leastSince words) (queuedAtHead words) q (sym e)) last (sound .1), rows)
 
--- where the sentence holds the audit says yes
+-- where the rule holds the audit says yes
 pub audit-complete : {words : List ℕ} → Audited words → auditOf words ≡ true
 unfolding auditOf
 audit-complete {words} a =
@@ -295,13 +295,13 @@ audit-complete {words} a =
     rw (a .opened, t) (and-eq-true-iff (wholeQueue words (queueIn words)) (eqb (plus tree (queueIn words .rows)) (rowsIn words)) .1
     (q .0, eq-eqb (plus tree (queueIn words .rows)) (rowsIn words) sum))
 
--- the audit says yes exactly if the sentence holds
+-- the audit says yes exactly if the rule holds
 pub audit-exact : (words : List ℕ) → (auditOf words ≡ true) ↔ Audited words
 audit-exact words = (audit-sound words, audit-complete)
 
 -- ---- after every history
 
--- the sentence holds of words that are related to a table
+-- the rule holds of words that are related to a table
 pub audit-related : {words : List ℕ} {t : Table} → Related words t → Audited words
 audit-related {words} {t} r =
     let s = r .store in

@@ -115,7 +115,7 @@ module _ {words : List ℕ} {t : Table} {s i : ℕ} {c : Call} (sound : Sound t)
 
 -- ---- the decision of each call
 
--- "Add: held already? 2. Else changes used up? 4. Else every place taken? 3. Else 1."
+-- an add (Rules 2.5)
 pub add-decides : {words : List ℕ} {t : Table} {s i n v : ℕ} {p : Point} (at : ℕ) (row : WordRow) → Sound t → s < stations → t .stations s ≡ unfinished i (add p v) none → (r : Related words t) → Decided t p row
     → (holdsPoint p row ≡ false → curveAt p (t .held) ≡ none → ¬ (t .changes ≡ t .limit) → ¬ (taken t ≡ t .places) → Outcome r s (add p v) none n (insertOf words (2 * t .places) s (callAt words s) at))
     → Outcome r s (add p v) none n (conclude words (2 * t .places) s (callAt words s) at row)
@@ -136,7 +136,7 @@ add-decides {words} {t} {s} {i} {n} {v} {p} at row sound l q r (absent h e) k = 
         plain-outcome sound l q r at row 4 0 (code-is sound l q r row ∙ rw (h, eq-eqb (t .changes) (t .limit) d)) refl refl refl (omega arith) (omega arith) (omega arith) (add-spent t p v e d)
     spent (no d) = full d (ℕ-discrete (taken t) (t .places))
 
--- "Remove: not held? 6. Else changes used up? 4. Else 5."
+-- a remove (Rules 2.6)
 pub remove-decides : {words : List ℕ} {t : Table} {s i n : ℕ} {p : Point} (at : ℕ) (row : WordRow) → Sound t → s < stations → t .stations s ≡ unfinished i (remove p) none → (r : Related words t) → Decided t p row
     → (holdsPoint p row ≡ true → ¬ (t .changes ≡ t .limit) → Outcome r s (remove p) none n (unlinkOf words (2 * t .places) s (callAt words s) at))
     → Outcome r s (remove p) none n (conclude words (2 * t .places) s (callAt words s) at row)
@@ -152,7 +152,7 @@ remove-decides {words} {t} {s} {i} {n} {p} at row sound l q r (there h f e) k = 
         let c : codeAt words (callAt words s) row ≡ 5 = code-is sound l q r row ∙ rw (h, ne-eqb (t .changes) (t .limit) d) in
         rw c (k h d)
 
--- "Contains: 7 with the curve, or 6."
+-- a contains (Rules 2.7)
 pub contains-decides : {words : List ℕ} {t : Table} {s i n : ℕ} {p : Point} (at : ℕ) (row : WordRow) → Sound t → s < stations → t .stations s ≡ unfinished i (contains p) none → (r : Related words t) → Decided t p row
     → Outcome r s (contains p) none n (conclude words (2 * t .places) s (callAt words s) at row)
 unfolding codeOf

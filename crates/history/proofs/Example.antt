@@ -1,5 +1,5 @@
--- The statements are not empty: from a slice long enough for 2 places the theorems give the answers of document 01's input of the frame runner
--- (`frame-runner`) and of case N (`case-n`), for each call its submission, run and taking.
+-- The statements are not empty: from a slice long enough for 2 places the theorems give the answers of the frame runner's input of Rules 10.5
+-- (`frame-runner`) and of case N (`case-n`, Rules 13), for each call its submission, run and taking.
 use Prim.Native.Nat.{ℕ, _≤_}
 use mathlib.Core.Path.{_≡_, refl, ap, _∙_}
 use mathlib.Core.Bool.{Bool, true, false}
@@ -24,7 +24,7 @@ use Rattle.words.specs.Layout.{wordsFor}
 use Rattle.stations.proofs.OpeningLaws.{places-of, limit-of}
 use Rattle.history.proofs.Called.{RunGives, CallGives, calledWords, standing-open, Called, called, Begun, begun, set-gives}
 
--- "open 2 places, limit 10"
+-- open 2 places, limit 10
 opens : (words : List ℕ) → wordsFor 2 ≤ length words → openOf words 2 10 .number ≡ 0
 unfolding openOf
 opens words l = rw (places-of 2 (omega arith) (omega arith), limit-of 10 (omega arith) (omega arith), le-leb (wordsFor 2) (length words) l)
@@ -40,7 +40,7 @@ pub record FrameRunner (words : List ℕ) : Type 0 where
   pub adds : CallGives (openOf words 2 10 .words) 0 1 (atWeight 12 8_000) 41 (answer 1 (atWeight 12 8_000) 41 0)
   pub finds : CallGives (calledWords (openOf words 2 10 .words) 0 1 (atWeight 12 8_000) 41) 1 4 (atWeight 12 12_000) 0 (answer 8 (atWeight 12 8_000) 41 16_000_000)
 
--- "station 0 submits add 12, 8000, 550, 9000, 0 with curve 41; run 0; take 0; station 1 submits nearest 12, 12000, 550, 9000, 0; run 1; take 1"
+-- station 0 submits add 12, 8000, 550, 9000, 0 with curve 41; run 0; take 0; station 1 submits nearest 12, 12000, 550, 9000, 0; run 1; take 1
 pub frame-runner : (words : List ℕ) → wordsFor 2 ≤ length words → FrameRunner words
 unfolding run
 frame-runner words l =
@@ -157,7 +157,7 @@ module _ (words : List ℕ) (l : wordsFor 2 ≤ length words) where
   unfolding unsettled
   fourth-set = fourth .others 1 (λ e. omega arith) (ap unsettled third-set) ∙ third-set
 
-  -- "m and nearer p are held; a nearest is submitted; m is removed and answered, then p." The search answers p, not m.
+  -- m and the nearer p are held; a nearest is submitted; m is removed and answered, then p. The search answers p, not m.
   pub case-n : CaseN words
   unfolding run
   case-n = record {

@@ -1,4 +1,4 @@
--- Opening again: "words beyond that length stay" (`open-beyond`), and an accepted opening of whatever a history left begins a new history (`open-again`).
+-- Opening again (Rules 7.4): words beyond stay (`open-beyond`), and an accepted opening of whatever a history left begins a new history (`open-again`).
 use Prim.Native.Nat.{ℕ}
 use mathlib.Core.Path.{_≡_}
 use mathlib.Core.List.{List}
@@ -18,7 +18,7 @@ open-beyond words places limit e =
     let a = accepted words places limit e in
     rw (a .opens) (opened-beyond words places limit (a .places-in) (a .limit-in) (a .long))
 
--- "Opening, also of an opened slice, begins a new history": what an accepted opening of the words after a history leaves is linear from no record held.
+-- Rules 7.4: what an accepted opening of the words after a history leaves is linear from no record held.
 pub open-again : (words : List ℕ) (places limit : ℕ) (evs : List Event) (places′ limit′ : ℕ)
     → openOf (after evs (openOf words places limit .words)) places′ limit′ .number ≡ 0
     → Linear wordIndex (openOf (after evs (openOf words places limit .words)) places′ limit′ .words) places′ limit′

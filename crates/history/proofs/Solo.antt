@@ -1,4 +1,4 @@
--- Solo (`solo`): "After every history, a station with an unfinished call, stepped while the others stand still, is answered within 16 × places + 64 steps."
+-- Solo (`solo`, Rules 8.3): after every history a station with an unfinished call, stepped while the others stand still, is answered within 16 × places + 64 steps.
 use Prim.Native.Nat.{ℕ, zero, suc, _+_, _*_, _≤_, _<_}
 use mathlib.Core.Path.{_≡_, refl, sym, _∙_}
 use mathlib.Core.Logic.{inl, inr}

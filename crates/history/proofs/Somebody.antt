@@ -152,7 +152,7 @@ somebody words places limit e evs run d l =
     let v : Stands (after evs (openOf words places limit .words)) places limit = rw (a .opens) (history-related words places limit a evs) in
     dealt-answers run {n = allMoves places} (record { stands = v; few = omega (arith, potential-most (v .related) (v .sound), v .places-same) }) d (omega arith)
 
--- Request 2026-11, by its own figure.
+-- Rules 8.4, by the greater figure.
 pub somebody-finishes : (words : List ℕ) (places limit : ℕ) → openOf words places limit .number ≡ 0 → (evs run : List Event)
     → Undisturbed (after evs (openOf words places limit .words)) run
     → 8 * 32 * (16 * places + 64) ≤ dealtSteps (after evs (openOf words places limit .words)) run → SomeAnswered (after evs (openOf words places limit .words)) run

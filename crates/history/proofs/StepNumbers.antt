@@ -59,7 +59,7 @@ step-numbers words places limit e evs s =
     let v = settled-stands (history-related words places limit a evs) in
     rw (a .opens) (stands-number (v .0) (v .1) s)
 
--- "11, never met on an index that only these calls wrote".
+-- Rules 7.16: 11 is never met.
 pub step-never-11 : (words : List ℕ) (places limit : ℕ) → openOf words places limit .number ≡ 0 → (evs : List Event) (s : ℕ)
     → ¬ (stepOf (after evs (openOf words places limit .words)) s .number ≡ 11)
 step-never-11 words places limit e evs s = not-11 (step-numbers words places limit e evs s)

@@ -1,4 +1,4 @@
--- What a step touches (document 01, the last paragraph of "The plain table"): `touch`, for every content of the words.
+-- What a step touches (Rules 5.2): `touch`, for every content of the words.
 -- `withdraw-touch`, `submit-touch` and `take-touch` are the same of a withdrawal, a submission and a taking, which need no row.
 use Prim.Native.Nat.{ℕ, _*_, _≤_, _<_}
 use mathlib.Core.Path.{_≡_, refl, ap, ap₂, _∙_}
@@ -91,13 +91,12 @@ step-alike : {v w : List ℕ} {s : ℕ} → AgreeOn v w s (stepRows v s) → Ali
 unfolding stepOf
 step-alike a = unfinished-alike a (λ l. work-alike l a)
 
--- the rows `stepRows` of a step do what the sentence says
+-- the rows `stepRows` of a step do what Rules 5.2 says
 pub step-touch : (v w : List ℕ) (s : ℕ) → AgreeOn v w s (stepRows v s)
     → (stepOf v s .number ≡ stepOf w s .number) × Leaves v w (stepOf v s .words) (stepOf w s .words) s (stepRows v s)
 step-touch v w s a = let x = step-alike a in (x .number, x .leaves)
 
--- "For each slice and step there are at most six rows such that this holds, with those rows added to the two records, against every slice that
--- agrees with it there." Each of them is one of the 2 × places rows.
+-- Rules 5.2: at most six rows, each of them one of the 2 × places rows, against every slice that agrees there.
 pub touch : (v : List ℕ) (s : ℕ)
     → (rows : List ℕ) × (length rows ≤ 6) × ((r : ℕ) → List·Memᴰ r rows → r < rowsIn v)
     × ((w : List ℕ) → AgreeOn v w s rows → (stepOf v s .number ≡ stepOf w s .number) × Leaves v w (stepOf v s .words) (stepOf w s .words) s rows)
@@ -109,7 +108,7 @@ withdraw-alike : {v w : List ℕ} {s : ℕ} {rows : List ℕ} → AgreeOn v w s 
 unfolding withdrawOf
 withdraw-alike {v} {w} {s} a = unfinished-alike a (λ l. alike-done (leaves-answered (leaves-nothing a) _ _ (ap withdrawnAnswer (callAt-agree s (a .station)))))
 
--- "A withdrawal may need and change what a step may": it needs and changes the two records alone, and no row.
+-- Rules 5.3: a withdrawal needs and changes the two records alone, and no row.
 pub withdraw-touch : (v w : List ℕ) (s : ℕ) → AgreeOn v w s []
     → (withdrawOf v s .number ≡ withdrawOf w s .number) × Leaves v w (withdrawOf v s .words) (withdrawOf w s .words) s []
 withdraw-touch v w s a = let x = withdraw-alike a in (x .number, x .leaves)

@@ -54,8 +54,7 @@ module _ {v w : List ℕ} {s : ℕ} {rows : List ℕ} where
       (λ k. alike-ask a (inRange p) (inRange p) 8 refl
       (λ r. alike-ask a (curveFits kind c) (curveFits kind c) 9 refl (λ f. alike-done (submitted-leaves a kind p c)))))))
 
--- "from two slices of one length that agree in the common record and the station's, as far as they are there, the same submission … gets the
--- same result, leaves them agreeing there, and keeps every other word"
+-- Rules 5.1, of a submission: the same result, the slices agreeing there again, and every other word kept
 pub submit-touch : (v w : List ℕ) (s kind : ℕ) (p : Point) (c : ℕ) → AgreeOn v w s []
     → (submitOf v s kind p c .number ≡ submitOf w s kind p c .number) × Leaves v w (submitOf v s kind p c .words) (submitOf w s kind p c .words) s []
 submit-touch v w s kind p c a = let x = submit-alike a kind p c in (x .number, x .leaves)

@@ -26,6 +26,6 @@ module _ {v w : List ℕ} {s : ℕ} {rows : List ℕ} (a : AgreeOn v w s rows) w
   unfolding takeWords
   take-leaves = rw (← take-same) (taken-leaves (takeOf v s))
 
--- "the same submission or taking gets the same result, leaves them agreeing there, and keeps every other word"
+-- Rules 5.1, of a taking: the same result, the slices agreeing there again, and every other word kept
 pub take-touch : (v w : List ℕ) (s : ℕ) → AgreeOn v w s [] → (takeOf v s ≡ takeOf w s) × Leaves v w (takeWords v s) (takeWords w s) s []
 take-touch v w s a = (take-same a, take-leaves a)

@@ -139,7 +139,7 @@ module _ (words : List ℕ) (places limit : ℕ) (e : openOf words places limit 
   withdraw-numbers = rw (related-withdraws s (stands .sound) (stands .related) .number)
       (retract-all (λ r. StepNumber (r .number)) (stands .table) s (inr (inl refl)) (inr (inr refl)) (λ l i c o q. inl refl))
 
-  -- "11, never met on an index that only these calls wrote".
+  -- Rules 7.16: 11 is never met.
   pub withdraw-never-11 : ¬ (withdrawOf reached s .number ≡ 11)
   withdraw-never-11 = not-11 withdraw-numbers
 

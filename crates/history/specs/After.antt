@@ -1,4 +1,4 @@
--- The words after a history: "each getting the index as the last one left it".
+-- The words after a history: each event gets the slice "as the event before left it" (Rules 4.1).
 use mathlib.Core.List.{List}
 use Prim.Native.Nat.{ℕ, zero, suc}
 use mathlib.Core.Path.{_≡_}
@@ -17,7 +17,7 @@ after evs words = afterEvents wordIndex words evs
 abbrev pub Answered : List ℕ → ℕ → Type 0
 Answered words s = numberOf (takeOf words s) ≡ 0
 
--- the station, "stepped while the others stand still, is answered within" so many steps, none of which is refused
+-- Rules 8.3: the station, "stepped while the others stand still, is answered within" so many steps, none of which is refused
 abbrev pub AnsweredWithin : ℕ → List ℕ → ℕ → Type 0
 AnsweredWithin zero words s = ⊥
 AnsweredWithin (suc n) words s = (stepOf words s .number ≡ 0) × (Answered (stepOf words s .words) s ⊎ AnsweredWithin n (stepOf words s .words) s)

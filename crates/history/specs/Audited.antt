@@ -1,7 +1,6 @@
--- What an audit says yes to: "the rows linked from the root, if any, have fields in range as for question 11 and form a tree in which each
--- leaf's point is on the side that every cut above it sends it, parent links agree, and every row lies in the tree, among the spare rows, or in
--- the records awaiting release, once and in order of removal." The spare rows are those that the queue gives out before the first awaited one, so
--- their fields, the queue's tail and their numbers belong to it (docs/LAYOUT.md lists what is asked, docs/DECISIONS.md why).
+-- What an audit says yes to (Rules 6.6, 6.7): there are a tree and a queue in which every row lies, "once and in order of removal". The ready rows are those that the
+-- queue gives out before the first awaited one, so their fields, the queue's tail and their numbers belong to it (docs/LAYOUT.md lists what is asked,
+-- docs/DECISIONS.md why).
 use Prim.Native.Nat.{ℕ, _+_, _*_, _<_}
 use mathlib.Core.Path.{_≡_}
 use mathlib.Core.Logic.{_⊎_}
@@ -15,7 +14,7 @@ use Rattle.trees.specs.Tree.{Tree, topOf, Has, Shape, Routed, Distinct}
 use Rattle.trees.specs.Queue.{Free, headOf, tailOf, Linked, InQueue, Once, UpTo, Removal, freedAfter}
 use Rattle.history.specs.View.{Reads}
 
--- the queue is spare rows, whose numbers are at most removals − awaiting, and then for each number from there to removals, in that order, a
+-- Rules 6.7: the queue is rows that are ready, whose numbers are at most removals − awaiting, and then for each number from there to removals, in that order, a
 -- removed row and at most one spare row of that number; `released` is removals − awaiting
 pub record InOrder (queue : List Free) (removals released : ℕ) : Type 0 where
   pub spare : List Free

@@ -36,7 +36,7 @@ use Rattle.history.specs.View.{Seat, seatAt, Reads, progressOf, marksIn}
 abbrev pub recordOf : Entry → Record
 recordOf e = record { point = e .point; curve = e .curve }
 
--- document 01's number and curve of a call
+-- the kind and the curve of a call (Rules 2.2)
 abbrev pub kindOf : Call → ℕ
 kindOf (add p c) = 1
 kindOf (remove p) = 2

@@ -1,4 +1,4 @@
--- Somebody always finishes (request 2026-11): the steps among some events that are dealt to stations with an unfinished call, that one of the events
+-- Somebody always finishes (Rules 8.4, 8.5): the steps among some events that are dealt to stations with an unfinished call, that one of the events
 -- answers a call, and that nobody withdraws or submits meanwhile.
 use Prim.Native.Nat.{ℕ, _+_, _*_}
 use mathlib.Core.Path.{_≡_}
@@ -16,7 +16,7 @@ use Rattle.history.specs.Index.{wordIndex}
 abbrev pub mostUnanswered : ℕ → ℕ
 mostUnanswered places = 8 * places
 
--- 1 for a step "given to a station that has an unfinished call", 0 for any other event
+-- 1 for a step given to a station that has an unfinished call, 0 for any other event
 abbrev pub dealtStep : List ℕ → Event → ℕ
 dealtStep words (submission s kind p c) = 0
 dealtStep words (singleStep s) = cond (isUnfinished (stateAt words s)) 1 0
@@ -35,12 +35,12 @@ NotWithdrawn words (singleStep s) = Unit {0}
 NotWithdrawn words (taking s) = Unit {0}
 NotWithdrawn words (withdrawal s) = ¬ (withdrawOf words s .number ≡ 0)
 
--- "neither withdrawal nor packing falls inside it": every submission, step and taking may, and a withdrawal that is refused
+-- no withdrawal is accepted (Rules 8.4): every submission, step and taking may fall here, and a withdrawal that is refused
 abbrev pub Undisturbed : List ℕ → List Event → Type 0
 Undisturbed words [] = Unit {0}
 Undisturbed words (ev ∷ evs) = NotWithdrawn words ev × Undisturbed (reply wordIndex words ev .next) evs
 
--- "at least one call is answered"
+-- at least one call is answered
 abbrev pub SomeAnswered : List ℕ → List Event → Type 0
 SomeAnswered words [] = ⊥
 SomeAnswered words (ev ∷ evs) = (answered wordIndex words ev ≡ true) ⊎ SomeAnswered (reply wordIndex words ev .next) evs

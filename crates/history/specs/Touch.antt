@@ -1,4 +1,4 @@
--- What an event may touch (document 01, the last paragraph of "The plain table").
+-- What an event may touch (Rules 5).
 use Prim.Native.Nat.{ℕ}
 use mathlib.Core.Path.{_≡_}
 use mathlib.Core.Bool.{Bool, true, false, cond}
@@ -26,13 +26,13 @@ use Rattle.calls.specs.Insert.{siteAt}
 use Rattle.calls.specs.Unlink.{aroundAt}
 use Rattle.calls.specs.Walk.{wayOf, codeAt, standsAt}
 
--- "two slices of one length that agree in the common record and the station's, as far as they are there", and in some rows
+-- Rules 5.1: "Two slices of one length that agree in the common record and in the station's record, as far as these are there", and in some rows
 pub record AgreeOn (v w : List ℕ) (s : ℕ) (rows : List ℕ) : Type 0 where
   pub common : AgreeIn v w inCommon
   pub station : AgreeIn v w (inStation s)
   pub row : (r : ℕ) → List·Memᴰ r rows → AgreeIn v w (inRow r)
 
--- "keeps every other word"
+-- Rules 5.1: "each keeps every other word"
 pub record KeepsOthers (v v′ : List ℕ) (s : ℕ) (rows : List ℕ) : Type 0 where
   pub lengths : length v′ ≡ length v
   pub others : (k : ℕ) → Off (startOf inCommon) (sizeOf inCommon) k → Off (startOf (inStation s)) (sizeOf (inStation s)) k
@@ -44,7 +44,7 @@ pub record Leaves (v w v′ w′ : List ℕ) (s : ℕ) (rows : List ℕ) : Type 
   pub first : KeepsOthers v v′ s rows
   pub second : KeepsOthers w w′ s rows
 
--- ---- the rows that a step needs
+-- ---- the rows that a step needs (Rules 5.2)
 
 -- of a walk that goes on: six on its way
 abbrev pub wayRows : Way → List ℕ

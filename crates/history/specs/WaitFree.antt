@@ -1,4 +1,5 @@
--- A search that nobody can hold up: the steps of one station among some events, that one of them answers, and that the station's call is not withdrawn.
+-- A search that nobody can hold up (Rules 8.6): the steps of one station among some events, that one of them answers, and that the station's call is not
+-- withdrawn.
 use Prim.Native.Nat.{ℕ, _+_, _*_}
 use mathlib.Core.Path.{_≡_}
 use mathlib.Core.Logic.{_⊎_}

@@ -1,4 +1,4 @@
--- What a withdrawal that is accepted leaves (document 02, 2026-06).
+-- What a withdrawal that is accepted leaves (Rules 2.9, 2.10).
 use Prim.Native.Nat.{ℕ}
 use mathlib.Core.Path.{_≡_}
 use mathlib.Core.Bool.{Bool, false, _&&_}
@@ -23,7 +23,7 @@ isSearching words s = isUnfinished (stateAt words s) && eqb (callAt words s .kin
 
 pub record Withdrawn (words : List ℕ) (s : ℕ) : Type 0 where
   pub accepted : withdrawOf words s .number ≡ 0
-  -- a taking would give "11, withdrawn, with its point, curve 0 and square 0"
+  -- a taking would give 11 with the point of the call, curve 0 and square 0
   pub gives : givenBy (takeOf (withdrawOf words s .words) s) ≡ some (answer 11 (callAt words s .point) 0 0)
   -- the station's since word, from which on removals keep their places, is none
   pub since : trackAt (withdrawOf words s .words) s .since ≡ NONE

@@ -1,4 +1,4 @@
--- What a frame comes to on the words of an index, by the definitions of the calls.
+-- What a frame comes to on the words of an index (Rules 9.4), by the definitions of the calls.
 use Prim.Native.Nat.{ℕ}
 use mathlib.Core.List.{List}
 use lib.IntN.{pos}
@@ -49,7 +49,7 @@ applyWords words (Take station) = takeWords words station
 applyWords words (Run station) = runOf words station .words
 applyWords words (Withdraw station) = withdrawOf words station .words
 
--- document 01's number of what a frame gives: that of a refusal, else 0
+-- the number of what a frame gives: that of a refusal, else 0 (Rules 7.1)
 abbrev pub appliedNumber : Applied → ℕ
 appliedNumber (Number number) = number
 appliedNumber (Given answer) = 0

@@ -1,5 +1,5 @@
--- The lines that the frame runner prints: "a line for each frame: … its refusal or 0, and for a taken answer the code, five coordinates, curve and
--- square, else eight hyphens", it "stops after the line of a 13, 14 or 15, and ends without a line when no byte is left".
+-- The lines that the frame runner prints: a line for each frame (Rules 10.3); it "stops after the line of a 13, 14 or 15, and ends without a line when no
+-- byte is left" (Rules 10.4).
 use Prim.Native.Nat.{ℕ, zero, suc, _+_}
 use mathlib.Core.List.{List, [], _∷_, _++_}
 use lib.ListN.{length}
@@ -19,7 +19,7 @@ abbrev pub lineAfter : Applied → ℕ → Line
 lineAfter (Number number) next = Plain number next
 lineAfter (Given answer) next = Taken answer next
 
--- the number that a line has: "its refusal or 0"
+-- the number that a line has: "its refusal or 0" (Rules 10.3)
 abbrev pub lineNumber : Line → ℕ
 lineNumber Over = 0
 lineNumber (Stopped number) = number

@@ -21,7 +21,7 @@ use trial::cells::copy;
 use trial::cells::count;
 use trial::cells::get;
 
-// The most steps of a call that is left alone, as document 01 allows them.
+// The most steps of a call that is left alone (Rules 8.3).
 pub fn most_steps(book: &[u64]) -> u64 {
     let places = get(book, AT_PLACES);
     if places <= MOST_PLACES {

@@ -1,4 +1,4 @@
--- P1 to P4 of document 01 and three more cases, by computation of the definitions that the contracts cite.
+-- P1 to P4 (Rules 13) and three more cases, by computation of the definitions that the contracts cite.
 -- Assumes nothing.
 use mathlib.Core.Path.{_≡_, refl}
 use mathlib.Core.Bool.{true, false}

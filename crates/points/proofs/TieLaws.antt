@@ -14,12 +14,12 @@ use Rattle.points.proofs.Tests.{no! }
 use Rattle.points.proofs.OrderLaws.{turned, clash, Ordered, axis-equal, axis-same, axis-less, axis-ordered, then-ordered, then-second, ordered, order-equal}
 
 module _ (a b : Point) where
-  -- "the higher basis weight now wins"
+  -- Rules 1.7: "the higher basis weight wins"
   pub tie-heavier : ltZ (b .weight) (a .weight) ≡ true → tieOf a b ≡ Less
   unfolding tieOf byAxis coordinateOf
   tie-heavier e = rw e
 
-  -- "among equal weights the order of 01 stands"
+  -- Rules 1.7: "where the weights are equal as well, the lower point wins"
   pub tie-level : a .weight ≡ b .weight → tieOf a b ≡ orderOf a b
   unfolding tieOf coordinateOf
   tie-level e = ap (λ (o : Order). thenOf o (orderOf a b)) (axis-same b a 2 (sym e))

@@ -1,4 +1,4 @@
--- The choice of the nearest (document 01, "Records", and request 2026-02), and what a cut says of the records beyond it.
+-- The choice of the nearest (Rules 1.6, 1.7), and what a cut says of the records beyond it.
 use Prim.Native.Nat.{ℕ, suc, _*_, _<_}
 use mathlib.Core.Path.{_≡_}
 use mathlib.Core.Bool.{Bool, true, false, cond}
@@ -13,11 +13,11 @@ use Rattle.points.specs.Order.{byAxis, orderOf, tieOf, isLess, isEqual}
 use Rattle.points.specs.Square.{topped, squareOf}
 use Rattle.points.specs.Cut.{goesLeft}
 
--- "Only records of the target's grade are candidates"
+-- Rules 1.6: "Only records of the target's grade are candidates"
 unfoldable pub sameGrade : Point → Point → Bool
 sameGrade a b = isEqual (byAxis a b 1)
 
--- the smaller square is chosen; "among equal squares the higher basis weight now wins; among equal weights the order of 01 stands"
+-- the smaller square is chosen (Rules 1.6); "Among equal squares the higher basis weight wins", then the lower point (Rules 1.7)
 unfoldable pub chosenOver : Point → Point → Point → Bool
 chosenOver target a b =
     cond (ltb (squareOf target a) (squareOf target b)) true

@@ -1,4 +1,4 @@
--- Cuts: the cut between two points, and the side on which it sends a point (document 01, "Tree").
+-- Cuts: the cut between two points (Rules 6.2), and the side on which it sends a point (Rules 6.3).
 use Prim.Native.Nat.{ℕ}
 use mathlib.Core.Bool.{Bool, true, false}
 use lib.Dec.{ltb}

@@ -1,4 +1,4 @@
--- The order of points, compared axis by axis (document 01, "Records"), and their order on a tie (request 2026-02).
+-- The order of points, compared axis by axis (Rules 1.4), and their order on a tie (Rules 1.7).
 use Prim.Native.Nat.{ℕ, _≤_, _<_}
 use mathlib.Core.Path.{_≡_}
 use mathlib.Core.Logic.{_⊎_}
@@ -41,7 +41,7 @@ isEqual Less = false
 isEqual Equal = true
 isEqual Greater = false
 
--- how many axes a comparison looks at: the number of the first that differs, or 5 where none does
+-- how many axes a comparison looks at (Rules 1.4): the number of the first that differs, or 5 where none does
 unfoldable pub lookedOf : Point → Point → ℕ
 lookedOf a b =
     cond (isEqual (byAxis a b 1)) (cond (isEqual (byAxis a b 2)) (cond (isEqual (byAxis a b 3)) (cond (isEqual (byAxis a b 4)) 5 4) 3) 2) 1

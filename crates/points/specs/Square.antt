@@ -1,4 +1,4 @@
--- The square of two points: the sum of the squared differences on axes 2 to 5 (document 01, "Records").
+-- Rules 1.5, the square of two points: "the sum of the squared differences on axes 2 to 5".
 use Prim.Native.Nat.{ℕ, _+_, _*_, min}
 use lib.IntN.{natAbs, _-ℤ_}
 use Rattle.points.specs.declared.point.Point.{Point}

@@ -1,4 +1,4 @@
--- What a reader of frames reads at its position, and the reader after that: past the frame that was read, and where it was after a refusal and at the end. Assumes nothing.
+-- What a reader of frames reads at its position, and the reader after that (Rules 9.5): past the frame that was read, and where it was after a refusal and at the end. Assumes nothing.
 use denote.Ref.{now}
 use Rattle.frames.specs.declared.read.Reading.{Reading}
 use Rattle.readers.specs.declared.reader.Reader.{Reader}

@@ -1,4 +1,4 @@
--- Rows: sixteen words each, of which the first is the kind, read and written as values.
+-- Rows (Rules 6.4): sixteen words each, of which the first is the kind, read and written as values.
 use Prim.Native.Nat.{ℕ, _+_}
 use mathlib.Core.List.{List, [], _∷_}
 use mathlib.Core.Bool.{Bool, true, false, cond, _&&_}
@@ -40,7 +40,7 @@ isRow (Cut parent cut left right) = true
 abbrev pub recordIn : ℕ → ℕ → Point → ℕ → Bool
 recordIn rows link point curve = (linkIn rows link && inRange point) && curveIn curve
 
--- every field of a row is in range for an index of so many rows
+-- every field of a row is in range for an index of so many rows (Rules 7.11)
 unfoldable pub inRows : ℕ → Row → Bool
 inRows rows Bad = false
 inRows rows (Spare next freed) = linkIn rows next

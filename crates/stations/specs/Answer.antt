@@ -14,7 +14,7 @@ use Rattle.words.specs.Words.{part, splice}
 use Rattle.words.specs.Part.{pointFrom, pointWords}
 use Rattle.stations.specs.Station.{hasStation, isWaiting, stateAt}
 
--- ---- the codes of an answer
+-- ---- the codes of an answer (Rules 2.4)
 
 -- a record was added
 abbrev pub codeAdded : ℕ
@@ -88,6 +88,6 @@ answerAt words s = cond (hasStation words s) (answerOf (part words (atAnswer s) 
 unfoldable pub putAnswer : List ℕ → ℕ → Answer → List ℕ
 putAnswer words s answer = cond (hasStation words s) (splice words (answerWords answer) (atAnswer s) 9) words
 
--- the answer that waits in station s: there is one if the state says so and every field is in range
+-- the answer that waits in station s (Rules 7.17): there is one if the state says so and every field is in range
 unfoldable pub waitingAt : List ℕ → ℕ → Waiting
 waitingAt words s = cond (isWaiting (stateAt words s) && answerSound (answerAt words s)) (Given (answerAt words s)) Nothing

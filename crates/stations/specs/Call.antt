@@ -14,7 +14,7 @@ use Rattle.words.specs.Range.{curveIn}
 use Rattle.words.specs.Part.{pointFrom, pointWords}
 use Rattle.stations.specs.Station.{hasStation}
 
--- the kinds of a call
+-- the kinds of a call (Rules 2.2)
 abbrev pub addKind : ℕ
 addKind = 1
 
@@ -67,11 +67,11 @@ callAt words s = cond (hasStation words s) (callOf (part words (atCall s) 8) (be
 abbrev pub withBest : Best → Call → Call
 withBest best call = record { kind = call .kind; point = call .point; curve = call .curve; asof = call .asof; best = best }
 
--- "for an add, curve in range"; other kinds have none
+-- Rules 7.10: 1 to 999,999 for an add, else 0
 abbrev pub curveFor : ℕ → ℕ → Bool
 curveFor kind curve = cond (eqb kind addKind) (curveIn curve) (eqb curve 0)
 
--- every field of a call is in range, where so many changes were made since opening
+-- every field of a call is in range (Rules 7.10), where so many changes were made since opening
 unfoldable pub callSound : Call → ℕ → Bool
 callSound call changes =
     (((kindIn (call .kind) && inRange (call .point)) && curveFor (call .kind) (call .curve)) && leb (call .asof) changes) && bestSound (call .best)

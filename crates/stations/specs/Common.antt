@@ -36,7 +36,7 @@ placesAt words = get words atPlaces
 unfoldable pub limitAt : List ℕ → ℕ
 limitAt words = get words atLimit
 
--- "are the mark that opening writes, places and limit in range, and length enough for them all there?"
+-- Rules 7.1, question 4: "Are the mark that opening writes, places and limit in range, and length enough for them all there?"
 unfoldable pub openIn : ℕ → ℕ → ℕ → ℕ → Bool
 openIn first places limit size = ((eqb first mark && placesIn places) && limitIn limit) && leb (wordsFor places) size
 
@@ -72,7 +72,7 @@ recordsCleared words = cleared records words
 unfoldable pub putOpening : List ℕ → ℕ → ℕ → List ℕ
 putOpening words places limit = put (put (put words atMark mark) atPlaces places) atLimit limit
 
--- ---- the ranges of the fields
+-- ---- the ranges of the fields (Rules 7.10)
 
 -- counts, root, head and tail are in range
 unfoldable pub countsIn : List ℕ → ℕ → Bool
@@ -117,6 +117,6 @@ leastSince words = leastFour words 4 (leastFour words 0 (countsAt words .removal
 unfoldable pub awaitingIn : List ℕ → ℕ
 awaitingIn words = countsAt words .removals - leastSince words
 
--- places taken: the records held, and the removals that still hold their place
+-- places taken (Rules 3.6): the records held, and the removals that still hold their place
 unfoldable pub takenIn : List ℕ → ℕ
 takenIn words = countsAt words .held + awaitingIn words

@@ -40,7 +40,7 @@ submitted state = unfinished
 abbrev pub answered : State → State
 answered state = waiting
 
--- "Taking leaves the station idle"
+-- Rules 2.3: a taking "leaves the station idle"
 abbrev pub emptied : State → State
 emptied state = idle
 

@@ -123,8 +123,8 @@ module _ (w : Window) (n : ℕ) (begun : beginOf w n .number ≡ 0) (evs : List 
       let a = begin-accepted w n begun in
       ap (λ (v : Window). stateAfter v evs) (a .leaves ∙ begun-shown n) ∙ state-shown evs (newLog n) (new-in n (a .fits))
 
-  -- "What it reports must equal the same four numbers worked out afresh from the tail of the whole run of accepted readings since the window was begun, however
-  -- long": the events are any, refused ones and further beginnings among them.
+  -- Rules 11.6: the four numbers are those worked out afresh from the tail of all the readings accepted since the window was begun. The events are any, refused
+  -- ones and further beginnings among them.
   pub window-run : (x : ℕ) → updateOf (stateAfter (beginOf w n .window) evs) x .figures ≡ cond (readingIn x) (figuresOf (tailOf (logged .length) (logged .accepted ++ (x ∷ [])))) (refusedWith 19)
   window-run x = ap (λ (v : Window). updateOf v x .figures) state-run ∙ ap (λ (u : Updated). u .figures) (update-shown logged logged-in x) ∙ by-test (readingIn x)
     where
@@ -170,7 +170,7 @@ own-readings w size h =
     ∙ ap (λ (ys : List ℕ). windowOf n ys) (tail-short n (presentIn w) (omega (arith, present-length w size h, h .present)))
     ∙ sound-window w size h
 
--- "18 for .. a state no readings could leave": a state is sound exactly if some readings leave it. Its array has 64 positions, as its type says.
+-- Rules 11.4, question 18: a state is sound exactly if some readings leave it. Its array has 64 positions, as its type says.
 pub sound-exact : (w : Window) → length (w .readings) ≡ longest → (isSound w ≡ true) ↔ LeftByReadings w
 sound-exact w size = (left, back)
   where

@@ -1,4 +1,4 @@
--- A window is begun. "Refused: 18 for a window length out of range."
+-- A window is begun (Rules 11.3); 18 for a length out of range.
 use Prim.Native.Nat.{ℕ}
 use mathlib.Core.Bool.{cond}
 use mathlib.Core.List.{[]}

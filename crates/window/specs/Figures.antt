@@ -1,4 +1,4 @@
--- What is told of some readings: "the sum, the least, the greatest and the mean rounded half up".
+-- What is told of some readings: "the sum, the least, the greatest and the mean rounded half up" (Rules 11.5).
 use Prim.Native.Nat.{ℕ, _+_, _*_, _/_, _≤_, _<_, min, max}
 use mathlib.Core.List.{List, [], _∷_, List·Memᴰ}
 use lib.ListN.{length}
@@ -28,15 +28,15 @@ unfoldable pub greatestOf : List ℕ → ℕ
 greatestOf [] = 0
 greatestOf (x ∷ xs) = greatestFrom x xs
 
--- "the mean rounded half up" of n readings: the whole part of sum / n + 1 / 2
+-- the mean of n readings: "the whole part of sum / n + 1 / 2" (Rules 11.5)
 unfoldable pub meanOf : ℕ → ℕ → ℕ
 meanOf sum n = (2 * sum + n) / (2 * n)
 
--- the four figures, "all over the readings present"
+-- the four figures, "all over the readings present" (Rules 11.5)
 unfoldable pub figuresOf : List ℕ → Figures
 figuresOf xs = record { number = 0; sum = sumOf xs; least = leastOf xs; greatest = greatestOf xs; mean = meanOf (sumOf xs) (length xs) }
 
--- a refusal is its number alone
+-- a refusal is its number and four zeros (Rules 11.5)
 abbrev pub refusedWith : ℕ → Figures
 refusedWith number = record { number = number; sum = 0; least = 0; greatest = 0; mean = 0 }
 

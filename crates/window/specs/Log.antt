@@ -1,4 +1,4 @@
--- All that happens to a window, "nobody else writing its state", and beside it a log of every accepted reading.
+-- All that happens to a window, "where nobody else writes its state" (Rules 11.6), and beside it a log of every accepted reading.
 use Prim.Native.Nat.{ℕ}
 use mathlib.Core.Path.{_≡_}
 use mathlib.Core.Bool.{true, cond}
@@ -19,7 +19,7 @@ stateAfter w [] = w
 stateAfter w (beginning n ∷ evs) = stateAfter (beginOf w n .window) evs
 stateAfter w (reading x ∷ evs) = stateAfter (updateOf w x .window) evs
 
--- the length at which the window was last begun, and "the whole run of accepted readings since the window was begun, however long"
+-- the length at which the window was last begun, and "all the readings accepted since the window was begun, however many" (Rules 11.6)
 pub record Log : Type 0 where
   pub length : ℕ
   pub accepted : List ℕ

@@ -1,5 +1,4 @@
--- Whether the moisture is steady: the window is full, and its readings lie within a spread. Request 2026-07 gives no rule for it; this one is the
--- product's own (docs/DECISIONS.md).
+-- Whether the moisture is steady (Rules 11.8): the window is full, and its readings lie within a spread.
 use Prim.Native.Nat.{ℕ, _+_, _-_, _≤_}
 use mathlib.Core.Bool.{Bool, _&&_}
 use mathlib.Core.List.{List·Memᴰ}

@@ -1,4 +1,4 @@
--- "the tail of the whole run": the last so many of a list, or all of it where it is shorter.
+-- The tail (Rules 11.6): the last so many of a list, or all of it where it is shorter.
 use Prim.Native.Nat.{ℕ, _-_, min}
 use mathlib.Core.Path.{_≡_}
 use mathlib.Core.List.{List, _++_}

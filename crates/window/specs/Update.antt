@@ -1,4 +1,4 @@
--- A window is brought up to date with a reading. "Refused: 18 for .. a state no readings could leave, and 19 for a reading out of range, 18 first."
+-- A window is brought up to date with a reading (Rules 11.4); 18 for a state that no readings could leave, then 19 for a reading out of range.
 use Prim.Native.Nat.{ℕ}
 use mathlib.Core.Bool.{cond}
 use mathlib.Core.List.{[], _∷_, _++_}
@@ -12,7 +12,7 @@ use Rattle.window.specs.Window.{readingIn, windowOf, presentIn, isSound}
 unfoldable pub nextOf : Window → ℕ → Window
 nextOf w x = windowOf (w .length) (tailOf (w .length) (presentIn w ++ (x ∷ [])))
 
--- a refusal leaves the window, and gives its number alone
+-- a refusal leaves the window (Rules 11.7), and gives its number and four zeros (Rules 11.5)
 abbrev pub refusedOf : ℕ → Window → Updated
 refusedOf number w = record { figures = refusedWith number; window = w }
 

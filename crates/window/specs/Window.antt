@@ -1,4 +1,4 @@
--- The state of a window (request 2026-07): its length, how many readings are present, and these, the oldest first, with zeros behind.
+-- The state of a window (Rules 11.2): its length, how many readings are present, and these, the oldest first, with zeros behind.
 use Prim.Native.Nat.{ℕ, zero, suc, _-_}
 use mathlib.Core.Bool.{Bool, true, cond, _&&_}
 use mathlib.Core.List.{List, _++_}
@@ -6,11 +6,11 @@ use lib.ListN.{length, take, getD, replicate}
 use lib.Dec.{leb, ltb}
 use Rattle.window.specs.declared.window.Window.{Window}
 
--- "a window of the last 1 to 64 readings"
+-- Rules 11.1: "the last 1 to 64 readings"
 abbrev pub longest : ℕ
 longest = 64
 
--- "each in 0.01 % from 0 to 10,000"
+-- Rules 11.1: "in 0.01 %, from 0 to 10,000"
 abbrev pub wettest : ℕ
 wettest = 10000
 

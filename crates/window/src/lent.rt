@@ -1,4 +1,4 @@
-// "The window's state is lent to the call and brought up to date there." A program in C makes these calls too.
+// The state of a window is lent, and brought up to date there (Rules 11.2). A program in C makes these calls too.
 use crate::begin::begin;
 use crate::figures::Figures;
 use crate::update::update;

@@ -1,4 +1,4 @@
--- The refusals: the number of the first question that a call fails, by name.
+-- The refusals (Rules 7.1): the number of the first question that a call fails, by name.
 use Prim.Native.Nat.{ℕ}
 
 -- the places are out of range
