@@ -34,7 +34,6 @@ use Rattle.lines.proofs.line.next_line
 use Rattle.readers.specs.Reader.{readBy, movedPast}
 use Rattle.claims.specs.Definitions.{replied, openOf, submitOf, takeOf, takeWords, stepOf, withdrawOf, runOf, reportOf, verdictOf}
 use Rattle.claims.specs.Definitions.{readOf, positionAfter, writtenOf, writeOf, applyOf, applyWords, lineOf, lineWords}
-
 -- ---- the functions meet their contracts
 
 pub use Rattle.openings.proofs.open.open.Met.{met as open-meets}
