@@ -14,7 +14,7 @@ use Rattle.lines.proofs.LineLaws.{lines-all, lines-none, lines-next, line-passe
 use Rattle.texts.specs.Line.{headerBytes, lineBytes}
 use Rattle.texts.specs.declared.output.Output.{Output}
 use Rattle.texts.specs.Text.{textOf}
-use Rattle.texts.specs.Output.{begun, counted, afterLine, silent, nextOf, nextWords, printed, lastOutput, linesBytes, outputOf}
+use Rattle.texts.specs.Output.{begun, counted, afterLine, silent, nextOf, nextWords, askedAtMost, printed, lastOutput, linesBytes, outputOf}
 use Rattle.texts.proofs.TextLaws.{text-with}
 
 -- ---- the next text
@@ -30,6 +30,19 @@ next-more words bytes output e = (rw e, rw e)
 pub next-silent : (words bytes : List ℕ) (output : Output) → output .more ≡ false → (nextOf words bytes output ≡ silent output) × (nextWords words bytes output ≡ words)
 unfolding nextOf nextWords
 next-silent words bytes output e = (rw e, rw e)
+
+-- each time fewer are left to ask for
+line-falls : (bytes : List ℕ) (at ordinal : ℕ) (line : Line) → Passes bytes at line → askedAtMost bytes (afterLine ordinal line) < suc (length bytes - at)
+unfolding afterLine
+line-falls bytes at ordinal Over passes = omega arith
+line-falls bytes at ordinal (Stopped number) passes = omega arith
+line-falls bytes at ordinal (Plain number next) passes = omega arith
+line-falls bytes at ordinal (Taken answer next) passes = omega arith
+
+pub next-falls : (words bytes : List ℕ) (output : Output) → output .more ≡ true → askedAtMost bytes (nextOf words bytes output) < askedAtMost bytes output
+next-falls words bytes output e =
+    let line = lineOf words (readOf bytes (output .at)) in
+    rw (next-more words bytes output e .0, e) (line-falls bytes (output .at) (counted (output .ordinal)) line (line-passes words bytes (output .at)))
 
 -- ---- what is printed
 

@@ -1,7 +1,8 @@
 -- The bytes that the frame runner prints for its input, and the way in which they are asked for text by text.
-use Prim.Native.Nat.{ℕ, zero, suc, _+_, min}
+use Prim.Native.Nat.{ℕ, zero, suc, _+_, _-_, min}
 use mathlib.Core.Bool.{Bool, true, false, cond}
 use mathlib.Core.List.{List, [], _∷_, _++_}
+use lib.ListN.{length}
 use Rattle.frames.specs.Read.{readOf}
 use Rattle.lines.specs.declared.line.Line.{Line}
 use Rattle.lines.specs.declared.line.Line.the-variants.{Over, Stopped, Plain, Taken}
@@ -57,6 +58,10 @@ nextOf words bytes output =
 -- and the words after it
 unfoldable pub nextWords : List ℕ → List ℕ → Output → List ℕ
 nextWords words bytes output = cond (output .more) (lineWords words (readOf bytes (output .at))) words
+
+-- how often the next can be asked for at most: once for each byte that is left, and once to see that there is none
+abbrev pub askedAtMost : List ℕ → Output → ℕ
+askedAtMost bytes output = cond (output .more) (suc (length bytes - output .at)) 0
 
 -- what is printed from here on where the next is asked for as long as there may be more, at most n times
 unfoldable pub printed : ℕ → List ℕ → List ℕ → Output → List ℕ
