@@ -91,6 +91,11 @@ line-passes words bytes at = go (readOf bytes at) refl (decLe (length bytes) at)
     go (Refused number) e (no h) = omega arith
     go (Read frame next) e there = passed (applyOf words frame) next (read-moves bytes at e)
 
+-- a first frame that is refused has the only line, whatever stands behind it
+pub lines-refused : (words bytes : List ℕ) {number : ℕ} → readOf bytes 0 ≡ Refused number → linesOf words bytes ≡ Stopped number ∷ []
+unfolding linesFor lineOf
+lines-refused words bytes e = sym (lines-all (suc (length bytes)) words bytes (omega arith)) ∙ rw e
+
 -- a frame that was read has a line, and others follow it
 line-follows : (g : ℕ → List Line) (applied : Applied) (next : ℕ) → followed g (lineAfter applied next) ≡ lineAfter applied next ∷ g next
 line-follows g (Number number) next = refl

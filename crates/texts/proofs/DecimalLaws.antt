@@ -1,6 +1,7 @@
--- Decimal numbers: what the fewest digits of a number spell is its decimal text (`decimal-digits`), and how long that is (`decimal-length`).
+-- Decimal numbers: what the digits stand for (`decimal-value`), that the fewest digits of a number are these (`decimal-digits`), and how many they are
+-- (`decimal-length`).
 -- Assumes nothing.
-use Prim.Native.Nat.{ℕ, zero, suc, _+_, _-_, _/_, _%_, _^_, _≤_, _<_}
+use Prim.Native.Nat.{ℕ, zero, suc, _+_, _*_, _-_, _/_, _%_, _^_, _≤_, _<_}
 use mathlib.Core.Path.{_≡_, refl, sym, ap, _∙_}
 use mathlib.Core.Bool.{Bool, true, false}
 use mathlib.Core.List.{List, [], _∷_, _++_}
@@ -13,7 +14,7 @@ use lib.IntN.{ℤ, pos, negsuc, natAbs, _-ℤ_}
 use lib.Signed.{ltZ, mag}
 use lib.ListN.{length, length-append}
 use Rattle.io.specs.Digits.{glyph, digits, Fewest}
-use Rattle.texts.specs.Decimal.{digitOf, minus, decimalFor, decimalOf, signedDecimal}
+use Rattle.texts.specs.Decimal.{digitOf, valueAfter, minus, decimalFor, decimalOf, signedDecimal}
 use Rattle.numbers.proofs.SignedLaws.{minus-negsuc}
 
 -- ---- the recursion
@@ -41,6 +42,25 @@ pub decimal-more : (n : ℕ) → 10 ≤ n → decimalOf n ≡ decimalOf (n / 10)
 unfolding decimalOf decimalFor
 decimal-more n h =
     rw (le-ltb n 10 h) (ap (λ (xs : List ℕ). xs ++ (digitOf (n % 10) ∷ [])) (decimal-enough n (suc (n / 10)) (n / 10) (omega arith) (omega arith)))
+
+-- ---- the number that the digits stand for
+
+value-last : (v : ℕ) (digits : List ℕ) (digit : ℕ) → valueAfter v (digits ++ (digit ∷ [])) ≡ 10 * valueAfter v digits + (digit - 48)
+value-last v [] digit = refl
+value-last v (first ∷ digits) digit = value-last (10 * v + (first - 48)) digits digit
+
+value-below : (k n : ℕ) → n < k → valueAfter 0 (decimalOf n) ≡ n
+value-below zero n h = absurd (omega arith)
+value-below (suc k) n h = go (value-below k (n / 10)) (decLt n 10)
+  where
+    go : (n / 10 < k → valueAfter 0 (decimalOf (n / 10)) ≡ n / 10) → Dec (n < 10) → valueAfter 0 (decimalOf n) ≡ n
+    go rest (yes small) = rw (decimal-one n small) (omega arith)
+    go rest (no large) =
+        let some : 10 ≤ n = omega arith in
+        rw (decimal-more n some) (value-last 0 (decimalOf (n / 10)) (digitOf (n % 10)) ∙ omega (arith, rest (omega arith)))
+
+pub decimal-value : (n : ℕ) → valueAfter 0 (decimalOf n) ≡ n
+decimal-value n = value-below (suc n) n (omega arith)
 
 -- ---- the digits that are worked out
 

@@ -1,5 +1,5 @@
 -- Numbers as text in ASCII: decimal digits, the most significant first and no zero in front, and a minus sign before a negative number.
-use Prim.Native.Nat.{ℕ, zero, suc, _+_, _/_, _%_}
+use Prim.Native.Nat.{ℕ, zero, suc, _+_, _*_, _-_, _/_, _%_}
 use mathlib.Core.Bool.{cond}
 use mathlib.Core.List.{List, [], _∷_, _++_}
 use lib.Dec.{ltb}
@@ -19,6 +19,11 @@ decimalFor (suc most) n =
 -- a number has no more digits than one more than itself
 unfoldable pub decimalOf : ℕ → List ℕ
 decimalOf n = decimalFor (suc n) n
+
+-- the number that digits stand for, behind those of a number; `decimal-value` says that they are those of the number
+abbrev pub valueAfter : ℕ → List ℕ → ℕ
+valueAfter n [] = n
+valueAfter n (digit ∷ digits) = valueAfter (10 * n + (digit - 48)) digits
 
 -- `-`
 abbrev pub minus : ℕ
