@@ -5,6 +5,7 @@ use mathlib.Core.Path.{_≡_, refl, sym, ap, _∙_}
 use mathlib.Core.List.{List, [], _∷_, _++_, append-assoc}
 use Prim.Native.Nat.{ℕ, zero, suc, _+_, _-_, _<_, _≤_}
 use native.Mathlib.Omega.{arith}
+use native.Mathlib.Decide.{decLe}
 use lib.ListN.{length, length-append}
 use Rattle.calls.specs.declared.take.Taking.{Taking}
 use Rattle.calls.specs.declared.take.Taking.the-variants.{Refused as Refusal, Given as Gift}
@@ -20,7 +21,7 @@ use Rattle.frames.specs.Width.{AllInWidth}
 use Rattle.frames.specs.Read.{readOf}
 use Rattle.frames.specs.Write.{frameBytes}
 use Rattle.lines.specs.Apply.{appliedOf, appliedNumber, applyOf, applyWords}
-use Rattle.lines.specs.Line.{lineNumber, lineAfter, lineOf, lineWords, followed, linesFor, linesOf, callBytes, callLines}
+use Rattle.lines.specs.Line.{lineNumber, lineAfter, lineOf, lineWords, followed, linesFor, linesOf, Passes, callBytes, callLines}
 use Rattle.frames.proofs.OutcomeLaws.{ends, read-moves}
 use Rattle.frames.proofs.WrittenLaws.{frame-length, frame-among}
 
@@ -59,6 +60,41 @@ lines-enough zero (suc n) words bytes at h k = rw (ends bytes at (omega arith))
 lines-enough (suc m) zero words bytes at h k = rw (ends bytes at (omega arith))
 lines-enough (suc m) (suc n) words bytes at h k =
     same-after m n words bytes at (readOf bytes at) refl (λ after next past. lines-enough m n after bytes next (omega arith) (omega arith))
+
+-- all lines, where no fewer than bytes are asked for
+pub lines-all : (n : ℕ) (words bytes : List ℕ) → length bytes ≤ n → linesFor n words bytes 0 ≡ linesOf words bytes
+unfolding linesOf
+lines-all n words bytes h = lines-enough n (length bytes) words bytes 0 (omega arith) (omega arith)
+
+-- one by one: none, or the line at a position and those that follow it
+pub lines-none : (words bytes : List ℕ) (at : ℕ) → linesFor zero words bytes at ≡ []
+unfolding linesFor
+lines-none words bytes at = refl
+
+pub lines-next : (n : ℕ) (words bytes : List ℕ) (at : ℕ)
+    → linesFor (suc n) words bytes at ≡ followed (λ next. linesFor n (lineWords words (readOf bytes at)) bytes next) (lineOf words (readOf bytes at))
+unfolding linesFor
+lines-next n words bytes at = refl
+
+-- each is that of bytes that are there
+pub line-passes : (words bytes : List ℕ) (at : ℕ) → Passes bytes at (lineOf words (readOf bytes at))
+unfolding lineOf
+line-passes words bytes at = go (readOf bytes at) refl (decLe (length bytes) at)
+  where
+    passed : (applied : Applied) (next : ℕ) → (at < next) × (next ≤ length bytes) → Passes bytes at (lineAfter applied next)
+    passed (Number number) next h = h
+    passed (Given answer) next h = h
+
+    go : (reading : Reading) → readOf bytes at ≡ reading → Dec (length bytes ≤ at) → Passes bytes at (lineOf words reading)
+    go End e there = tt
+    go (Refused number) e (yes h) = let z : _≡_ {A = ℕ} 0 1 = cc (ends bytes at h) in absurd (omega arith)
+    go (Refused number) e (no h) = omega arith
+    go (Read frame next) e there = passed (applyOf words frame) next (read-moves bytes at e)
+
+-- a first frame that is refused has the only line, whatever stands behind it
+pub lines-refused : (words bytes : List ℕ) {number : ℕ} → readOf bytes 0 ≡ Refused number → linesOf words bytes ≡ Stopped number ∷ []
+unfolding linesFor lineOf
+lines-refused words bytes e = sym (lines-all (suc (length bytes)) words bytes (omega arith)) ∙ rw e
 
 -- a frame that was read has a line, and others follow it
 line-follows : (g : ℕ → List Line) (applied : Applied) (next : ℕ) → followed g (lineAfter applied next) ≡ lineAfter applied next ∷ g next

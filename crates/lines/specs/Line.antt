@@ -1,6 +1,6 @@
 -- The lines that the frame runner prints: a line for each frame (Rules 10.3); it "stops after the line of a 13, 14 or 15, and ends without a line when no
 -- byte is left" (Rules 10.4).
-use Prim.Native.Nat.{ℕ, zero, suc, _+_}
+use Prim.Native.Nat.{ℕ, zero, suc, _+_, _≤_, _<_}
 use mathlib.Core.List.{List, [], _∷_, _++_}
 use lib.ListN.{length}
 use Rattle.frames.specs.declared.frame.Frame.{Frame}
@@ -53,6 +53,13 @@ linesFor (suc n) words bytes at = followed (λ next. linesFor n (lineWords words
 -- the lines of the whole input; each line takes a byte at least
 unfoldable pub linesOf : List ℕ → List ℕ → List Line
 linesOf words bytes = linesFor (length bytes) words bytes 0
+
+-- a line is that of bytes that are there; one from which the runner goes on passes some of them
+abbrev pub Passes : List ℕ → ℕ → Line → Type 0
+Passes bytes at Over = Unit {0}
+Passes bytes at (Stopped number) = at < length bytes
+Passes bytes at (Plain number next) = (at < next) × (next ≤ length bytes)
+Passes bytes at (Taken answer next) = (at < next) × (next ≤ length bytes)
 
 -- the bytes of calls that are written one after the other
 unfoldable pub callBytes : List Frame → List ℕ

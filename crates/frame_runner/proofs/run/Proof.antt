@@ -1,56 +1,53 @@
--- `frame_runner::run` is safe and ends: it prints at most 65,536 lines. Assumes nothing.
+-- `frame_runner::run` is safe and ends: each time fewer texts are left to ask for. Assumes nothing.
 use borrow.Author.Needs.{needs}
-use mathlib.Core.Path.{_≡_, refl}
-use Prim.Native.Nat.{_≤_, _-_}
+use mathlib.Core.Path.{_≡_, refl, sym, subst}
+use Prim.Native.Nat.{_<_}
 use native.Mathlib.Omega.{arith}
 use lib.ListN.{length}
+use denote.Ref.{now}
+use Rattle.texts.specs.declared.output.Output.{Output}
+use Rattle.texts.specs.Output.{askedAtMost}
+use Rattle.texts.proofs.OutputLaws.{next-falls}
 use Rattle.frame_runner.proofs.run.Statement.{statement}
 use Rattle.frame_runner.proofs.run.Tie as tie
 
 abbrev Inv-loop : tie.InvT-loop
-Inv-loop words₀ bytes at₀ ordinal₀ words at ordinal = (ordinal ≤ 65536) × (length words ≡ length words₀)
+Inv-loop words₀ bytes output₀ words output = length words ≡ length words₀
 
 abbrev μ-loop : tie.MeasureT-loop
-μ-loop words₀ bytes at₀ ordinal₀ words at ordinal = 65536 - ordinal
+μ-loop words₀ bytes output₀ words output = askedAtMost bytes output
 
-loop-holds : tie.Need-loop-holds Inv-loop μ-loop
-loop-holds c = (omega arith, refl)
-
-next-line-requires : tie.Need-next-line-requires Inv-loop μ-loop
-next-line-requires c κs = search needs
-
-add-ordinal : tie.Need-add-ordinal Inv-loop μ-loop
-add-ordinal c = omega arith
-
-shown-requires : tie.Need-shown-requires Inv-loop μ-loop
-shown-requires c κs = search needs
+begin-requires : tie.Need-begin-requires Inv-loop μ-loop
+begin-requires c κs = search needs
 
 print-requires : tie.Need-print-requires Inv-loop μ-loop
 print-requires c κs = search needs
 
-goes-on-requires : tie.Need-goes-on-requires Inv-loop μ-loop
-goes-on-requires c κs = search needs
+loop-holds : tie.Need-loop-holds Inv-loop μ-loop
+loop-holds c = refl
+
+next-requires : tie.Need-next-requires Inv-loop μ-loop
+next-requires c κs = search needs
+
+print-requires-2 : tie.Need-print-requires-2 Inv-loop μ-loop
+print-requires-2 c κs = search needs
+
+loop-less : tie.Need-loop-less Inv-loop μ-loop
+loop-less c =
+    let next = c .before .before .before .next in
+    let inside = c .before .before .before .before .before in
+    let l = inside .before .loop in
+    let bytes = now (inside .before .before .before .before .before .before .args .bytes) in
+    subst (λ (output : Output). askedAtMost bytes output < askedAtMost bytes (l .output)) (sym (next .ensures .0)) (next-falls (l .words) bytes (l .output) (inside .loop-test .taken))
+
+loop-again : tie.Need-loop-again Inv-loop μ-loop
+loop-again c = omega arith
 
 same-length : tie.Need-same-length Inv-loop μ-loop
-same-length c = omega arith
+same-length c = search needs
 
 returns : tie.Need-returns Inv-loop μ-loop
 returns c = search needs
-
-next-at-requires : tie.Need-next-at-requires Inv-loop μ-loop
-next-at-requires c κs = search needs
-
-loop-less : tie.Need-loop-less Inv-loop μ-loop
-loop-less c = omega arith
-
-loop-again : tie.Need-loop-again Inv-loop μ-loop
-loop-again c = (omega arith, omega arith)
-
-same-length-2 : tie.Need-same-length-2 Inv-loop μ-loop
-same-length-2 c = omega arith
-
-returns-2 : tie.Need-returns-2 Inv-loop μ-loop
-returns-2 c = search needs
 
 pub run-spec : {M : Type 1} → statement M
 run-spec =
@@ -58,16 +55,12 @@ run-spec =
     (tie.spec
     Inv-loop
     μ-loop
-    loop-holds
-    next-line-requires
-    add-ordinal
-    shown-requires
+    begin-requires
     print-requires
-    goes-on-requires
-    same-length
-    returns
-    next-at-requires
+    loop-holds
+    next-requires
+    print-requires-2
     loop-less
     loop-again
-    same-length-2
-    returns-2)
+    same-length
+    returns)

@@ -1,15 +1,15 @@
--- `frame_runner::text::magnitude` is safe. Assumes nothing.
-use borrow.Author.Needs.{needs}
-use native.Mathlib.Omega.{arith}
-use mathlib.Core.Path.{_≡_}
+-- `texts::decimal::magnitude` meets its contract. Assumes nothing.
 use Prim.Native.Nat.{_<_}
+use mathlib.Core.Path.{_≡_}
+use native.Mathlib.Omega.{arith}
 use lib.Signed.{mag}
 use mir.Syntax.{w32}
 use mir.Val.{toZ, ofZ}
 use mir.Facts.{toZ-ofZ}
 use Rattle.numbers.proofs.SignedLaws.{Flipped, flipped, Kept, kept}
-use Rattle.frame_runner.proofs.text.magnitude.Statement.{statement}
-use Rattle.frame_runner.proofs.text.magnitude.Tie as tie
+use Rattle.texts.proofs.DecimalLaws.{size-negative}
+use Rattle.texts.proofs.decimal.magnitude.Statement.{statement}
+use Rattle.texts.proofs.decimal.magnitude.Tie as tie
 
 near : (c : tie.Start) → mag (c .args .n) < 2147483648
 near c = c .fits .n .sfits
@@ -37,10 +37,11 @@ cast-result-2 : tie.Need-cast-result-2
 cast-result-2 c = rw (back (c .before)) (not-negative c .not-negative, record { fits = omega (arith, not-negative c .small) })
 
 returns : tie.Need-returns
-returns c = search needs
+returns c =
+    rw (back (c .before), toZ-ofZ {w = w32} (negative c .there)) (size-negative (c .before .args .n) (rw (back (c .before)) at (c .if1 .taken)))
 
 returns-2 : tie.Need-returns-2
-returns-2 c = search needs
+returns-2 c = rw (back (c .before))
 
 pub magnitude-spec : {M : Type 1} → statement M
 magnitude-spec =

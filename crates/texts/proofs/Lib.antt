@@ -1,0 +1,5 @@
+pub mod DecimalLaws
+pub mod TextLaws
+pub mod LineLaws
+pub mod OutputLaws
+pub mod Cases
