@@ -31,9 +31,14 @@ use Rattle.readers.proofs.reader.next
 use Rattle.readers.proofs.reader.frame_at
 use Rattle.lines.proofs.apply.apply_frame
 use Rattle.lines.proofs.line.next_line
+use Rattle.texts.proofs.line.header
+use Rattle.texts.proofs.line.line_text
+use Rattle.texts.proofs.output.begin
+use Rattle.texts.proofs.output.next as following
 use Rattle.readers.specs.Reader.{readBy, movedPast}
 use Rattle.claims.specs.Definitions.{replied, openOf, submitOf, takeOf, takeWords, stepOf, withdrawOf, runOf, reportOf, verdictOf}
 use Rattle.claims.specs.Definitions.{readOf, positionAfter, writtenOf, writeOf, applyOf, applyWords, lineOf, lineWords}
+use Rattle.claims.specs.Definitions.{textWith, headerBytes, lineBytes, begun, nextOf, nextWords}
 -- ---- the functions meet their contracts
 
 pub use Rattle.openings.proofs.open.open.Met.{met as open-meets}
@@ -54,6 +59,10 @@ pub use Rattle.readers.proofs.reader.next.Met.{met as reader-next-meets}
 pub use Rattle.readers.proofs.reader.frame_at.Met.{met as frame-at-meets}
 pub use Rattle.lines.proofs.apply.apply_frame.Met.{met as apply-frame-meets}
 pub use Rattle.lines.proofs.line.next_line.Met.{met as next-line-meets}
+pub use Rattle.texts.proofs.line.header.Met.{met as header-meets}
+pub use Rattle.texts.proofs.line.line_text.Met.{met as line-text-meets}
+pub use Rattle.texts.proofs.output.begin.Met.{met as begin-meets}
+pub use Rattle.texts.proofs.output.next.Met.{met as next-text-meets}
 
 -- ---- what the contracts are
 
@@ -141,3 +150,18 @@ module _ {M : Type 1} (𝓤 : URA M) (H : Heap 𝓤) (A : Atoms 𝓤) (mem : Mem
       (λ r end. (r ≡ lineOf (now (args .0)) (readOf (now (args .1 .0)) (args .1 .1 .0)))
       × (now (end .0) ≡ lineWords (now (args .0)) (readOf (now (args .1 .0)) (args .1 .1 .0))))
   next-line-contract κs args = refl
+
+  -- the texts that the runner prints: the header; a line with its ordinal; the first; the next, on words and bytes
+  pub header-contract : (κs : _) (args : _) → header.clauses 𝓤 H A mem does κs args ≡ Promise (λ r end. r ≡ textWith headerBytes)
+  header-contract κs args = refl
+
+  pub line-text-contract : (κs : _) (args : _) → line_text.clauses 𝓤 H A mem does κs args ≡ Promise (λ r end. r ≡ textWith (lineBytes (args .0) (args .1 .0)))
+  line-text-contract κs args = refl
+
+  pub begin-contract : (κs : _) (args : _) → begin.clauses 𝓤 H A mem does κs args ≡ Promise (λ r end. r ≡ begun)
+  begin-contract κs args = refl
+
+  pub next-text-contract : (κs : _) (args : _)
+      → following.clauses 𝓤 H A mem does κs args
+      ≡ Promise (λ r end. (r ≡ nextOf (now (args .0)) (now (args .1 .0)) (args .1 .1 .0)) × (now (end .0) ≡ nextWords (now (args .0)) (now (args .1 .0)) (args .1 .1 .0)))
+  next-text-contract κs args = refl

@@ -1,9 +1,10 @@
 -- What the rules say besides the demands: what an opening leaves (`opening-fresh`, `opening-again`, `opening-beyond`), the report (`report-after`), the audit (`audit-says`,
--- `audit-exact`, `audit-after`), question 11 (`never-11`), runs (`run-is-steps`, `run-after`) and the comparison of points (`comparison-tells`).
+-- `audit-exact`, `audit-after`), question 11 (`never-11`), runs (`run-is-steps`, `run-after`), the bytes of the frame runner (`runner-prints`, `runner-ends`), ranges (`point-ranges`,
+-- `square-most`) and the comparison of points (`comparison-tells`).
 use Prim.Native.Nat.{ℕ, _+_, _*_, _≤_, _<_}
 use mathlib.Core.Path.{_≡_, refl, ap, _∙_, subst}
 use mathlib.Core.Logic.{_⊎_, _↔_}
-use mathlib.Core.Bool.{true, _&&_}
+use mathlib.Core.Bool.{true, false, _&&_}
 use mathlib.Core.List.{List, [], map, append-nil, List·Memᴰ, List·Memᴰ·not-nil}
 use lib.ListN.{length}
 use lib.IntN.{pos, negsuc}
@@ -12,7 +13,7 @@ use Rattle.stations.specs.Counts.{countsAt}
 use Rattle.stations.specs.declared.counts.Counts.{Counts}
 use Rattle.claims.specs.Definitions.{Point, inRange, squareOf, orderOf, comparedOf, Looked}
 use Rattle.claims.specs.Definitions.{get, rowAt, Spare, isIdle, isUnfinished, stateAt, Record, Table, opened, taken, Event}
-use Rattle.claims.specs.Definitions.{openOf, stepOf, mostSteps, runOf, takeOf, numberOf, reportOf, auditOf, verdictOf, heldIn, recordOf, after, stepped, firstNo, Audited}
+use Rattle.claims.specs.Definitions.{openOf, stepOf, runOf, takeOf, numberOf, reportOf, auditOf, verdictOf, heldIn, recordOf, after, firstNo, Audited, outputOf, begun, printed, lastOutput}
 use Rattle.points.proofs.PointLaws
 use Rattle.points.proofs.SquareLaws.{square-le}
 use Rattle.points.proofs.ComparedLaws.{compared-tells}
@@ -25,6 +26,7 @@ use Rattle.history.proofs.Reached.{Stands, history-related}
 use Rattle.history.proofs.StepNumbers.{step-numbers, step-never-11}
 use Rattle.history.proofs.Run.{run-answers}
 use Rattle.claims.proofs.Stepping.{IsSteps, run-steps}
+use Rattle.texts.proofs.OutputLaws.{output-is-lines, output-ends}
 use Rattle.history.proofs.Refused
 use Rattle.claims.proofs.Demand1.{report-number, audit-number}
 use Rattle.claims.proofs.Demand3.{Moments, demand-3}
@@ -116,6 +118,16 @@ pub run-after : (words : List ℕ) (places limit : ℕ) → openOf words places 
     → (runOf (after evs (openOf words places limit .words)) s .number ≡ 0)
     × (numberOf (takeOf (runOf (after evs (openOf words places limit .words)) s .words) s) ≡ 0)
 run-after words places limit e evs s u = let x = run-answers words places limit e evs s u in (x .number, x .answered)
+
+-- ---- the frame runner
+
+-- Rules 10.3, 10.4: the texts of `begin` and of `next` after it, as long as there is more, are the header and the lines of the input, for all words and bytes; a slice has no more bytes
+-- than 64 bits can count. So many times is often enough.
+pub runner-prints : (words bytes : List ℕ) (n : ℕ) → length bytes ≤ 18446744073709551615 → length bytes ≤ n → printed n words bytes begun ≡ outputOf words bytes
+runner-prints = output-is-lines
+
+pub runner-ends : (words bytes : List ℕ) (n : ℕ) → length bytes < n → lastOutput n words bytes begun .more ≡ false
+runner-ends = output-ends
 
 -- ---- records
 

@@ -98,6 +98,12 @@ unfoldable pub use Rattle.frames.specs.Write.{padded, writtenBytes, writtenOf, 
 pub use Rattle.lines.specs.Apply.{appliedNumber}
 unfoldable pub use Rattle.lines.specs.Apply.{pointOf, submissionReply, applyOf, applyWords}
 unfoldable pub use Rattle.lines.specs.Line.{lineOf, lineWords}
+-- ---- texts
+
+-- the bytes of the header, of a line, and of all that the runner prints; the texts that it prints one after the other, and the last of them
+pub use Rattle.texts.specs.Text.{textWith}
+pub use Rattle.texts.specs.Line.{headerBytes, lineBytes}
+pub use Rattle.texts.specs.Output.{outputOf, begun, nextOf, nextWords, printed, lastOutput}
 -- ---- window
 
 -- a window's state, what is told of the readings present, and what a call gives back
