@@ -35,10 +35,15 @@ use Rattle.texts.proofs.line.header
 use Rattle.texts.proofs.line.line_text
 use Rattle.texts.proofs.output.begin
 use Rattle.texts.proofs.output.next as following
+use Rattle.window.proofs.begin.begin as window-begin
+use Rattle.window.proofs.update.update
+use Rattle.window.proofs.steady.is_steady
+use Rattle.window.proofs.lent.window_begin
+use Rattle.window.proofs.lent.window_update
 use Rattle.readers.specs.Reader.{readBy, movedPast}
 use Rattle.claims.specs.Definitions.{replied, openOf, submitOf, takeOf, takeWords, stepOf, withdrawOf, runOf, reportOf, verdictOf}
 use Rattle.claims.specs.Definitions.{readOf, positionAfter, writtenOf, writeOf, applyOf, applyWords, lineOf, lineWords}
-use Rattle.claims.specs.Definitions.{textWith, headerBytes, lineBytes, begun, nextOf, nextWords}
+use Rattle.claims.specs.Definitions.{textWith, headerBytes, lineBytes, begun, nextOf, nextWords, beginOf, updateOf, isSteady}
 -- ---- the functions meet their contracts
 
 pub use Rattle.openings.proofs.open.open.Met.{met as open-meets}
@@ -63,6 +68,11 @@ pub use Rattle.texts.proofs.line.header.Met.{met as header-meets}
 pub use Rattle.texts.proofs.line.line_text.Met.{met as line-text-meets}
 pub use Rattle.texts.proofs.output.begin.Met.{met as begin-meets}
 pub use Rattle.texts.proofs.output.next.Met.{met as next-text-meets}
+pub use Rattle.window.proofs.begin.begin.Met.{met as window-begin-meets}
+pub use Rattle.window.proofs.update.update.Met.{met as window-update-meets}
+pub use Rattle.window.proofs.steady.is_steady.Met.{met as is-steady-meets}
+pub use Rattle.window.proofs.lent.window_begin.Met.{met as lent-begin-meets}
+pub use Rattle.window.proofs.lent.window_update.Met.{met as lent-update-meets}
 
 -- ---- what the contracts are
 
@@ -165,3 +175,23 @@ module _ {M : Type 1} (𝓤 : URA M) (H : Heap 𝓤) (A : Atoms 𝓤) (mem : Mem
       → following.clauses 𝓤 H A mem does κs args
       ≡ Promise (λ r end. (r ≡ nextOf (now (args .0)) (now (args .1 .0)) (args .1 .1 .0)) × (now (end .0) ≡ nextWords (now (args .0)) (now (args .1 .0)) (args .1 .1 .0)))
   next-text-contract κs args = refl
+
+  -- a window: begun at a length, brought up to date with a reading, and steady within a spread; the same where it is lent
+  pub window-begin-contract : (κs : _) (args : _) → window-begin.clauses 𝓤 H A mem does κs args ≡ Promise (λ r end. r ≡ beginOf (args .0) (args .1 .0))
+  window-begin-contract κs args = refl
+
+  pub window-update-contract : (κs : _) (args : _) → update.clauses 𝓤 H A mem does κs args ≡ Promise (λ r end. r ≡ updateOf (args .0) (args .1 .0))
+  window-update-contract κs args = refl
+
+  pub is-steady-contract : (κs : _) (args : _) → is_steady.clauses 𝓤 H A mem does κs args ≡ Promise (λ r end. r ≡ isSteady (args .0) (args .1 .0))
+  is-steady-contract κs args = refl
+
+  pub lent-begin-contract : (κs : _) (args : _)
+      → window_begin.clauses 𝓤 H A mem does κs args
+      ≡ Promise (λ r end. (r ≡ beginOf (now (args .0)) (args .1 .0) .number) × (now (end .0) ≡ beginOf (now (args .0)) (args .1 .0) .window))
+  lent-begin-contract κs args = refl
+
+  pub lent-update-contract : (κs : _) (args : _)
+      → window_update.clauses 𝓤 H A mem does κs args
+      ≡ Promise (λ r end. (r ≡ updateOf (now (args .0)) (args .1 .0) .figures) × (now (end .0) ≡ updateOf (now (args .0)) (args .1 .0) .window))
+  lent-update-contract κs args = refl

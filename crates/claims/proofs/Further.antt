@@ -1,5 +1,5 @@
 -- What the rules say besides the demands: what an opening leaves (`opening-fresh`, `opening-again`, `opening-beyond`), the report (`report-after`), the audit (`audit-says`,
--- `audit-exact`, `audit-after`), question 11 (`never-11`), runs (`run-is-steps`, `run-after`), the bytes of the frame runner (`runner-prints`, `runner-ends`), ranges (`point-ranges`,
+-- `audit-exact`, `audit-after`), question 11 (`never-11`), runs (`run-is-steps`, `run-after`), the bytes of the frame runner (`runner-places`, `runner-prints`, `runner-ends`), ranges (`point-ranges`,
 -- `square-most`) and the comparison of points (`comparison-tells`).
 use Prim.Native.Nat.{ℕ, _+_, _*_, _≤_, _<_}
 use mathlib.Core.Path.{_≡_, refl, ap, _∙_, subst}
@@ -7,14 +7,16 @@ use mathlib.Core.Logic.{_⊎_, _↔_}
 use mathlib.Core.Bool.{true, false, _&&_}
 use mathlib.Core.List.{List, [], map, append-nil, List·Memᴰ, List·Memᴰ·not-nil}
 use lib.ListN.{length}
+use native.Mathlib.Omega.{arith}
 use lib.IntN.{pos, negsuc}
 use lib.Signed.{leZ}
 use Rattle.stations.specs.Counts.{countsAt}
 use Rattle.stations.specs.declared.counts.Counts.{Counts}
 use Rattle.claims.specs.Definitions.{Point, inRange, squareOf, orderOf, comparedOf, Looked}
 use Rattle.claims.specs.Definitions.{get, rowAt, Spare, isIdle, isUnfinished, stateAt, Record, Table, opened, taken, Event}
-use Rattle.claims.specs.Definitions.{openOf, stepOf, runOf, takeOf, numberOf, reportOf, auditOf, verdictOf, heldIn, recordOf, after, firstNo, Audited, outputOf, begun, printed, lastOutput}
+use Rattle.claims.specs.Definitions.{limitIn, openOf, stepOf, runOf, takeOf, numberOf, reportOf, auditOf, verdictOf, heldIn, recordOf, after, firstNo, Audited, outputOf, begun, printed, lastOutput}
 use Rattle.points.proofs.PointLaws
+use Rattle.stations.proofs.OpeningLaws.{places-of}
 use Rattle.points.proofs.SquareLaws.{square-le}
 use Rattle.points.proofs.ComparedLaws.{compared-tells}
 use Rattle.history.specs.View.{seatAt}
@@ -28,7 +30,7 @@ use Rattle.history.proofs.Run.{run-answers}
 use Rattle.claims.proofs.Stepping.{IsSteps, run-steps}
 use Rattle.texts.proofs.OutputLaws.{output-is-lines, output-ends}
 use Rattle.history.proofs.Refused
-use Rattle.claims.proofs.Demand1.{report-number, audit-number}
+use Rattle.claims.proofs.Demand1.{open-number, report-number, audit-number}
 use Rattle.claims.proofs.Demand3.{Moments, demand-3}
 
 -- ---- opening
@@ -120,6 +122,12 @@ pub run-after : (words : List ℕ) (places limit : ℕ) → openOf words places 
 run-after words places limit e evs s u = let x = run-answers words places limit e evs s u in (x .number, x .answered)
 
 -- ---- the frame runner
+
+-- Rules 10.1: in 8,800 words 256 places fit, and 257 get 3.
+pub runner-places : (words : List ℕ) (limit : ℕ) → length words ≡ 8800 → limitIn limit ≡ true → (openOf words 256 limit .number ≡ 0) × (openOf words 257 limit .number ≡ 3)
+unfolding firstNo
+runner-places words limit l e =
+    (open-number words 256 limit ∙ rw (places-of 256 (omega arith) (omega arith), e, l), open-number words 257 limit ∙ rw (places-of 257 (omega arith) (omega arith), e, l))
 
 -- Rules 10.3, 10.4: the texts of `begin` and of `next` after it, as long as there is more, are the header and the lines of the input, for all words and bytes; a slice has no more bytes
 -- than 64 bits can count. So many times is often enough.

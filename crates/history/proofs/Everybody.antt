@@ -1,5 +1,5 @@
 -- Everybody finishes where nobody submits (`everybody`): no more than 8 × (8 × places + 1) steps are dealt to stations with an unfinished call. Each stretch
--- of more than 16 × places answers one of the eight, a withdrawal ends another call, and no other call becomes unfinished.
+-- of more than 8 × places answers one of the eight, a withdrawal ends another call, and no other call becomes unfinished.
 use Prim.Native.Nat.{ℕ, zero, suc, _+_, _*_, _≤_, _<_}
 use mathlib.Core.Path.{_≡_, refl, sym, ap, _∙_, subst}
 use mathlib.Core.Bool.{Bool, true, false, true≢false, false≢true, cond}
