@@ -32,6 +32,7 @@ def ranged(name, low, high):
     """An argument that is a whole number in a range."""
 
     def number(word):
+        """The number that a word is."""
         try:
             return whole(word, name, low, high)
         except Fault as fault:
@@ -91,51 +92,51 @@ def tabulate(args):
 
 def draw(args):
     """A picture of the index after a frame."""
-    index, count, chosen = Index(), 0, None
-    data = file_bytes(args.frames)
-    for played in play(data, index):
-        count = played.line.ordinal
-        if count == args.at:
-            chosen = played
+    index, read_so_far = Index(), 0
+    for _, frame, line in play(file_bytes(args.frames), index):
+        read_so_far = line.ordinal
+        if read_so_far == args.at:
             break
-    if chosen is None:
-        raise Fault(f"there is no frame {args.at}; the runner reads {count}")
+    if read_so_far != args.at:
+        raise Fault(f"there is no frame {args.at}; the runner reads {read_so_far}")
     if not index.opened:
         raise Fault(f"frame {args.at}: nothing is opened yet, so there is nothing to draw")
-    write_bytes(picture(index, f"After frame {args.at}", played_words(chosen.frame, chosen.line)).encode(), args.output)
+    write_bytes(picture(index, f"After frame {args.at}", played_words(frame, line)).encode(), args.output)
 
 
-STATION = ("--station",), {"metavar": "N", "type": ranged("station", 0, 7), "default": 0, "help": "the station that adds, 0 to 7 (0)"}
-AT = ("--at",), {"metavar": "N", "type": ranged("frame", 1, MOST_BYTES), "required": True, "help": "the frame after which it is drawn, from 1"}
-OUTPUT = ("-o", "--output"), {"metavar": "FILE.svg", "help": "the file to write; standard output where none is given"}
-TEXT = ("--text",), {"metavar": "FILE", "help": "the text of these frames, whose lines are named"}
+def argument(*flags, **options):
+    """An argument of a command."""
+    return flags, options
 
 
-def file_argument(name, metavar, what):
+def input_file(what, name="file", metavar="FILE"):
     """An argument that is a file; a hyphen or none is standard input."""
-    return (name,), {"metavar": metavar, "nargs": "?", "help": f"{what}; standard input where it is - or not given"}
+    return argument(name, metavar=metavar, nargs="?", help=f"{what}; standard input where it is - or not given")
 
 
-def line_argument():
-    """The file of the runner's lines that go with the frames."""
-    return ("lines",), {"metavar": "LINES", "nargs": "?", "help": "what the runner printed; where it is not given a model answers"}
+FRAMES = input_file("the frames", "frames", "FRAMES")
+LINES = argument("lines", metavar="LINES", nargs="?", help="what the runner printed; a model answers where it is not given")
+TEXT = argument("--text", metavar="FILE", help="the text of these frames, whose lines are named")
+TABLE = input_file("the table", metavar="FILE.csv")
+STATION = argument("--station", metavar="N", type=ranged("station", 0, 7), default=0, help="the station that adds, 0 to 7 (0)")
+AT = argument("--at", metavar="N", type=ranged("frame", 1, MOST_BYTES), required=True, help="the frame after which it is drawn")
+OUTPUT = argument("-o", "--output", metavar="FILE.svg", help="the file to write; standard output where it is - or not given")
 
-
-FRAMES = file_argument("frames", "FRAMES", "the frames")
-# each command: what does it, what it is for, its arguments
+# each command: what does it, what it is for, its arguments, and a note for its help
 COMMANDS = {
-    "write": (write, "text to frames", [file_argument("file", "FILE", "the text")], WRITE_NOTE),
-    "read": (read, "frames to text", [file_argument("file", "FILE", "the frames")], READ_NOTE),
-    "explain": (explain, "each frame in words, with the line that it got", [FRAMES, line_argument(), TEXT], EXPLAIN_NOTE),
-    "adds": (add_records, "a table of records (CSV) to the text that adds them", [STATION, file_argument("file", "FILE.csv", "the table")], ADDS_NOTE),
-    "csv": (tabulate, "the runner's lines to a table (CSV)", [file_argument("file", "FILE", "the lines")], CSV_NOTE),
+    "write": (write, "text to frames", [input_file("the text")], WRITE_NOTE),
+    "read": (read, "frames to text", [input_file("the frames")], READ_NOTE),
+    "explain": (explain, "each frame in words, with the line that it got", [FRAMES, LINES, TEXT], EXPLAIN_NOTE),
+    "adds": (add_records, "a table of records (CSV) to the text that adds them", [STATION, TABLE], ADDS_NOTE),
+    "csv": (tabulate, "the runner's lines to a table (CSV)", [input_file("the lines")], CSV_NOTE),
     "draw": (draw, "a picture (SVG) of the index after a frame", [FRAMES, AT, OUTPUT], DRAW_NOTE),
 }
 
 
-def parser():
-    """The commands with their arguments and notes."""
-    top = Parser(prog=NAME, allow_abbrev=False, description="Frames of the curve index: as text, in words, as tables, as a picture.")
+def parsers():
+    """The parser of the whole, and that of each command."""
+    about_all = "Frames of the curve index: as text, in words, as tables, as a picture."
+    top = Parser(prog=NAME, allow_abbrev=False, description=about_all)
     commands = top.add_subparsers(metavar="COMMAND", required=True, title="commands")
     for name, (work, purpose, arguments, note) in COMMANDS.items():
         made = commands.add_parser(
@@ -148,14 +149,22 @@ def parser():
         made.set_defaults(work=work, parser=made)
         for flags, options in arguments:
             made.add_argument(*flags, **options)
-    return top
+    return top, commands.choices
 
 
-def main(words=None):
+def parsed(words):
+    """The arguments of a command, whose files and options may stand in any order."""
+    top, commands = parsers()
+    if words and words[0] in commands:
+        return commands[words[0]].parse_intermixed_args(words[1:])
+    return top.parse_args(words)
+
+
+def main():
     """Runs a command. The status is 0, 1 where an input or a file is not what it must be, or 2 for bad usage."""
     if hasattr(signal, "SIGPIPE"):
         signal.signal(signal.SIGPIPE, signal.SIG_DFL)
-    args = parser().parse_args(words)
+    args = parsed(sys.argv[1:])
     try:
         args.work(args)
     except Fault as fault:

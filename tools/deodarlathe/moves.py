@@ -93,7 +93,7 @@ def hang(index, row, above, instead):
 
 
 def unlink(index, at):
-    """The row of the leaf is freed and keeps its record, then the cut above it; the other child hangs in place of the cut."""
+    """The row of the leaf is freed and keeps its record, then the cut above it, in whose place the other child hangs."""
     rows, leaf = index.rows, index.rows[at]
     over = leaf.parent
     cut = side = None
@@ -117,7 +117,7 @@ def unlink(index, at):
 
 
 def land(station, at, over, cut, side):
-    """A call on the leaf or on the cut goes on at the other child; a search that has missed nothing yet has missed the leaf."""
+    """A call on the leaf or on the cut goes on at the other child; a search that missed nothing yet has missed the leaf."""
     track = station.track
     if track.cursor == at:
         # down where the leaf was the near child, since the other is still to be seen; up where the other was seen before

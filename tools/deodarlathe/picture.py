@@ -1,12 +1,12 @@
-"""A picture of an index after a frame: the tree with its cuts, the queue, and the eight stations with where their calls stand."""
+"""A picture of an index after a frame: the tree with its cuts, the queue, the eight stations and where their calls stand."""
 
 from . import boxes
-from .frame import NEAREST
+from .frame import CALL_NAMES, NEAREST
 from .index import IDLE, UNFINISHED
 from .placement import Box, queue_boxes, queue_groups, tree_boxes
 from .rows import Cut, Leaf
 from .svg import GREY, Drawing
-from .words import CALL_NAMES, CODES, point_words
+from .words import CODES, point_words
 
 # one colour for each station, dark enough for white letters
 COLOURS = ("#0a58ca", "#9a4d00", "#116b3c", "#a3217a", "#6b3fa0", "#0b6b7d", "#a61e1e", "#4d5560")

@@ -28,7 +28,7 @@ def apply(index, frame):
 
 
 def play(data, index=None):
-    """Each frame of an input with its line, of the bytes that the runner takes. The index changes as the frames are asked for."""
+    """Each frame of the bytes that the runner takes, with its line. The index changes as the frames are asked for."""
     index = index or Index()
     for ordinal, (at, frame) in enumerate(frames_in(data[:MOST_BYTES]), 1):
         result = (frame.number, None) if isinstance(frame, Stop) else apply(index, frame)

@@ -19,7 +19,7 @@ def square(a, b):
 
 
 def rank(target, point):
-    """Of two points of the target's grade the one with the lesser rank is chosen: the nearer, then the heavier, then the lower."""
+    """Of two points of the target's grade the lesser rank is chosen: the nearer, then the heavier, then the lower."""
     return square(target, point), -point[1], point
 
 

@@ -38,7 +38,8 @@ def rows_of(data):
         try:
             yield at, next(csv.reader([line], delimiter=separator, strict=True))
         except csv.Error:
-            raise Fault(f"line {at}: the quotes of each cell close on its line, and a cell is not long; {shown(line)} given") from None
+            expected = "the quotes of each cell close on its line, and a cell is not long"
+            raise Fault(f"line {at}: {expected}; {shown(line)} given") from None
 
 
 def adds(data, station):

@@ -1,4 +1,4 @@
-"""The step of a nearest: five tours, or a look at a missed row and three, and the answer where nothing is left (Rules 2.8)."""
+"""The step of a nearest: five tours, or a look at a missed row and three; the answer where nothing is left (Rules 2.8)."""
 
 from .points import excluded, goes_left, rank, square
 from .rows import Leaf, Removed, Spare, slot_of

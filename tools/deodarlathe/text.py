@@ -18,7 +18,8 @@ def lines_of(data):
     try:
         return data.decode().split("\n")
     except UnicodeDecodeError as error:
-        raise Fault(f"line {line_at(data, error.start)}: text in UTF-8 is expected; byte {data[error.start]} given") from None
+        line, byte = line_at(data, error.start), data[error.start]
+        raise Fault(f"line {line}: text in UTF-8 is expected; byte {byte} given") from None
 
 
 def line_at(data, position):
@@ -42,7 +43,8 @@ def call_of(words):
     try:
         return whole(words[2], "call", 0, 255)
     except Fault:
-        raise Fault(f"word 3: call is {listed(list(CALLS), 'or')}, or a number from 0 to 255; {shown(words[2])} given") from None
+        names = listed(list(CALLS), "or")
+        raise Fault(f"word 3: call is {names}, or a number from 0 to 255; {shown(words[2])} given") from None
 
 
 def submission_of(words):

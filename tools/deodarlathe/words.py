@@ -98,7 +98,7 @@ def played_words(frame, line):
 
 
 def explained(data, lines, text_lines=None):
-    """A sentence for each frame that the runner reads, with its line. `text_lines` are the lines of a text that has the frames."""
+    """A sentence for each frame that the runner reads, with its line. `text_lines` are the lines of its text."""
     frames = [frame for _, frame in frames_in(data[:MOST_BYTES])]
     if len(frames) != len(lines):
         raise Fault(f"the runner prints a line for each of {len(frames)} frames; {len(lines)} given")

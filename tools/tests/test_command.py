@@ -37,6 +37,7 @@ class Commands(unittest.TestCase):
     def test_explain(self):
         status, words, _ = called("explain", WEIGHT_CHANGE, LINES, "--text", TEXT)
         self.assertEqual((status, words.decode().count("\n")), (0, 23))
+        self.assertEqual(called("explain", WEIGHT_CHANGE, "--text", TEXT, LINES), (0, words, ""))
         status, own, _ = called("explain", given=WEIGHT_CHANGE.read_bytes())
         self.assertEqual(own.decode().splitlines()[0], "# no lines are given: the model of tools/frames answers here, not the runner")
         self.assertEqual(own.decode().splitlines()[1], "frame 1: opened with places 4 and limit 100")
