@@ -1,0 +1,1 @@
+"""The tests of tools/frames. They need the repository's examples, and neither the runner nor the prover."""

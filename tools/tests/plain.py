@@ -1,0 +1,51 @@
+"""A plain list of records with the calls of eight stations, to judge the model by. It knows no row, no tree and no queue."""
+
+from deodarlathe.frame import ADD, CONTAINS, NEAREST, REMOVE
+from deodarlathe.points import rank, square
+
+
+class Plain:
+    """The records held, the changes, and each removal with the searches that were unfinished at its moment."""
+
+    def __init__(self, places, limit):
+        self.places, self.limit = places, limit
+        self.held, self.changes, self.awaited, self.searches = {}, 0, [], {}
+
+    def submitted(self, station, kind, point):
+        """The answer of a nearest is that of its submission."""
+        if kind == NEAREST:
+            near = [held for held in self.held if held[0] == point[0]]
+            best = min(near, key=lambda held: rank(point, held), default=None)
+            self.searches[station] = (8, best, self.held[best], square(point, best)) if best else (9, point, 0, 0)
+
+    def ended(self, station):
+        """A search is answered or withdrawn: it awaits nothing any more."""
+        self.awaited = [stations - {station} for stations in self.awaited if stations - {station}]
+        return self.searches.pop(station, None)
+
+    def answered(self, station, kind, point, curve):
+        """The answer of a call at the step that answers it."""
+        if kind == NEAREST:
+            return self.ended(station)
+        code = self.code(kind, point)
+        given = {1: curve, 2: self.held.get(point), 5: self.held.get(point), 7: self.held.get(point)}.get(code, 0)
+        if code == 1:
+            self.held[point] = curve
+        elif code == 5:
+            del self.held[point]
+            if self.searches:
+                self.awaited.append(set(self.searches))
+        self.changes += code in (1, 5)
+        return code, point, given, 0
+
+    def code(self, kind, point):
+        """The code of an add, a remove or a contains (Rules 2.5 to 2.7)."""
+        if kind == CONTAINS or (kind == REMOVE and point not in self.held):
+            return 7 if point in self.held else 6
+        if kind == ADD and point in self.held:
+            return 2
+        if self.changes == self.limit:
+            return 4
+        if kind == REMOVE:
+            return 5
+        return 3 if len(self.held) + len(self.awaited) >= self.places else 1

@@ -1,0 +1,129 @@
+"""The model: the runner's lines for the examples, and a plain list of records for random histories."""
+
+import random
+import unittest
+
+from deodarlathe.frame import NEAREST
+from deodarlathe.index import IDLE, UNFINISHED, WAITING, Index
+from deodarlathe.lines import printed
+from deodarlathe.placement import queue_rows
+from deodarlathe.play import play
+from deodarlathe.points import cut_between, goes_left, rank, square
+from deodarlathe.rows import Leaf
+from deodarlathe.text import written
+
+from .plain import Plain
+from .sample import with_lines
+
+
+def lines_for(text):
+    """What the model prints for a text."""
+    return printed(played.line for played in play(written(text.encode())))
+
+
+def leaves_below(index, row):
+    """The records below a row, and how many rows there are."""
+    if row is None:
+        return {}, 0
+    at = index.rows[row]
+    if isinstance(at, Leaf):
+        return {at.point: at.curve}, 1
+    left, right = leaves_below(index, at.left), leaves_below(index, at.right)
+    assert all(goes_left(at.axis, at.sum, point) for point in left[0])
+    assert not any(goes_left(at.axis, at.sum, point) for point in right[0])
+    assert index.rows[at.left].parent == index.rows[at.right].parent == row
+    return {**left[0], **right[0]}, left[1] + right[1] + 1
+
+
+class Runner(unittest.TestCase):
+    """The model gives the runner's lines."""
+
+    def test_examples_and_histories(self):
+        files = with_lines()
+        self.assertGreaterEqual(len(files), 5)
+        for frames, lines in files:
+            got = printed(played.line for played in play(frames.read_bytes()))
+            self.assertEqual(got, lines.read_text(), frames.name)
+
+    def test_rules_10_5(self):
+        text = "open 2 10\nsubmit 0 add 12 8000 550 9000 0 41\nrun 0\ntake 0\nsubmit 1 nearest 12 12000 550 9000 0\nrun 1\ntake 1"
+        self.assertEqual(lines_for(text).splitlines()[-1], "7 0 8 12 8000 550 9000 0 41 16000000")
+
+    def test_questions(self):
+        text = "\n".join(
+            ["step 0", "run 0", "open 0 1", "open 4097 1", "open 1 0", "open 1 4000000001", "open 257 1", "open 256 1", "take 8", "take 0"]
+            + ["submit 0 5 1 1 0 0 0", "submit 0 nearest 0 1 0 0 0", "submit 0 add 1 1 0 0 0 0", "step 0", "withdraw 0"]
+            + ["submit 0 nearest 1 1 0 0 0", "submit 0 nearest 1 1 0 0 0"]
+        )
+        results = [line.split()[1] for line in lines_for(text).splitlines()[1:]]
+        self.assertEqual(results, "4 4 1 1 2 2 3 0 5 12 7 8 9 10 10 0 6".split())
+
+    def test_no_more_than_the_runner_takes(self):
+        lines = lines_for("step 1\n" * 20_000).splitlines()
+        self.assertEqual(lines[-1], "13108 13 - - - - - - - -")
+
+
+class Points(unittest.TestCase):
+    """The cases P1 to P5 of Rules 13."""
+
+    def test_cases(self):
+        self.assertEqual(square((1, 1, 0, 0, -3), (1, 1, 0, 0, 4)), 49)
+        self.assertEqual(cut_between((1, 3, 0, 0, 0), (1, 4, 0, 0, 0)), (1, 7))
+        self.assertTrue(goes_left(1, 7, (1, 3, 0, 0, 0)) and not goes_left(1, 7, (1, 4, 0, 0, 0)))
+        self.assertTrue(goes_left(4, -7, (1, 1, 0, 0, -4)) and not goes_left(4, -7, (1, 1, 0, 0, -3)))
+        self.assertEqual(cut_between((1, 1, 0, 0, 0), (1, 6, 0, 5, 0)), (1, 7))
+        target = (1, 9000, 0, 0, 0)
+        self.assertLess(rank(target, (1, 9010, 0, 0, 0)), rank(target, (1, 8990, 0, 0, 0)))
+
+
+class Histories(unittest.TestCase):
+    """Random histories of single steps agree with the plain list, and leave a tree and a queue that are all the rows."""
+
+    def event(self, rng, index, plain, number):
+        """One event of a station on both."""
+        station = index.stations[number]
+        if station.state == IDLE:
+            kind = rng.choice([1, 1, 1, 2, 2, 3, 4, 4])
+            point = (rng.choice([1, 2, 128]), rng.randint(1, 6), rng.randint(0, 2), rng.randint(0, 2), rng.randint(-1, 1))
+            if kind == 2 and plain.held and rng.random() < 0.8:
+                point = rng.choice(sorted(plain.held))
+            self.assertEqual(index.submit(number, kind, point, rng.randint(1, 999_999)), 0)
+            plain.submitted(number, kind, point)
+        elif station.state == WAITING:
+            self.assertEqual(index.take(number)[0], 0)
+        elif rng.random() < 0.03:
+            self.assertEqual(index.withdraw(number), 0)
+            plain.ended(number)
+            self.assertEqual(station.answer, (11, station.call.point, 0, 0))
+        else:
+            call = station.call
+            self.assertEqual(index.step(number), 0)
+            if station.state == WAITING:
+                self.assertEqual(tuple(station.answer), plain.answered(number, call.kind, call.point, call.curve))
+            elif call.kind == NEAREST:
+                self.assertLessEqual(5 * call.steps, 9 * index.places)
+
+    def test_random_histories(self):
+        rng = random.Random(5)
+        for _ in range(60):
+            places, limit = rng.choice([1, 2, 5, 12, 40]), rng.choice([9, 4_000_000_000])
+            index, plain = Index(), Plain(places, limit)
+            self.assertEqual(index.open(places, limit), 0)
+            for _ in range(400):
+                self.event(rng, index, plain, rng.randrange(8))
+            records, rows = leaves_below(index, index.root)
+            self.assertEqual(records, plain.held)
+            self.assertEqual(index.taken, len(plain.held) + len(plain.awaited))
+            self.assertEqual(rows + len(list(queue_rows(index))), 2 * places)
+
+    def test_a_station_left_to_itself_is_answered(self):
+        index = Index()
+        index.open(3, 10)
+        index.submit(6, NEAREST, (1, 1, 0, 0, 0), 0)
+        self.assertEqual(index.stations[6].state, UNFINISHED)
+        self.assertEqual(index.run(6), 0)
+        self.assertEqual(index.take(6), (0, (9, (1, 1, 0, 0, 0), 0, 0)))
+
+
+if __name__ == "__main__":
+    unittest.main()
