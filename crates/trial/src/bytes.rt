@@ -16,8 +16,8 @@ fn extended(x: u8) -> u64 {
     x as u64
 }
 
-// A number after one more digit. It grows no more once it is past 32 bits.
-fn grown(x: u64, digit: u8) -> u64 {
+// A number after one more digit. It grows no more once it is past 32 bits, which tells that it does not fit.
+pub fn grown(x: u64, digit: u8) -> u64 {
     let d = extended(digit) % 16;
     if x < 4294967296 { 10 * x + d } else { x }
 }
