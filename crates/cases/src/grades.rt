@@ -1,12 +1,11 @@
 // Grades and their slots: grades 12, 139 and 266 share one, 13 has another.
-use crate::play::run_cases;
+use crate::texts::append;
 
 // Grades that share a slot, and the marks of adds.
-pub fn run(words: &mut [u32], copied: &mut [u32], book: &mut [u64]) {
-    run_cases(
-        words,
-        copied,
-        book,
+pub fn shared(to: &mut [u8], at: usize) -> usize {
+    append(
+        to,
+        at,
         b"
         # Of grades that share a slot each has its own records; a grade that has none gets none, also where its slot is marked.
         =grades that share a slot: each its own record, or none|events|
@@ -27,5 +26,5 @@ pub fn run(words: &mut [u32], copied: &mut [u32], book: &mut [u64]) {
         o 8 100; c 1 1 13 1000 41 41; c 1 1 13 5000 42 42; c 1 1 13 9000 43 43;|
         c 2 1 12 8900 51 51; c 2 4 12 8900 0 51;|
         c 3 2 13 9000 0 43; c 3 2 13 5000 0 42; c 3 2 13 1000 0 41;",
-    );
+    )
 }

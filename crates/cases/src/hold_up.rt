@@ -1,12 +1,11 @@
 // Searches that other stations try to hold up, in a text as in `cases`.
-use crate::play::run_cases;
+use crate::texts::append;
 
 // Searches that the other stations try to hold up.
-pub fn run(words: &mut [u32], copied: &mut [u32], book: &mut [u64]) {
-    run_cases(
-        words,
-        copied,
-        book,
+pub fn held_up(to: &mut [u8], at: usize) -> usize {
+    append(
+        to,
+        at,
         b"
         # A stair whose deep end is near the target: a search of a grade that no record has, but that shares the slot of the stair's grade, excludes
           no side of a cut, and on its way up comes by one leaf after the other. It stands on a leaf after two of three moves, and a step makes five,
@@ -23,5 +22,5 @@ pub fn run(words: &mut [u32], copied: &mut [u32], book: &mut [u64]) {
         v 2 31 2000 250; p;
         =searches beside stations that remove and add around them, 256 places|thousandths of the own steps allowed, at most|
         v 256 1 40 4000; p;",
-    );
+    )
 }

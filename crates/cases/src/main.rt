@@ -1,28 +1,28 @@
-// Runs the cases that the claims of the index speak of, against a plain list of records beside it, and prints a line for each.
+// Runs the cases that the claims of the index speak of, or those on standard input, against a plain list of records beside it, and prints a line for each.
 mod cases;
 mod grades;
 mod hold_up;
-mod parts;
 mod play;
 mod tally;
+mod texts;
 mod withdrawals;
 
 use trial::cells::fill;
+
+// The cases of the first bytes of a text.
+fn run(words: &mut [u32], copied: &mut [u32], book: &mut [u64], text: &[u8], end: usize) {
+    if end <= text.len() {
+        play::run_cases(words, copied, book, &text[0..end]);
+    }
+}
 
 fn main() {
     let mut words = [0u32; 131680];
     let mut copied = [0u32; 131680];
     let mut book = [0u64; 29000];
+    let mut text = io::large_buffer();
     fill(&mut words, 1515870811);
-    cases::calls(&mut words, &mut copied, &mut book);
-    cases::refusals(&mut words, &mut copied, &mut book);
-    cases::step_refusals(&mut words, &mut copied, &mut book);
-    cases::frame_refusals(&mut words, &mut copied, &mut book);
-    cases::stations(&mut words, &mut copied, &mut book);
-    cases::one_point(&mut words, &mut copied, &mut book);
-    withdrawals::run(&mut words, &mut copied, &mut book);
-    grades::run(&mut words, &mut copied, &mut book);
-    cases::histories(&mut words, &mut copied, &mut book);
-    hold_up::run(&mut words, &mut copied, &mut book);
+    let end = texts::ready(&mut text, &mut book);
+    run(&mut words, &mut copied, &mut book, &text, end);
     tally::end(&book);
 }

@@ -1,33 +1,26 @@
 // The cases of a text are run: of each its items in turn, or two parties in every order, and its line is printed.
-use crate::parts::end_from;
-use crate::parts::start_from;
 use crate::tally::end_case;
 use contests::contest::contests;
 use contests::hindered;
 use lone_calls::raw;
-use paired::history::events;
+use paired::history::busy;
 use paired::history::histories;
 use paired::history::plan_of;
 use paired::orders::every_order;
-use paired::script;
 use paired::stairs::build;
 use plain_list::own;
+use plain_list::parts::end_from;
+use plain_list::parts::start_from;
 use plain_list::stretch;
 use plain_list::text::Item;
+use plain_list::text::bars;
 use plain_list::text::item_of;
 use plain_list::verdict::begin_case;
-use plain_list::verdict::tried;
-use trial::random::seed;
-
-// A random history on the index as it is.
-fn busy(words: &mut [u32], copied: &mut [u32], book: &mut [u64], n: [u32; 9]) {
-    seed(book, 2026);
-    events(words, copied, book, plan_of(n));
-}
+use plain_list::verdict::judge;
 
 // What an item asks for: h random histories of a plan, b one on the index as it is, x a stair, y every axis at its ends, v contests; l, m and p what
 // the line tells: the longest stretch, the most own steps of a search, their greatest share; a capital letter for a call on the index alone, and
-// any other for an event on the index and on the plain table.
+// any other for an event on the index and on the plain table, which is wrong where there is no such event.
 fn perform(words: &mut [u32], copied: &mut [u32], book: &mut [u64], item: Item) {
     let n = item.n;
     let letter = item.letter;
@@ -41,26 +34,13 @@ fn perform(words: &mut [u32], copied: &mut [u32], book: &mut [u64], item: Item) 
         b'm' => own::tell(book),
         b'p' => own::tell_share(book),
         b'A'..=b'Z' => raw::judged(words, copied, book, item),
-        _ => counted(words, book, item),
-    }
-}
-
-// An event of a script, counted; d, q and u are events of a search that is held up.
-fn counted(words: &mut [u32], book: &mut [u64], item: Item) {
-    let n = item.n;
-    let letter = item.letter;
-    tried(book);
-    match letter {
-        b'd' => hindered::remove_all(words, book, n[0]),
-        b'q' => hindered::steps(words, book, n[0], n[1]),
-        b'u' => hindered::hold_up(words, book, n[0], n[1]),
-        _ => script::event(words, book, item),
+        _ => hindered::event(words, book, item),
     }
 }
 
 // Every item of a case.
 fn items(words: &mut [u32], copied: &mut [u32], book: &mut [u64], text: &[u8]) {
-    for k in 0..200u32 {
+    for k in 0..100000u32 {
         let item = item_of(text, 2, k);
         if item.letter == 0 {
             return;
@@ -69,13 +49,12 @@ fn items(words: &mut [u32], copied: &mut [u32], book: &mut [u64], text: &[u8]) {
     }
 }
 
-// The items of a case in turn, or, where it has two parties, in every order.
+// The items of a case in turn, or, where it has two parties, in every order. With another number of sections it is no case.
 fn run_items(words: &mut [u32], copied: &mut [u32], book: &mut [u64], text: &[u8]) {
-    let party = item_of(text, 3, 0);
-    if party.letter == 0 {
-        items(words, copied, book, text);
-    } else {
-        every_order(words, book, text);
+    match bars(text) {
+        2 => items(words, copied, book, text),
+        4 => every_order(words, book, text),
+        _ => judge(book, false),
     }
 }
 
@@ -105,7 +84,7 @@ fn run_part(
 // Every case of a text.
 pub fn run_cases(words: &mut [u32], copied: &mut [u32], book: &mut [u64], text: &[u8]) {
     let mut from = 0;
-    for k in 0..48u32 {
+    for k in 0..100000u32 {
         let start = start_from(text, from);
         if text.len() <= start {
             return;

@@ -11,13 +11,13 @@ use paired::stairs::weight_at;
 use plain_list::book::AT_PLACES;
 use plain_list::book::PlainPoint;
 use plain_list::reference;
+use plain_list::seeds;
 use plain_list::verdict::judge;
 use plain_list::verdict::met;
 use plain_list::verdict::tried;
 use trial::cells::get;
 use trial::cells::low;
 use trial::random::below;
-use trial::random::seed;
 
 // What a contest is drawn to be: how many stations search; whether its records are a stair, and from which end; whether they have several grades;
 // how many of eight turns are the searches', and how many of eight changes are removals; and whether the others wait until a search is near its
@@ -245,7 +245,7 @@ fn played(words: &mut [u32], book: &mut [u64], places: u32, count: u32) {
 
 // A contest of a seed: the least number of its places, how many numbers they are drawn from, and its turns stand in the row.
 fn one_contest(words: &mut [u32], book: &mut [u64], n: [u32; 9], number: u32) {
-    seed(book, number);
+    seeds::begin(book, number);
     let more = low(below(book, n[1] as u64));
     played(words, book, std::num::wrapping_add_u32(n[0], more), n[3]);
 }

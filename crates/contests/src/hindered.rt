@@ -1,13 +1,16 @@
-// The events of a search that other stations hinder.
+// The events of a case, those of a search that other stations hinder among them.
 use crate::stand::Found;
 use crate::stand::high_leaf;
 use crate::stand::rows_of;
 use paired::drive;
+use paired::script;
 use plain_list::book::AT_HELD;
 use plain_list::book::PlainPoint;
 use plain_list::list::record_point;
 use plain_list::reference;
+use plain_list::text::Item;
 use plain_list::verdict::judge;
+use plain_list::verdict::tried;
 use trial::cells::get;
 use trial::cells::less;
 
@@ -26,7 +29,7 @@ fn remove_last(words: &mut [u32], book: &mut [u64], s: u32) {
 }
 
 // A station removes every record.
-pub fn remove_all(words: &mut [u32], book: &mut [u64], s: u32) {
+fn remove_all(words: &mut [u32], book: &mut [u64], s: u32) {
     for _n in 0..get(book, AT_HELD) {
         remove_last(words, book, s);
     }
@@ -34,7 +37,7 @@ pub fn remove_all(words: &mut [u32], book: &mut [u64], s: u32) {
 }
 
 // So many steps of one station.
-pub fn steps(words: &mut [u32], book: &mut [u64], s: u32, count: u32) {
+fn steps(words: &mut [u32], book: &mut [u64], s: u32, count: u32) {
     for _n in 0..count {
         drive::step(words, book, s);
     }
@@ -59,7 +62,7 @@ fn hindered_step(words: &mut [u32], book: &mut [u64], s: u32, other: u32) {
 
 // Own steps of the search of station s until it is answered, each after a try of the other station. They are stopped where they pass even what a
 // station left to itself may need, so that the case ends.
-pub fn hold_up(words: &mut [u32], book: &mut [u64], s: u32, other: u32) {
+fn hold_up(words: &mut [u32], book: &mut [u64], s: u32, other: u32) {
     for _n in 0..drive::most_steps(book) {
         if reference::state(book, s) != reference::UNFINISHED {
             return;
@@ -67,4 +70,17 @@ pub fn hold_up(words: &mut [u32], book: &mut [u64], s: u32, other: u32) {
         hindered_step(words, book, s, other);
     }
     judge(book, reference::state(book, s) != reference::UNFINISHED);
+}
+
+// An event of a case, counted: d, q and u for a search that is held up, and any other letter for an event of a script.
+pub fn event(words: &mut [u32], book: &mut [u64], item: Item) {
+    let n = item.n;
+    let letter = item.letter;
+    tried(book);
+    match letter {
+        b'd' => remove_all(words, book, n[0]),
+        b'q' => steps(words, book, n[0], n[1]),
+        b'u' => hold_up(words, book, n[0], n[1]),
+        _ => script::event(words, book, item),
+    }
 }

@@ -1,11 +1,11 @@
 // Every call on an index, with random arguments. Each gives its number: 0, or that of the question that failed.
+use crate::choice::some_station;
 use calls::take::Taking;
 use points::point::Point;
 use points::word::point_at;
 use stations::answer::answer_sound;
 use trial::cells::low;
 use trial::random::below;
-use trial::random::next;
 
 // The kinds of calls.
 pub const SUBMIT: u64 = 0;
@@ -30,15 +30,6 @@ pub const NO: u32 = 13;
 // A number that no call gives.
 const NEVER: u32 = 99;
 
-// A station; now and then one that there is not.
-fn some_station(book: &mut [u64]) -> u32 {
-    match below(book, 32) {
-        0 => 8,
-        1 => next(book),
-        k => low(k % 8),
-    }
-}
-
 // A point of few, in range or not.
 fn some_point(book: &mut [u64]) -> Point {
     let grade = low(below(book, 2));
@@ -49,8 +40,7 @@ fn some_point(book: &mut [u64]) -> Point {
 }
 
 // A submission.
-fn submit(words: &mut [u32], book: &mut [u64]) -> u32 {
-    let s = some_station(book);
+fn submit(words: &mut [u32], book: &mut [u64], s: u32) -> u32 {
     let kind = low(below(book, 6));
     let point = some_point(book);
     let curve = low(below(book, 30));
@@ -96,9 +86,9 @@ fn open(words: &mut [u32], book: &mut [u64]) -> u32 {
 
 // A call of a kind.
 pub fn call(words: &mut [u32], book: &mut [u64], kind: u64) -> u32 {
-    let s = some_station(book);
+    let s = some_station(words, book, kind);
     match kind {
-        0 => submit(words, book),
+        0 => submit(words, book, s),
         1 => steps::step::step(words, s),
         2 => runs::run::run(words, s),
         3 => number_of(takings::take::take(words, s)),

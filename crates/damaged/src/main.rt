@@ -1,11 +1,15 @@
 // Damages words of a live index at random and makes every call on it: each call returns with one of the numbers of Rules 7.1 or an answer, a
 // refused one changes nothing, a withdrawal changes no row, and none touches a word outside of its slice.
 mod attempts;
+mod choice;
 mod harm;
 
 use attempts::call;
 use attempts::is_allowed;
+use choice::some_kind;
+use libc::STDIN_FILENO;
 use libc::STDOUT_FILENO;
+use trial::bytes::seed_in;
 use trial::cells::copy;
 use trial::cells::count;
 use trial::cells::fill;
@@ -37,12 +41,14 @@ const BEFORE: u32 = 60;
 
 const AFTER: u32 = 60;
 
-// Of the book: the checks, the wrong ones, the damaged words, the calls of a kind, and how often each number was given.
+// Of the book: the checks, the wrong ones, the damaged words, the steps and runs refused with 10, the calls of a kind, and how often each number was given.
 const AT_CHECKS: usize = 1;
 
 const AT_WRONG: usize = 2;
 
 const AT_DAMAGED: usize = 3;
+
+const AT_REFUSED: usize = 4;
 
 const AT_CALLS: usize = 8;
 
@@ -97,29 +103,27 @@ fn judge_call(whole: &[u32], copied: &[u32], book: &mut [u64], kind: u64, number
     judge(book, kept & rows_kept);
 }
 
-// A call is counted by its kind, and by its number.
+// A call is counted by its kind, and by its number; a step or a run of a station with no unfinished call once more.
 fn count_call(book: &mut [u64], kind: u64, number: u32) {
     count(book, at(AT_CALLS, kind));
     count(book, at(AT_NUMBERS, number as u64));
+    let moves = (kind == attempts::STEP) | (kind == attempts::RUN);
+    if moves & (number == 10) {
+        count(book, AT_REFUSED);
+    }
 }
 
-// A kind of call; mostly submissions and steps.
-fn some_kind(book: &mut [u64]) -> u64 {
-    match below(book, 32) {
-        0..=7 => attempts::SUBMIT,
-        8..=18 => attempts::STEP,
-        19 | 20 => attempts::RUN,
-        21..=24 => attempts::TAKE,
-        25 | 26 => attempts::WITHDRAW,
-        27 | 28 => attempts::REPORT,
-        29 | 30 => attempts::AUDIT,
-        _ => attempts::OPEN,
+// A kind of call for the middle part.
+fn kind_within(whole: &[u32], book: &mut [u64]) -> u64 {
+    if whole.len() < END {
+        return attempts::REPORT;
     }
+    some_kind(&whole[START..END], book)
 }
 
 // A random call with what is asked after it.
 fn judged_call(whole: &mut [u32], copied: &mut [u32], book: &mut [u64]) {
-    let kind = some_kind(book);
+    let kind = kind_within(whole, book);
     copy(whole, copied);
     let number = call_within(whole, book, kind);
     judge_call(whole, copied, book, kind, number);
@@ -208,6 +212,7 @@ fn say_calls(book: &[u64]) {
     say(b"submissions: ", get(book, at(AT_CALLS, attempts::SUBMIT)));
     say(b"steps: ", get(book, at(AT_CALLS, attempts::STEP)));
     say(b"runs: ", get(book, at(AT_CALLS, attempts::RUN)));
+    say(b"steps and runs refused with 10: ", get(book, AT_REFUSED));
 }
 
 // The rest of them.
@@ -238,15 +243,40 @@ fn say_checks(book: &[u64]) {
     say(b"wrong: ", get(book, AT_WRONG));
 }
 
-fn main() {
+// The rounds from a seed, and what was counted.
+fn run(number: u32) {
     let mut whole = [0u32; 1000];
     let mut copied = [0u32; 1000];
     let mut book = [0u64; 128];
     fill(&mut whole, 1515870810);
-    seed(&mut book, 2026);
+    seed(&mut book, number);
     rounds(&mut whole, &mut copied, &mut book);
     say_calls(&book);
     say_more_calls(&book);
     say_numbers(&book);
     say_checks(&book);
+}
+
+// The rounds from a seed that was given, which is told first. The generator cannot begin with 0.
+fn run_given(number: u32) {
+    if number == 0 {
+        io::write_all(
+            STDOUT_FILENO,
+            b"damaged: a seed is a number from 1 to 4294967295, such as 2026\n",
+        );
+        return;
+    }
+    say(b"seed: ", number as u64);
+    run(number);
+}
+
+// The seed is the first number on standard input, or a fixed one where that is empty.
+fn main() {
+    let mut bytes = io::buffer();
+    let n = io::read_full(STDIN_FILENO, &mut bytes);
+    if n == 0 {
+        run(2026);
+    } else {
+        run_given(seed_in(&bytes[..n]));
+    }
 }

@@ -97,13 +97,13 @@ fn kept_from(item: Item, number: u32) -> usize {
     words_for(n[1])
 }
 
-// An item is judged: the number, which stands sixth, and the words kept.
+// An item is judged: the number, which stands sixth, and the words kept. A letter that is none of these is wrong, whatever number it says.
 pub fn judged(words: &mut [u32], copied: &mut [u32], book: &mut [u64], item: Item) {
     let n = item.n;
     tried(book);
     copy(words, copied);
     let number = perform_in(words, length_of(n[0]), item);
-    judge(book, number == n[5]);
+    judge(book, (number == n[5]) & (number != NEVER));
     judge(book, same_from(words, copied, kept_from(item, number)));
 }
 

@@ -3,6 +3,7 @@ use crate::drive;
 use plain_list::book::AT_HELD;
 use plain_list::book::PlainPoint;
 use plain_list::list::record_point;
+use plain_list::seeds::begin;
 use plain_list::verdict::judge;
 use plain_list::verdict::met;
 use plain_list::verdict::tried;
@@ -11,7 +12,6 @@ use trial::cells::get;
 use trial::cells::low;
 use trial::cells::same_from;
 use trial::random::below;
-use trial::random::seed;
 use words::layout::words_for;
 
 // A kind of history: its opening, how many weights its points have, a code that must come up, how many histories and their events, whether
@@ -169,7 +169,7 @@ pub fn events(words: &mut [u32], copied: &mut [u32], book: &mut [u64], plan: Pla
 
 // A history from its opening.
 fn history(words: &mut [u32], copied: &mut [u32], book: &mut [u64], plan: Plan, number: u32) {
-    seed(book, number);
+    begin(book, number);
     drive::open(words, book, plan.places, plan.limit);
     events(words, copied, book, plan);
 }
@@ -220,4 +220,10 @@ pub fn plan_of(n: [u32; 9]) -> Plan {
         audited: n[6] == 1,
         alone: n[7] as u64,
     }
+}
+
+// One history on the index as it is, of the plan of an item.
+pub fn busy(words: &mut [u32], copied: &mut [u32], book: &mut [u64], n: [u32; 9]) {
+    begin(book, 2026);
+    events(words, copied, book, plan_of(n));
 }

@@ -103,7 +103,7 @@ fn one_order(words: &mut [u32], book: &mut [u64], text: &[u8], order: u32) {
 
 // The events before the first turn.
 fn setup(words: &mut [u32], book: &mut [u64], text: &[u8]) {
-    for k in 0..100u32 {
+    for k in 0..100000u32 {
         let item = item_of(text, SETUP, k);
         if item.letter == 0 {
             return;

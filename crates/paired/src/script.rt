@@ -98,7 +98,7 @@ fn take_back(words: &mut [u32], book: &mut [u64], s: u32) {
 }
 
 // The event of an item: o an opening with its places and limit, c a whole call, s a submission, t a step, r a run, k a taking, w a withdrawal, n the
-// places taken, e eight calls at once, and any other letter turns of all stations.
+// places taken, e eight calls at once, a turns of all stations. Any other letter is wrong.
 fn perform(words: &mut [u32], book: &mut [u64], item: Item) {
     let n = item.n;
     let letter = item.letter;
@@ -112,7 +112,8 @@ fn perform(words: &mut [u32], book: &mut [u64], item: Item) {
         b'w' => take_back(words, book, n[0]),
         b'n' => judge_taken(words, book, n[0]),
         b'e' => eight(words, book, n),
-        _ => rounds(words, book, turns_of(n[0])),
+        b'a' => rounds(words, book, turns_of(n[0])),
+        _ => judge(book, false),
     }
 }
 

@@ -47,6 +47,9 @@ pub const AT_MOST_OWN: usize = 36;
 
 pub const AT_SHARE: usize = 37;
 
+// By how much the seeds of the random histories are moved.
+pub const AT_SEED: usize = 38;
+
 // Codes lie below this.
 pub const CODES: u32 = 12;
 

@@ -1,5 +1,11 @@
 // The text of a case. Bars part its sections: its name, what it counts, its items, and where two parties meet the items of each. An item is a
 // letter and up to nine numbers, and ends with a semicolon.
+use trial::bytes::byte;
+use trial::bytes::grown;
+use trial::cells::low;
+
+// The letter of an item that is written in another way. No event has it, so that its case is wrong.
+const UNKNOWN: u8 = b'?';
 
 // An item: its letter, 0 where there is no such item, and its numbers, 0 where they are left out.
 pub struct Item {
@@ -19,16 +25,6 @@ struct Reading {
     begun: usize,
     digit: bool,
     ended: bool,
-}
-
-// The byte at an offset, 0 past the end.
-fn byte(text: &[u8], at: usize) -> u8 {
-    if at < text.len() { text[at] } else { 0 }
-}
-
-// A byte as a number of 64 bits.
-fn extended(x: u8) -> u64 {
-    x as u64
 }
 
 // One more, which stops at a great number.
@@ -51,6 +47,18 @@ fn past(position: Position, byte: u8) -> Position {
     }
 }
 
+// How many bars a text has.
+pub fn bars(text: &[u8]) -> u32 {
+    let mut position = Position {
+        section: 0,
+        item: 0,
+    };
+    for i in 0..text.len() {
+        position = past(position, byte(text, i));
+    }
+    position.section
+}
+
 // Where an item begins; the end of the text where there is none.
 pub fn start_of(text: &[u8], section: u32, item: u32) -> usize {
     let mut position = Position {
@@ -66,27 +74,26 @@ pub fn start_of(text: &[u8], section: u32, item: u32) -> usize {
     text.len()
 }
 
-// The number of an item after one more digit.
-fn grown(x: u32, digit: u8) -> u32 {
-    let d = extended(digit) % 16;
-    ((10 * (x as u64) + d) % 4294967296) as u32
+// The number of an item at an index; 0 where it has none.
+fn number_at(n: [u32; 9], at: usize) -> u64 {
+    if at < 9 { n[at] as u64 } else { 0 }
 }
 
-// The numbers of an item after one more digit of the number at an index.
-fn with_digit(n: [u32; 9], at: usize, digit: u8) -> [u32; 9] {
+// The numbers of an item with another at an index.
+fn with_number(n: [u32; 9], at: usize, x: u32) -> [u32; 9] {
     let mut m = n;
     if at < 9 {
-        m[at] = grown(n[at], digit);
+        m[at] = x;
     }
     m
 }
 
-// The numbers begun after a digit: one more, unless the byte before it was a digit too.
+// The numbers begun after a digit: one more, unless the byte before it was a digit too. Ten stands for more than nine.
 fn begun_after(begun: usize, digit: bool) -> usize {
     if digit {
         return begun;
     }
-    if 9 <= begun {
+    if 10 <= begun {
         return begun;
     }
     begun + 1
@@ -97,15 +104,17 @@ fn last(begun: usize) -> usize {
     if 0 < begun { begun - 1 } else { 0 }
 }
 
-// A digit goes to the number begun, or begins the next one.
+// A digit goes to the number begun, or begins the next one. It is out of place before the letter, in a tenth number, and in one that does not fit.
 fn digit_read(r: Reading, digit: u8) -> Reading {
     let old = r.item;
-    let begun = begun_after(r.begun, r.digit);
     let numbers = old.n;
-    let n = with_digit(numbers, last(begun), digit);
+    let begun = begun_after(r.begun, r.digit);
+    let x = grown(number_at(numbers, last(begun)), digit);
+    let placed = (old.letter != 0) & (begun <= 9) & (x < 4294967296);
+    let n = with_number(numbers, last(begun), low(x));
     Reading {
         item: Item {
-            letter: old.letter,
+            letter: if placed { old.letter } else { UNKNOWN },
             n: n,
         },
         begun: begun,
@@ -114,24 +123,27 @@ fn digit_read(r: Reading, digit: u8) -> Reading {
     }
 }
 
+// The letter of an item after a byte that is no digit: a blank leaves it, and a second letter and a semicolon without one are out of place.
+fn letter_after(letter: u8, byte: u8) -> u8 {
+    match byte {
+        0..=b' ' | b'|' => letter,
+        b';' => if letter == 0 { UNKNOWN } else { letter },
+        _ => if letter == 0 { byte } else { UNKNOWN },
+    }
+}
+
 // Any other byte: an end, a blank, or the item's letter.
 fn other_read(r: Reading, byte: u8) -> Reading {
     let old = r.item;
     let n = old.n;
-    let ended = (byte == b';') | (byte == b'|');
-    let letter = if ended | (byte < b'A') {
-        old.letter
-    } else {
-        byte
-    };
     Reading {
         item: Item {
-            letter: letter,
+            letter: letter_after(old.letter, byte),
             n: n,
         },
         begun: r.begun,
         digit: false,
-        ended: ended,
+        ended: (byte == b';') | (byte == b'|'),
     }
 }
 

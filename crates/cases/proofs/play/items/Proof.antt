@@ -9,7 +9,7 @@ abbrev Inv-loop : tie.InvT-loop
 Inv-loop words₀ copied₀ book₀ text k₀ words copied book k = (length words ≡ length words₀) × (length copied ≡ length copied₀) × (length book ≡ length book₀)
 
 abbrev μ-loop : tie.MeasureT-loop
-μ-loop words₀ copied₀ book₀ text k₀ words copied book k = 200 - k
+μ-loop words₀ copied₀ book₀ text k₀ words copied book k = 100000 - k
 
 loop-holds : tie.Need-loop-holds Inv-loop μ-loop
 loop-holds c = search needs

@@ -9,7 +9,7 @@ abbrev Inv-loop : tie.InvT-loop
 Inv-loop words₀ book₀ text k₀ words book k = (length words ≡ length words₀) × (length book ≡ length book₀)
 
 abbrev μ-loop : tie.MeasureT-loop
-μ-loop words₀ book₀ text k₀ words book k = 100 - k
+μ-loop words₀ book₀ text k₀ words book k = 100000 - k
 
 loop-holds : tie.Need-loop-holds Inv-loop μ-loop
 loop-holds c = search needs

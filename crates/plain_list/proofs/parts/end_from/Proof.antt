@@ -1,6 +1,6 @@
 use borrow.Author.Needs.{needs}
-use Rattle.cases.proofs.parts.end_from.Statement.{statement}
-use Rattle.cases.proofs.parts.end_from.Tie as tie
+use Rattle.plain_list.proofs.parts.end_from.Statement.{statement}
+use Rattle.plain_list.proofs.parts.end_from.Tie as tie
 use Prim.Native.Nat.{_-_}
 
 abbrev Inv-loop : tie.InvT-loop

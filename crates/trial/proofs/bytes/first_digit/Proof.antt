@@ -1,13 +1,13 @@
 use borrow.Author.Needs.{needs}
-use Rattle.cases.proofs.parts.start_from.Statement.{statement}
-use Rattle.cases.proofs.parts.start_from.Tie as tie
+use Rattle.trial.proofs.bytes.first_digit.Statement.{statement}
+use Rattle.trial.proofs.bytes.first_digit.Tie as tie
 use Prim.Native.Nat.{_-_}
 
 abbrev Inv-loop : tie.InvT-loop
-Inv-loop text from i₀ i-end i = Unit {0}
+Inv-loop text i₀ i-end i = Unit {0}
 
 abbrev μ-loop : tie.MeasureT-loop
-μ-loop text from i₀ i-end i = i-end - i
+μ-loop text i₀ i-end i = i-end - i
 
 loop-holds : tie.Need-loop-holds Inv-loop μ-loop
 loop-holds c = search needs
@@ -15,8 +15,8 @@ loop-holds c = search needs
 byte-requires : tie.Need-byte-requires Inv-loop μ-loop
 byte-requires c κs = search needs
 
-add-result : tie.Need-add-result Inv-loop μ-loop
-add-result c = search needs
+is-digit-requires : tie.Need-is-digit-requires Inv-loop μ-loop
+is-digit-requires c κs = search needs
 
 returns : tie.Need-returns Inv-loop μ-loop
 returns c = search needs
@@ -33,15 +33,15 @@ loop-again c = search needs
 returns-2 : tie.Need-returns-2 Inv-loop μ-loop
 returns-2 c = search needs
 
-pub start-from-spec : {M : Type 1} → statement M
-start-from-spec =
+pub first-digit-spec : {M : Type 1} → statement M
+first-digit-spec =
     tie.close
     (tie.spec
     Inv-loop
     μ-loop
     loop-holds
     byte-requires
-    add-result
+    is-digit-requires
     returns
     add-i
     loop-less

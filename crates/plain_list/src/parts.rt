@@ -1,9 +1,5 @@
 // The cases of a text: each begins after an equals sign, and ends where the next begins or where a remark does. A remark begins with a number sign.
-
-// The byte at an offset, 0 past the end.
-fn byte(text: &[u8], at: usize) -> u8 {
-    if at < text.len() { text[at] } else { 0 }
-}
+use trial::bytes::byte;
 
 // Where the first case from an offset on begins; the end of the text where there is none.
 pub fn start_from(text: &[u8], from: usize) -> usize {

@@ -1,0 +1,63 @@
+// The text of the cases that are run: what stands on standard input, or the program's own, which are put together in its place.
+use crate::cases;
+use crate::grades;
+use crate::hold_up;
+use crate::tally::refuse;
+use crate::withdrawals;
+use libc::STDIN_FILENO;
+use plain_list::given;
+use plain_list::given::Given;
+use trial::bytes::byte;
+
+// Writes the byte at an offset, where the text has it.
+fn put_byte(to: &mut [u8], at: usize, value: u8) {
+    if at < to.len() {
+        to[at] = value;
+    }
+}
+
+// Writes a text from an offset on, and gives where it ends.
+pub fn append(to: &mut [u8], at: usize, from: &[u8]) -> usize {
+    let mut end = at;
+    for i in 0..from.len() {
+        put_byte(to, end, byte(from, i));
+        end = std::num::wrapping_add_usize(end, 1);
+    }
+    end
+}
+
+// The cases with histories and contests from seeds.
+fn random(to: &mut [u8], at: usize) -> usize {
+    let end = cases::histories(to, at);
+    hold_up::held_up(to, end)
+}
+
+// All the cases of the program.
+fn all(to: &mut [u8]) -> usize {
+    let mut end = cases::calls(to, 0);
+    end = cases::refusals(to, end);
+    end = cases::step_refusals(to, end);
+    end = cases::frame_refusals(to, end);
+    end = cases::stations(to, end);
+    end = cases::one_point(to, end);
+    end = withdrawals::withdrawn(to, end);
+    end = grades::shared(to, end);
+    random(to, end)
+}
+
+// A text that is not understood has no case, and is a wrong one itself.
+fn none(book: &mut [u64]) -> usize {
+    refuse(book);
+    0
+}
+
+// The text that is to be run, from what was read of it; gives where it ends.
+pub fn ready(text: &mut [u8], book: &mut [u64]) -> usize {
+    let n = io::read_full(STDIN_FILENO, text);
+    match given::begin(book, &text[..n]) {
+        Given::All => all(text),
+        Given::Random => random(text, 0),
+        Given::Text => n,
+        Given::Unclear => none(book),
+    }
+}
