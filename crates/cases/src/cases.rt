@@ -1,7 +1,7 @@
 // The cases, each a part of a text: its name, what it counts, and its items. `raw` says what the capital letters mean, `script` and `play` the small
 // ones, and `parts` how the cases of a text and the remarks between them are told apart.
 // Kinds of calls (Rules 2.2): 1 add, 2 remove, 3 contains, 4 nearest.
-use crate::texts::append;
+use crate::input::append;
 
 // Calls at the ends of their ranges.
 pub fn calls(to: &mut [u8], at: usize) -> usize {

@@ -1,5 +1,5 @@
 // Grades and their slots: grades 12, 139 and 266 share one, 13 has another.
-use crate::texts::append;
+use crate::input::append;
 
 // Grades that share a slot, and the marks of adds.
 pub fn shared(to: &mut [u8], at: usize) -> usize {

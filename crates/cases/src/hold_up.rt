@@ -1,5 +1,5 @@
 // Searches that other stations try to hold up, in a text as in `cases`.
-use crate::texts::append;
+use crate::input::append;
 
 // Searches that the other stations try to hold up.
 pub fn held_up(to: &mut [u8], at: usize) -> usize {

@@ -2,9 +2,9 @@
 mod cases;
 mod grades;
 mod hold_up;
+mod input;
 mod play;
 mod tally;
-mod texts;
 mod withdrawals;
 
 use trial::cells::fill;
@@ -22,7 +22,7 @@ fn main() {
     let mut book = [0u64; 29000];
     let mut text = io::large_buffer();
     fill(&mut words, 1515870811);
-    let end = texts::ready(&mut text, &mut book);
+    let end = input::ready(&mut text, &mut book);
     run(&mut words, &mut copied, &mut book, &text, end);
     tally::end(&book);
 }

@@ -1,5 +1,5 @@
 // The cases of calls that are withdrawn, in a text as in `cases`.
-use crate::texts::append;
+use crate::input::append;
 
 // Calls that are withdrawn.
 pub fn withdrawn(to: &mut [u8], at: usize) -> usize {

@@ -1,6 +1,6 @@
 use borrow.Author.Needs.{needs}
-use Rattle.cases.proofs.texts.append.Statement.{statement}
-use Rattle.cases.proofs.texts.append.Tie as tie
+use Rattle.cases.proofs.input.append.Statement.{statement}
+use Rattle.cases.proofs.input.append.Tie as tie
 use mathlib.Core.Path.{_≡_}
 use lib.ListN.{length}
 use Prim.Native.Nat.{_-_}
