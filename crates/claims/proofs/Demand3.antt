@@ -131,7 +131,8 @@ pub record AnsweredAt (words : List ℕ) (s n : ℕ) : Type 0 where
   pub unanswered : (k : ℕ) → k < n → ¬ (numberOf (takeOf (stepped (suc k) words s) s) ≡ 0)
   pub answers : numberOf (takeOf (stepped (suc n) words s) s) ≡ 0
 
--- Demand 3: "After every history, a station with an unfinished call, stepped while the others stand still, is answered within 16 × places + 64 steps."
+-- Demand 3: "After every history, a station with an unfinished call, stepped while the others stand still, is answered within 16 × places + 64 steps." The state word is 1 exactly
+-- where the plain table has the call unfinished (`AnswersAsTable .unfinished` of Demand2.antt).
 pub solo : (words : List ℕ) (places limit : ℕ) → openOf words places limit .number ≡ 0 → (evs : List Event) (s : ℕ)
     → isUnfinished (stateAt (after evs (openOf words places limit .words)) s) ≡ true
     → (n : ℕ) × (n < 16 * places + 64) × AnsweredAt (after evs (openOf words places limit .words)) s n
