@@ -15,14 +15,7 @@ use Rattle.rows.specs.Row.{rowAt}
 use Rattle.calls.specs.declared.climb.Climb.{Climb}
 use Rattle.calls.specs.Climb.{childOf, climbRow, climb, overRow}
 use Rattle.calls.proofs.Going.{ended}
-
-and-false : (a : Bool) → (a && false) ≡ false
-and-false true = refl
-and-false false = refl
-
-and-both : (a b c : Bool) → (a && (b && c)) ≡ ((a && b) && c)
-and-both true b c = refl
-and-both false b c = refl
+use Rattle.calls.proofs.Conjunctions.{and-false, and-both}
 
 climb-row : (w : List ℕ) (rows root : ℕ) (point : Point) (n : ℕ) (c : Climb) (row : Row)
     → (c .sound && climbRow point (c .from) row (λ over. climb w rows root point n (c .up) over))

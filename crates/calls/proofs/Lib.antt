@@ -1,3 +1,4 @@
+pub mod Conjunctions
 pub mod SearchLaws
 pub mod TourLaws
 pub mod UnlinkLaws

@@ -21,6 +21,7 @@ use Rattle.calls.specs.Search.{searchOf}
 use Rattle.calls.specs.Walk.{walkOf}
 use Rattle.calls.specs.Step.{workOf}
 use Rattle.calls.specs.Needs.{Need, treeAt, leafAt, cutOver, freeAt, freeBefore, freeLast, apart, counted, met, allMet, rowsOf, pickNeeds, walkNeeds, searchNeeds, stepNeeds, rowsSound}
+use Rattle.calls.proofs.Conjunctions.{and-false}
 use Rattle.calls.proofs.SearchNeeds.{search-needs}
 use Rattle.calls.proofs.WalkNeeds.{walk-needs}
 
@@ -74,13 +75,9 @@ module _ (words : List ℕ) (rows : ℕ) where
   one-unmet [] {need} m e = absurd (List·Memᴰ·not-nil m)
   one-unmet (x ∷ needs) {need} m e = go (List·Memᴰ·cases-cons m) (λ n. one-unmet needs n e)
     where
-      behind : (a : Bool) → (a && false) ≡ false
-      behind true = refl
-      behind false = refl
-
       go : (need ≡ x) ⊎ List·Memᴰ need needs → (List·Memᴰ need needs → allMet words rows needs ≡ false) → (met words rows x && allMet words rows needs) ≡ false
       go (inl f) rest = rw (ap (met words rows) (sym f) ∙ e)
-      go (inr n) rest = ap (λ (b : Bool). met words rows x && b) (rest n) ∙ behind (met words rows x)
+      go (inr n) rest = ap (λ (b : Bool). met words rows x && b) (rest n) ∙ and-false (met words rows x)
 
 -- a step that needs a row which is none needs what is not met
 pub needed-row : (words : List ℕ) (s : ℕ) {need : Need} → List·Memᴰ need (stepNeeds words s) → {r : ℕ} → List·Memᴰ r (rowsOf need)

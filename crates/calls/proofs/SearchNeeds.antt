@@ -21,26 +21,13 @@ use Rattle.calls.specs.Tour.{farShut, downCut, tourDown, fromChild, abov
 use Rattle.calls.specs.Reply.{done, ask}
 use Rattle.calls.specs.Search.{toursOf, seek, progressAt, searchWords, searchOf}
 use Rattle.calls.specs.Needs.{Need, treeAt, cutOver, freeAt, met, allMet, unless, lookNeeds, tourNeeds, toursNeeds, searchNeeds}
-
--- ---- tests
-
-and-false : (a : Bool) → false ≡ (a && false)
-and-false true = refl
-and-false false = refl
-
-and-true : (a : Bool) → a ≡ (a && true)
-and-true true = refl
-and-true false = refl
-
-and-both : (a b c : Bool) → ((a && b) && c) ≡ (a && (b && c))
-and-both true b c = refl
-and-both false b c = refl
+use Rattle.calls.proofs.Conjunctions.{and-false, and-true, and-both}
 
 -- two lists are met where both are
-pub met-append : (words : List ℕ) (rows : ℕ) (xs ys : List Need) → (allMet words rows xs && allMet words rows ys) ≡ allMet words rows (xs ++ ys)
+met-append : (words : List ℕ) (rows : ℕ) (xs ys : List Need) → (allMet words rows xs && allMet words rows ys) ≡ allMet words rows (xs ++ ys)
 unfolding allMet
 met-append words rows [] ys = refl
-met-append words rows (x ∷ xs) ys = and-both (met words rows x) (allMet words rows xs) (allMet words rows ys) ∙ ap (λ (b : Bool). met words rows x && b) (met-append words rows xs ys)
+met-append words rows (x ∷ xs) ys = sym (and-both (met words rows x) (allMet words rows xs) (allMet words rows ys)) ∙ ap (λ (b : Bool). met words rows x && b) (met-append words rows xs ys)
 
 module _ (words : List ℕ) (rows slot : ℕ) (call : Call) (p : Progress) where
   -- ---- one move
@@ -57,11 +44,11 @@ module _ (words : List ℕ) (rows slot : ℕ) (call : Call) (p : Progress) where
       go false false = refl
 
   down-sound : (row : Row) → tourDown words slot call p row .sound ≡ (p .sound && (isTree row && true))
-  down-sound Bad = and-false (p .sound)
-  down-sound (Spare next freed) = and-false (p .sound)
-  down-sound (Removed next freed added point curve) = and-false (p .sound)
-  down-sound (Leaf parent added point curve) = and-true (p .sound)
-  down-sound (Cut parent cut left right) = cut-sound cut left right (goesLeft cut (call .point)) ∙ and-true (p .sound)
+  down-sound Bad = sym (and-false (p .sound))
+  down-sound (Spare next freed) = sym (and-false (p .sound))
+  down-sound (Removed next freed added point curve) = sym (and-false (p .sound))
+  down-sound (Leaf parent added point curve) = sym (and-true (p .sound))
+  down-sound (Cut parent cut left right) = cut-sound cut left right (goesLeft cut (call .point)) ∙ sym (and-true (p .sound))
 
   -- up at a cut from one of its children
   child-sound : (above near far : ℕ) (shut : Bool) → fromChild p above near far shut .sound ≡ (p .sound && (eqb near (p .cursor) || eqb far (p .cursor)))
@@ -70,10 +57,10 @@ module _ (words : List ℕ) (rows slot : ℕ) (call : Call) (p : Progress) where
       go : (n f s : Bool)
           → pickProgress n (pickProgress s (onward p above 1 (p .best)) (onward p far 0 (p .best))) (pickProgress f (onward p above 1 (p .best)) (strayed p)) .sound
           ≡ (p .sound && (n || f))
-      go true f true = and-true (p .sound)
-      go true f false = and-true (p .sound)
-      go false true s = and-true (p .sound)
-      go false false s = and-false (p .sound)
+      go true f true = sym (and-true (p .sound))
+      go true f false = sym (and-true (p .sound))
+      go false true s = sym (and-true (p .sound))
+      go false false s = sym (and-false (p .sound))
 
   either-way : (a b : Bool) → (a || b) ≡ (b || a)
   either-way true true = refl
@@ -89,10 +76,10 @@ module _ (words : List ℕ) (rows slot : ℕ) (call : Call) (p : Progress) where
       ∙ ap (λ (b : Bool). p .sound && b) (either-way (eqb right (p .cursor)) (eqb left (p .cursor)))
 
   above-sound : (above : ℕ) (row : Row) → tourAbove words slot call p above row .sound ≡ (p .sound && linksTo (p .cursor) row)
-  above-sound above Bad = and-false (p .sound)
-  above-sound above (Spare next freed) = and-false (p .sound)
-  above-sound above (Removed next freed added point curve) = and-false (p .sound)
-  above-sound above (Leaf parent added point curve) = and-false (p .sound)
+  above-sound above Bad = sym (and-false (p .sound))
+  above-sound above (Spare next freed) = sym (and-false (p .sound))
+  above-sound above (Removed next freed added point curve) = sym (and-false (p .sound))
+  above-sound above (Leaf parent added point curve) = sym (and-false (p .sound))
   above-sound above (Cut parent cut left right) = sides-sound above cut left right (goesLeft cut (call .point))
 
   -- what is asked of the parent
@@ -106,11 +93,11 @@ module _ (words : List ℕ) (rows slot : ℕ) (call : Call) (p : Progress) where
       go : (t top : Bool)
           → pickProgress t (pickProgress top (onward p NONE 1 (p .best)) (tourAbove words slot call p (parentOf row) (rowAt words rows (parentOf row)))) (strayed p) .sound
           ≡ (p .sound && (t && allMet words rows (parentNeeds (parentOf row) top)))
-      go true true = and-true (p .sound)
+      go true true = sym (and-true (p .sound))
       go true false =
           above-sound (parentOf row) (rowAt words rows (parentOf row))
-          ∙ ap (λ (b : Bool). p .sound && b) (and-true (linksTo (p .cursor) (rowAt words rows (parentOf row))))
-      go false top = and-false (p .sound)
+          ∙ ap (λ (b : Bool). p .sound && b) (sym (and-true (linksTo (p .cursor) (rowAt words rows (parentOf row)))))
+      go false top = sym (and-false (p .sound))
 
   tour-sound : tour words rows slot call p .sound ≡ (p .sound && allMet words rows (tourNeeds words rows p))
   unfolding tour allMet
@@ -122,7 +109,7 @@ module _ (words : List ℕ) (rows slot : ℕ) (call : Call) (p : Progress) where
       go : (over down : Bool)
           → pickProgress over p (pickProgress down (tourDown words slot call p row) (tourUp words rows slot call p row)) .sound
           ≡ (p .sound && allMet words rows (unless over (treeAt (p .cursor) ∷ unless (down || eqb (parentOf row) NONE) (cutOver (parentOf row) (p .cursor) ∷ []))))
-      go true down = and-true (p .sound)
+      go true down = sym (and-true (p .sound))
       go false true = down-sound row
       go false false = up-sound row
 
@@ -158,7 +145,7 @@ module _ (words : List ℕ) (rows slot : ℕ) (call : Call) (p : Progress) where
             sound = (p .sound && isFree row) && (last || isFree after);
           }) .sound
           ≡ (p .sound && allMet words rows (unless none (freeAt (p .missed) ∷ unless last (freeAt (nextOf row) ∷ []))))
-      go true last = and-true (p .sound)
+      go true last = sym (and-true (p .sound))
       go false last = goal (p .sound) (isFree row) last (isFree after) ∙ ap (λ (b : Bool). p .sound && (isFree row && b)) (split last)
 
 -- ---- so many moves
@@ -166,12 +153,12 @@ module _ (words : List ℕ) (rows slot : ℕ) (call : Call) (p : Progress) where
 toured-sound : (words : List ℕ) (rows slot : ℕ) (call : Call) (n : ℕ) (p : Progress)
     → toured words rows slot call n p .sound ≡ (p .sound && allMet words rows (toursNeeds words rows slot call n p))
 unfolding toured toursNeeds allMet
-toured-sound words rows slot call zero p = and-true (p .sound)
+toured-sound words rows slot call zero p = sym (and-true (p .sound))
 toured-sound words rows slot call (suc n) p =
     let q = toured words rows slot call n p in
     tour-sound words rows slot call q
     ∙ ap (λ (b : Bool). b && allMet words rows (tourNeeds words rows q)) (toured-sound words rows slot call n p)
-    ∙ and-both (p .sound) (allMet words rows (toursNeeds words rows slot call n p)) (allMet words rows (tourNeeds words rows q))
+    ∙ sym (and-both (p .sound) (allMet words rows (toursNeeds words rows slot call n p)) (allMet words rows (tourNeeds words rows q)))
     ∙ ap (λ (b : Bool). p .sound && b) (met-append words rows (toursNeeds words rows slot call n p) (tourNeeds words rows q))
 
 -- ---- the step of a nearest

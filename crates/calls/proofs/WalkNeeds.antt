@@ -32,7 +32,7 @@ use Rattle.calls.specs.Insert.{siteAt, siteSound, insertOf}
 use Rattle.calls.specs.Unlink.{aroundAt, aroundSound, unlinkOf}
 use Rattle.calls.specs.Walk.{downFrom, down, wayOf, walkTo, codeAt, plainAnswer, concludeAs, conclude, standsAt, walkFrom, walkOf}
 use Rattle.calls.specs.Needs.{Need, treeAt, leafAt, cutOver, freeBefore, freeLast, apart, counted, met, allMet, unless, pickNeeds, wayNeeds, siteNeeds, aroundNeeds, answerNeeds, walkNeeds}
-use Rattle.calls.proofs.SearchNeeds.{met-append}
+use Rattle.calls.proofs.Conjunctions.{and-false}
 
 -- ---- the way down
 
@@ -209,11 +209,7 @@ module _ (words : List ℕ) (rows at : ℕ) where
           → (((q && l) && (s || (((k && d) && t) && (o || g)))) && h) ≡ (q && (l && (h && (s || (k && (d && (t && (o || (g && true)))))))))
       go false l h s k d t o g = refl
       go true false h s k d t o g = refl
-      go true true false s k d t o g = last-false (s || (((k && d) && t) && (o || g)))
-        where
-          last-false : (x : Bool) → (x && false) ≡ false
-          last-false true = refl
-          last-false false = refl
+      go true true false s k d t o g = and-false (s || (((k && d) && t) && (o || g)))
       go true true true true k d t o g = refl
       go true true true false false d t o g = refl
       go true true true false true false t o g = refl

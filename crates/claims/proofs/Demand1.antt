@@ -19,6 +19,7 @@ use Rattle.claims.specs.Definitions.{Frame, Open, Submit, Step, Take, Ru
 use Rattle.claims.specs.Definitions.{positionAfter, Fields, padded, writtenBytes, writeOf, pointOf, submissionReply, applyOf, appliedNumber, applyWords, lineWords}
 use borrow.Author.Tests.{lt-ltb}
 use Rattle.rows.proofs.RowLaws.{row-exact}
+use Rattle.calls.proofs.Conjunctions.{and-false}
 use Rattle.calls.proofs.NeedLaws.{needed-row}
 use Rattle.history.proofs.Refused
 use Rattle.frames.proofs.OutcomeLaws
@@ -52,14 +53,10 @@ pub field-out-of-range : (words : List ℕ) (s : ℕ) → isOpened (openedIn wor
     → inRows (rowsIn words) (rowOf (part words (atRow r) 16)) ≡ false → stepOf words s .number ≡ 11
 unfolding firstNo
 field-out-of-range words s o l u need m r k e =
-    step-number words s ∙ rw (o, lt-ltb s 8 l, u, needed-row words s m k (row-exact words (rowsIn words) r ∙ rw e (behind there))) (either (recordsSound words s))
+    step-number words s ∙ rw (o, lt-ltb s 8 l, u, needed-row words s m k (row-exact words (rowsIn words) r ∙ rw e (and-false there))) (either (recordsSound words s))
   where
     there : Bool
     there = ltb r (rowsIn words) && leb (atRow r + 16) (length words)
-
-    behind : (b : Bool) → (b && false) ≡ false
-    behind true = refl
-    behind false = refl
 
     either : (b : Bool) → firstNo (asked true 4 ∷ asked true 5 ∷ asked true 10 ∷ asked b 11 ∷ asked false 11 ∷ []) ≡ 11
     either true = refl
