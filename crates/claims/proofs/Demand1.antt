@@ -1,10 +1,8 @@
 -- Demand 1: "Whoever calls, with whatever numbers, frame bytes or index contents, gets a defined result and the call ends. Bad input gets the number of
 -- the first check it fails, and a refused call changes no word or byte lent to it."
--- A defined result, and an end: the functions `open`, `submit`, `step`, `run`, `take`, `withdraw`, `read_report` and `audit` of `steps` have no `requires`; their
--- contracts are equations of result and slice with `openOf`, `submitOf`, `stepOf`, `runOf`, `takeOf` and `takeWords`, `withdrawOf`, `reportOf`, `verdictOf`, which
--- are defined for every content and every argument; and Rattle proves that each call ends. `read_report` and `audit` are lent the words for reading alone.
--- Of `frames`, `readers` and `lines` the same: `read_frame`, `write_frame`, `write_fields`, `apply_frame` and `next_line` are `readOf`, `writtenOf`, `writeOf`, `applyOf` with `applyWords`, and `lineOf` with
--- `lineWords`; a reader's `next` is `readOf` and `positionAfter`; the bytes are lent for reading alone.
+-- A defined result, and an end, are in Contracts.antt: each public function meets its contract (`open-meets` and so on), which requires nothing and is an equation with a definition
+-- (`open-contract` and so on). The numbers of refusals, and that a refused call changes nothing, are here, of these definitions. `read_report` and `audit` are lent the words for
+-- reading alone, and the functions of `frames`, `readers` and `lines` the bytes.
 -- A question is a test and its number; `firstNo` is the number of the first that fails, and 0 where none does (Rules 7.1).
 use Prim.Native.Nat.{ℕ, _+_, _<_}
 use mathlib.Core.Path.{_≡_, refl, _∙_}
