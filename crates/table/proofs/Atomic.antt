@@ -21,16 +21,16 @@ use Rattle.table.proofs.Retract.{retract, retract-all}
 use Rattle.table.proofs.Eager.{unsettled, Settled}
 use Rattle.table.proofs.Simulation.{stillAt, still, finished, Matches, Finishes, Simulation, simulation-linear}
 
--- a station, the answer of its search worked out
-unfoldable pub workedAt : Table → Station → Station
-workedAt t idle = idle
-workedAt t (waiting a) = waiting a
-workedAt t (unfinished i c (some a)) = unfinished i c (some a)
-workedAt t (unfinished i c none) = elim (isSearch c) [ true ↦ unfinished i c (some (answerOf t c)) | false ↦ unfinished i c none ]
+-- a station as given, the answer of its search worked out
+unfoldable pub workedAt : Table → ℕ → Station → Station
+workedAt t s idle = idle
+workedAt t s (waiting a) = waiting a
+workedAt t s (unfinished i c (some a)) = unfinished i c (some a)
+workedAt t s (unfinished i c none) = elim (isSearch c) [ true ↦ unfinished i c (some (answerOf t s c)) | false ↦ unfinished i c none ]
 
 -- the table with every search worked out
 unfoldable pub worked : Table → Table
-worked t = withStations t (λ u. workedAt t (t .stations u))
+worked t = withStations t (λ u. workedAt t u (t .stations u))
 
 unfoldable pub submitAtomic : Table → ℕ → ℕ → Point → ℕ → Reply Table
 submitAtomic t s kind p c = record { number = submit t s kind p c .number; given = submit t s kind p c .given; next = worked (submit t s kind p c .next) }
@@ -52,12 +52,12 @@ R st t = st ≡ worked t
 
 -- ## Nothing left to work out
 
-settled-at : (t : Table) (x : Station) → unsettled x ≡ false → workedAt t x ≡ x
+settled-at : (t : Table) (s : ℕ) (x : Station) → unsettled x ≡ false → workedAt t s x ≡ x
 unfolding unsettled workedAt
-settled-at t idle e = refl
-settled-at t (waiting a) e = refl
-settled-at t (unfinished i c (some a)) e = refl
-settled-at t (unfinished i c none) e = rw (e, workedAt)
+settled-at t s idle e = refl
+settled-at t s (waiting a) e = refl
+settled-at t s (unfinished i c (some a)) e = refl
+settled-at t s (unfinished i c none) e = rw (e, workedAt)
 
 settled-all : (t : Table) → Sound t → Settled t → (u : ℕ) → unsettled (t .stations u) ≡ false
 unfolding unsettled
@@ -65,37 +65,37 @@ settled-all t k d u = elim (decLt u 8) [ yes l ↦ d u l | no n ↦ ap unsettled
 
 settled-worked : (t : Table) → ((u : ℕ) → unsettled (t .stations u) ≡ false) → t ≡ worked t
 unfolding worked
-settled-worked t d = ap (λ (f : ℕ → Station). withStations t f) (fun-ext (λ u. sym (settled-at t (t .stations u) (d u))))
+settled-worked t d = ap (λ (f : ℕ → Station). withStations t f) (fun-ext (λ u. sym (settled-at t u (t .stations u) (d u))))
 
 -- ## Agreement and moments
 
-worked-searching : (t : Table) (x : Station) → searching (workedAt t x) ≡ searching x
+worked-searching : (t : Table) (s : ℕ) (x : Station) → searching (workedAt t s x) ≡ searching x
 unfolding workedAt searching
-worked-searching t idle = refl
-worked-searching t (waiting a) = refl
-worked-searching t (unfinished i c (some a)) = refl
-worked-searching t (unfinished i c none) = go (isSearch c) refl
+worked-searching t s idle = refl
+worked-searching t s (waiting a) = refl
+worked-searching t s (unfinished i c (some a)) = refl
+worked-searching t s (unfinished i c none) = go (isSearch c) refl
   where
-    go : (b : Bool) → isSearch c ≡ b → searching (workedAt t (unfinished i c none)) ≡ searching (unfinished i c none)
+    go : (b : Bool) → isSearch c ≡ b → searching (workedAt t s (unfinished i c none)) ≡ searching (unfinished i c none)
     go true q = rw (q, workedAt) (rw (q, searching))
     go false q = rw (q, workedAt)
 
 worked-taken : (t : Table) → taken (worked t) ≡ taken t
 unfolding taken worked
-worked-taken t = rw (searches-same eight (λ u. workedAt t (t .stations u)) (t .stations) (λ u. worked-searching t (t .stations u)))
+worked-taken t = rw (searches-same eight (λ u. workedAt t u (t .stations u)) (t .stations) (λ u. worked-searching t u (t .stations u)))
 
 -- what a taking says
 abbrev Says : Reply Table → Reply Table → Type 0
 Says r q = (r .number ≡ q .number) × (r .given ≡ q .given)
 
-worked-takeAt : (t : Table) (s : ℕ) (x : Station) → Says (takeAt (worked t) s (workedAt t x)) (takeAt t s x)
+worked-takeAt : (t : Table) (s : ℕ) (x : Station) → Says (takeAt (worked t) s (workedAt t s x)) (takeAt t s x)
 unfolding workedAt takeAt
 worked-takeAt t s idle = (refl, refl)
 worked-takeAt t s (waiting a) = (refl, refl)
 worked-takeAt t s (unfinished i c (some a)) = (refl, refl)
 worked-takeAt t s (unfinished i c none) = go (isSearch c) refl
   where
-    go : (b : Bool) → isSearch c ≡ b → Says (takeAt (worked t) s (workedAt t (unfinished i c none))) (takeAt t s (unfinished i c none))
+    go : (b : Bool) → isSearch c ≡ b → Says (takeAt (worked t) s (workedAt t s (unfinished i c none))) (takeAt t s (unfinished i c none))
     go true q = rw (q, workedAt) (refl, refl)
     go false q = rw (q, workedAt) (refl, refl)
 
@@ -118,43 +118,43 @@ agrees t k = record {
 }
 
 -- a search's moment leaves what is worked out
-search-answer : (t u : Table) (c : Call) → isSearch c ≡ true → t .held ≡ u .held → answerOf t c ≡ answerOf u c
+search-answer : (t u : Table) (s : ℕ) (c : Call) → isSearch c ≡ true → t .held ≡ u .held → answerOf t s c ≡ answerOf u s c
 unfolding answerOf isSearch
-search-answer t u (add p v) g e = absurd (false≢true g)
-search-answer t u (remove p) g e = absurd (false≢true g)
-search-answer t u (contains p) g e = absurd (false≢true g)
-search-answer t u (nearest p) g e = rw e
+search-answer t u s (add p v) g e = absurd (false≢true g)
+search-answer t u s (remove p) g e = absurd (false≢true g)
+search-answer t u s (contains p) g e = absurd (false≢true g)
+search-answer t u s (nearest p) g e = rw e
 
-worked-same : (t u : Table) (x : Station) → t .held ≡ u .held → workedAt t x ≡ workedAt u x
+worked-same : (t u : Table) (s : ℕ) (x : Station) → t .held ≡ u .held → workedAt t s x ≡ workedAt u s x
 unfolding workedAt
-worked-same t u idle e = refl
-worked-same t u (waiting a) e = refl
-worked-same t u (unfinished i c (some a)) e = refl
-worked-same t u (unfinished i c none) e = go (isSearch c) refl
+worked-same t u s idle e = refl
+worked-same t u s (waiting a) e = refl
+worked-same t u s (unfinished i c (some a)) e = refl
+worked-same t u s (unfinished i c none) e = go (isSearch c) refl
   where
-    go : (b : Bool) → isSearch c ≡ b → workedAt t (unfinished i c none) ≡ workedAt u (unfinished i c none)
-    go true q = rw (q, workedAt) (ap (λ (a : Answer). unfinished i c (some a)) (search-answer t u c q e))
+    go : (b : Bool) → isSearch c ≡ b → workedAt t s (unfinished i c none) ≡ workedAt u s (unfinished i c none)
+    go true q = rw (q, workedAt) (ap (λ (a : Answer). unfinished i c (some a)) (search-answer t u s c q e))
     go false q = rw (q, workedAt)
 
 settles-put : (t : Table) (s i : ℕ) (c : Call) → isSearch c ≡ true → t .stations s ≡ unfinished i c none
-    → worked t ≡ worked (withStations t (put (t .stations) s (unfinished i c (some (answerOf t c)))))
+    → worked t ≡ worked (withStations t (put (t .stations) s (unfinished i c (some (answerOf t s c)))))
 unfolding worked workedAt
 settles-put t s i c g e = ap (λ (f : ℕ → Station). withStations t f) (fun-ext (λ u. go u (put-cases (t .stations) s u x)))
   where
     x : Station
-    x = unfinished i c (some (answerOf t c))
+    x = unfinished i c (some (answerOf t s c))
 
     v : Table
     v = withStations t (put (t .stations) s x)
 
     go : (u : ℕ) → ((u ≡ s) × (put (t .stations) s x u ≡ x)) ⊎ ((¬ (u ≡ s)) × (put (t .stations) s x u ≡ t .stations u))
-        → workedAt t (t .stations u) ≡ workedAt v (put (t .stations) s x u)
+        → workedAt t u (t .stations u) ≡ workedAt v u (put (t .stations) s x u)
     go u (inl y) = rw (y .1, y .0, e, workedAt, g)
-    go u (inr y) = rw (y .1) (worked-same t v (t .stations u) refl)
+    go u (inr y) = rw (y .1) (worked-same t v u (t .stations u) refl)
 
-settles : (t : Table) (s i : ℕ) (c : Call) → isSearch c ≡ true → t .stations s ≡ unfinished i c none → worked t ≡ worked (setDown t s i c (answerOf t c))
+settles : (t : Table) (s i : ℕ) (c : Call) → isSearch c ≡ true → t .stations s ≡ unfinished i c none → worked t ≡ worked (setDown t s i c (answerOf t s c))
 unfolding setDown changedIf
-settles t s i c g e = settles-put t s i c g e ∙ ap worked (sym (rw (search-quiet t c g, changedIf)))
+settles t s i c g e = settles-put t s i c g e ∙ ap worked (sym (rw (search-quiet t s c g, changedIf)))
 
 -- ## The events on a settled table
 
@@ -193,12 +193,12 @@ module _ (t : Table) (d : (u : ℕ) → unsettled (t .stations u) ≡ false) whe
   finished-match : (s : ℕ) (c : Call) (o : Option Answer) → Match (accept (finished t s c o)) (accept (finished t s c o))
   unfolding finished unsettled
   finished-match s c (some a) = record { number = refl; given = refl; next = settled-worked (finished t s c (some a)) (put-settled t s (waiting a) refl d) }
-  finished-match s c none = record { number = refl; given = refl; next = settled-worked (finished t s c none) (put-settled t s (waiting (answerOf t c)) refl d) }
+  finished-match s c none = record { number = refl; given = refl; next = settled-worked (finished t s c none) (put-settled t s (waiting (answerOf t s c)) refl d) }
 
   finished-take : (s : ℕ) (c : Call) (o : Option Answer) → ltb s 8 ≡ true → take (finished t s c o) s .number ≡ 0
   unfolding finished take takeAt
   finished-take s c (some a) l = rw (l, put-same (t .stations) s (waiting a), takeAt)
-  finished-take s c none l = rw (l, put-same (t .stations) s (waiting (answerOf t c)), takeAt)
+  finished-take s c none l = rw (l, put-same (t .stations) s (waiting (answerOf t s c)), takeAt)
 
   -- whether a step answers, by the station
   abbrev Answers : ℕ → Bool → Station → Bool

@@ -40,9 +40,9 @@ sets-stay ev ms t u s i c a e q = moments-keep ev (λ x. x .stations s ≡ unfin
 
 change-own : (ev : Event) (t u : Table) (s : ℕ) → Moment ev t s u → (u .held ≡ t .held) ⊎ (ownStep ev s ≡ true)
 unfolding mayFall setDown changedIf
-change-own ev t u s m = go (isChange (answerOf t (m .call))) refl
+change-own ev t u s m = go (isChange (answerOf t s (m .call))) refl
   where
-    go : (b : Bool) → isChange (answerOf t (m .call)) ≡ b → (u .held ≡ t .held) ⊎ (ownStep ev s ≡ true)
+    go : (b : Bool) → isChange (answerOf t s (m .call)) ≡ b → (u .held ≡ t .held) ⊎ (ownStep ev s ≡ true)
     go true q = inr (rw q at (m .may))
     go false q = inl (ap (λ (x : Table). x .held) (sym (m .is)) ∙ rw (q, changedIf))
 
@@ -71,7 +71,7 @@ done-held ev ms t u s i c a o e q = moments-keep ev P keep ms t u q (refl, e) .0
 -- the call c of station s has got its answer at the moments from t to u, and the answer is the table's for the records held before or after
 pub record SetBetween (t u : Table) (s i : ℕ) (c : Call) : Type 0 where
   pub at-moment : Table
-  pub is : u .stations s ≡ unfinished i c (some (answerOf at-moment c))
+  pub is : u .stations s ≡ unfinished i c (some (answerOf at-moment s c))
   pub held : (at-moment .held ≡ t .held) ⊎ (at-moment .held ≡ u .held)
 
 -- An answer set down at an event is the table's for the records held before the event or after it.
@@ -86,9 +86,9 @@ between ev (v ∷ ms) t u s i c e q = go (λ x. between ev ms x u s i c) (moment
         let f : unfinished (m .identity) (m .call) none ≡ unfinished i c none = sym (m .pending) ∙ ap (t .stations) d ∙ e in
         let ci : m .identity ≡ i = cc in
         let cd : m .call ≡ c = cc in
-        let k : x .stations v ≡ unfinished (m .identity) (m .call) (some (answerOf t (m .call))) = moment-own ev t x v m in
-        let l : x .stations s ≡ unfinished i c (some (answerOf t c)) = ap (x .stations) (sym d) ∙ k ∙ (λ j. unfinished (ci j) (cd j) (some (answerOf t (cd j)))) in
-        record { at-moment = t; is = sets-stay ev ms x u s i c (answerOf t c) r l; held = inl refl }
+        let k : x .stations v ≡ unfinished (m .identity) (m .call) (some (answerOf t v (m .call))) = moment-own ev t x v m in
+        let l : x .stations s ≡ unfinished i c (some (answerOf t s c)) = ap (x .stations) (sym d) ∙ k ∙ (λ j. unfinished (ci j) (cd j) (some (answerOf t (d j) (cd j)))) in
+        record { at-moment = t; is = sets-stay ev ms x u s i c (answerOf t s c) r l; held = inl refl }
 
     later : (x : Table) → Moment ev t v x → moments ev x ms ≡ some u → SetBetween x u s i c → SetBetween t u s i c
     later x m r w = record {
@@ -98,7 +98,7 @@ between ev (v ∷ ms) t u s i c e q = go (λ x. between ev ms x u s i c) (moment
         | inr h ↦ inr h
         | inl h ↦ elim (change-own ev t x v m) [
           | inl d ↦ inl (h ∙ d)
-          | inr d ↦ inr (h ∙ sym (done-held ev ms x u v (m .identity) (m .call) (answerOf t (m .call)) d (moment-own ev t x v m) r))
+          | inr d ↦ inr (h ∙ sym (done-held ev ms x u v (m .identity) (m .call) (answerOf t v (m .call)) d (moment-own ev t x v m) r))
         ]
       ];
     }

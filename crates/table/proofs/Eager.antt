@@ -80,7 +80,7 @@ unfoldable settleAt : Table → ℕ → Station → Table
 settleAt t s idle = t
 settleAt t s (waiting a) = t
 settleAt t s (unfinished i c (some a)) = t
-settleAt t s (unfinished i c none) = elim (isSearch c) [ true ↦ setDown t s i c (answerOf t c) | false ↦ t ]
+settleAt t s (unfinished i c none) = elim (isSearch c) [ true ↦ setDown t s i c (answerOf t s c) | false ↦ t ]
 
 unfoldable pub settleOne : Table → ℕ → Table
 unfolding settleAt
@@ -105,7 +105,7 @@ pub record Unsettled (t : Table) (s : ℕ) : Type 0 where
   pub call : Call
   pub search : isSearch call ≡ true
   pub is : t .stations s ≡ unfinished identity call none
-  pub settles : settleOne t s ≡ setDown t s identity call (answerOf t call)
+  pub settles : settleOne t s ≡ setDown t s identity call (answerOf t s call)
 
 pub unsettled-cases : (t : Table) (s : ℕ) → ((unsettled (t .stations s) ≡ false) × (settleOne t s ≡ t)) ⊎ Unsettled t s
 unfolding unsettled settleAt settleOne
@@ -124,7 +124,7 @@ unsettled-cases t s = go (t .stations s) refl
 -- an unsettled nearest call can have its moment at any event
 first-moment : (ev : Event) (t : Table) (s : ℕ) → Unsettled t s → moment ev t s ≡ some (settleOne t s)
 unfolding moment momentAt onlyIf mayFall
-first-moment ev t s w = rw (w .settles, w .is, momentAt, search-quiet t (w .call) (w .search))
+first-moment ev t s w = rw (w .settles, w .is, momentAt, search-quiet t s (w .call) (w .search))
 
 firsts-trim : (ev : Event) (seen : ℕ → Bool) (ss : List ℕ) (t : Table) → moments ev (trim seen t) (firsts seen ss t) ≡ some (trim seen (settle ss t))
 unfolding firsts moments settle consIf unsettled

@@ -95,9 +95,9 @@ module _ (I : Index) where
 
   -- ## One event
 
-  right-held : (q : Point) (st : State) (t u : Table) → Agree I st t → u .held ≡ t .held → Right q (answerOf u (nearest q)) st
+  right-held : (q : Point) (s : ℕ) (st : State) (t u : Table) → Agree I st t → u .held ≡ t .held → Right q (answerOf u s (nearest q)) st
   unfolding answerOf
-  right-held q st t u a e = ap (nearestAnswer q) (ap (nearestOf q) e ∙ nearest-same q (t .held) (I .held st) (λ r. (a .records r .1, a .records r .0)) (a .once))
+  right-held q s st t u a e = ap (nearestAnswer q) (ap (nearestOf q) e ∙ nearest-same q (t .held) (I .held st) (λ r. (a .records r .1, a .records r .0)) (a .once))
 
   -- the search before what the event itself does: as it was, or its answer has been set down, right before the event or after it
   abbrev Meanwhile : Point → State → State → Option Answer → Option Answer → Type 0
@@ -111,12 +111,12 @@ module _ (I : Index) where
   meanwhile q s i none st t u ms ev r next a z e m h = elim (between ev ms t u s i (nearest q) e m) [
     | inl x ↦ (none, x, inl refl)
     | inr x ↦ (
-      some (answerOf (x .at-moment) (nearest q)),
+      some (answerOf (x .at-moment) s (nearest q)),
       x .is,
       inr (
-        answerOf (x .at-moment) (nearest q),
+        answerOf (x .at-moment) s (nearest q),
         refl,
-        elim (x .held) [ inl d ↦ inl (right-held q st t (x .at-moment) a d) | inr d ↦ inr (right-held q next (r .next) (x .at-moment) z (d ∙ sym h)) ],
+        elim (x .held) [ inl d ↦ inl (right-held q s st t (x .at-moment) a d) | inr d ↦ inr (right-held q s next (r .next) (x .at-moment) z (d ∙ sym h)) ],
       ),
     )
   ]

@@ -33,7 +33,7 @@ after-first t s u = elim (unsettled-cases t s) [ inl v ↦ inl (ap (λ (x : Tabl
   where
     go : Unsettled t s → AfterFirst t s u
     go w =
-        let a : Answer = answerOf t (w .call) in
+        let a : Answer = answerOf t s (w .call) in
         let e : settleOne t s .stations u ≡ setDown t s (w .identity) (w .call) a .stations u = ap (λ (y : Table). y .stations u) (w .settles) in
         elim (set-cases t s (w .identity) u (w .call) a) [
           | inl x ↦ inr (w .identity, w .call, a, e ∙ x .1, ap (t .stations) (x .0) ∙ w .is)
@@ -62,7 +62,7 @@ one-settled : (t : Table) (s : ℕ) → unsettled (settleOne t s .stations s) �
 unfolding unsettled
 one-settled t s = elim (unsettled-cases t s) [
   | inl v ↦ rw (v .1) (v .0)
-  | inr w ↦ ap unsettled (ap (λ (x : Table). x .stations s) (w .settles) ∙ set-same t s (w .identity) (w .call) (answerOf t (w .call)))
+  | inr w ↦ ap unsettled (ap (λ (x : Table). x .stations s) (w .settles) ∙ set-same t s (w .identity) (w .call) (answerOf t s (w .call)))
 ]
 
 settled-each : (ss : List ℕ) (t : Table) → Each (λ s. unsettled (settle ss t .stations s) ≡ false) ss
@@ -75,7 +75,7 @@ pub settled : (t : Table) → Settled (settle eight t)
 settled t u l = each-mem (λ s. unsettled (settle eight t .stations s) ≡ false) eight (settled-each eight t) u (eight-mem u l)
 
 keeps : (P : Table → Type 0)
-    → ((t : Table) (s i : ℕ) (c : Call) → s < 8 → isSearch c ≡ true → t .stations s ≡ unfinished i c none → P t → P (setDown t s i c (answerOf t c)))
+    → ((t : Table) (s i : ℕ) (c : Call) → s < 8 → isSearch c ≡ true → t .stations s ≡ unfinished i c none → P t → P (setDown t s i c (answerOf t s c)))
     → (ss : List ℕ) → Each (λ s. s < 8) ss → (t : Table) → P t → P (settle ss t)
 unfolding settle
 keeps P g [] l t h = h
@@ -86,7 +86,7 @@ keeps P g (s ∷ ss) l t h = keeps P g ss (l .1) (settleOne t s) (elim (unsettle
 
 -- what holds of a table holds of the settled one, if a first moment keeps it
 pub settle-keeps : (P : Table → Type 0)
-    → ((t : Table) (s i : ℕ) (c : Call) → s < 8 → isSearch c ≡ true → t .stations s ≡ unfinished i c none → P t → P (setDown t s i c (answerOf t c)))
+    → ((t : Table) (s i : ℕ) (c : Call) → s < 8 → isSearch c ≡ true → t .stations s ≡ unfinished i c none → P t → P (setDown t s i c (answerOf t s c)))
     → (t : Table) → P t → P (settle eight t)
 settle-keeps P g = keeps P g eight each-eight
 
@@ -96,8 +96,8 @@ unfolding unsettled
 settle-stays t u f = settle-keeps (λ v. v .stations u ≡ t .stations u) stays t refl
   where
     stays : (v : Table) (s i : ℕ) (c : Call) → s < 8 → isSearch c ≡ true → v .stations s ≡ unfinished i c none → v .stations u ≡ t .stations u
-        → setDown v s i c (answerOf v c) .stations u ≡ t .stations u
-    stays v s i c l g e h = elim (set-cases v s i u c (answerOf v c)) [
+        → setDown v s i c (answerOf v s c) .stations u ≡ t .stations u
+    stays v s i c l g e h = elim (set-cases v s i u c (answerOf v s c)) [
       | inl w ↦ absurd (false≢true (sym f ∙ ap unsettled (sym h ∙ ap (v .stations) (w .0) ∙ e) ∙ g))
       | inr w ↦ w .1 ∙ h
     ]

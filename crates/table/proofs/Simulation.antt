@@ -40,7 +40,7 @@ still t s = ask (ltb s 8) 5 t (stillAt t (t .stations s))
 -- what a step that answers leaves of the table; a call with nothing set down has its moment there
 unfoldable pub finished : Table → ℕ → Call → Option Answer → Table
 finished t s c (some a) = withStations t (put (t .stations) s (waiting a))
-finished t s c none = withStations (changedIf (isChange (answerOf t c)) t c) (put (t .stations) s (waiting (answerOf t c)))
+finished t s c none = withStations (changedIf (isChange (answerOf t s c)) t s c) (put (t .stations) s (waiting (answerOf t s c)))
 
 module _ (I : Index) (R : I .State → Table → Type 0) where
   open Index I using (State)
@@ -66,7 +66,7 @@ module _ (I : Index) (R : I .State → Table → Type 0) where
     pub agrees : {st : State} {t : Table} → Sound t → R st t → Agree I st t
     -- the moment of an unfinished nearest call, first thing at the event after its submission
     pub settles : {st : State} {t : Table} {s i : ℕ} {c : Call} → Sound t → s < 8 → isSearch c ≡ true → t .stations s ≡ unfinished i c none → R st t
-        → R st (setDown t s i c (answerOf t c))
+        → R st (setDown t s i c (answerOf t s c))
     pub submits : {st : State} {t : Table} (s kind : ℕ) (p : Point) (c : ℕ) → Sound t → Settled t → R st t
         → Matches (I .submit st s kind p c) (submit t s kind p c)
     pub takes : {st : State} {t : Table} (s : ℕ) → Sound t → Settled t → R st t → Matches (I .take st s) (take t s)
@@ -88,16 +88,16 @@ still-step t s = go (ltb s 8) (t .stations s)
     go true (unfinished i c o) = refl
 
 -- a moment at a step of its own station is always allowed
-own-moment : (t : Table) (s i : ℕ) (c : Call) → t .stations s ≡ unfinished i c none → moment (singleStep s) t s ≡ some (setDown t s i c (answerOf t c))
+own-moment : (t : Table) (s i : ℕ) (c : Call) → t .stations s ≡ unfinished i c none → moment (singleStep s) t s ≡ some (setDown t s i c (answerOf t s c))
 unfolding moment momentAt onlyIf mayFall ownStep
-own-moment t s i c e = rw (e, momentAt, eq-eqb s s refl) (go (isChange (answerOf t c)))
+own-moment t s i c e = rw (e, momentAt, eq-eqb s s refl) (go (isChange (answerOf t s c)))
   where
-    go : (b : Bool) → onlyIf (not b || true) (setDown t s i c (answerOf t c)) ≡ some (setDown t s i c (answerOf t c))
+    go : (b : Bool) → onlyIf (not b || true) (setDown t s i c (answerOf t s c)) ≡ some (setDown t s i c (answerOf t s c))
     go true = refl
     go false = refl
 
 own-list : (t : Table) (s i : ℕ) (c : Call) → t .stations s ≡ unfinished i c none
-    → moments (singleStep s) t (own t (singleStep s) true) ≡ some (setDown t s i c (answerOf t c))
+    → moments (singleStep s) t (own t (singleStep s) true) ≡ some (setDown t s i c (answerOf t s c))
 unfolding own ownAt moments
 own-list t s i c e = rw (e, ownAt) (rw (own-moment t s i c e, moments))
 
@@ -112,7 +112,7 @@ unfolding step stepAt
 step-some t s i c a l e = rw (lt-ltb s 8 l, e, stepAt)
 
 set-finished : (t : Table) (s i : ℕ) (c : Call) (a : Answer)
-    → withStations (setDown t s i c a) (put (setDown t s i c a .stations) s (waiting a)) ≡ withStations (changedIf (isChange a) t c) (put (t .stations) s (waiting a))
+    → withStations (setDown t s i c a) (put (setDown t s i c a .stations) s (waiting a)) ≡ withStations (changedIf (isChange a) t s c) (put (t .stations) s (waiting a))
 unfolding setDown
 set-finished t s i c a = rw (put-put (t .stations) s (unfinished i c (some a)) (waiting a))
 
@@ -121,7 +121,7 @@ pub answer-step : (t : Table) (s i : ℕ) (c : Call) (o : Option Answer) → s <
 unfolding perform finished
 answer-step t s i c (some a) l e = feed-some t (own t (singleStep s) true) (singleStep s) true t (own-none t s i c a e) ∙ step-some t s i c a l e
 answer-step t s i c none l e =
-    let a : Answer = answerOf t c in
+    let a : Answer = answerOf t s c in
     feed-some t (own t (singleStep s) true) (singleStep s) true (setDown t s i c a) (own-list t s i c e) ∙ step-some (setDown t s i c a) s i c a l (set-same t s i c a)
     ∙ ap (λ (u : Table). some (accept u)) (set-finished t s i c a)
 

@@ -113,28 +113,28 @@ full-trim : (seen : ℕ → Bool) (t : Table) → full (trim seen t) ≡ full t
 unfolding full trim
 full-trim seen t = ap (λ (n : ℕ). eqb n (t .places)) (taken-trim seen t)
 
-used-trim : (seen : ℕ → Bool) (t : Table) → usedUp (trim seen t) ≡ usedUp t
+used-trim : (seen : ℕ → Bool) (t : Table) (s : ℕ) → usedUp (trim seen t) s ≡ usedUp t s
 unfolding usedUp trim
-used-trim seen t = refl
+used-trim seen t s = refl
 
-pub answer-trim : (seen : ℕ → Bool) (t : Table) (c : Call) → answerOf (trim seen t) c ≡ answerOf t c
+pub answer-trim : (seen : ℕ → Bool) (t : Table) (s : ℕ) (c : Call) → answerOf (trim seen t) s c ≡ answerOf t s c
 unfolding answerOf trim
-answer-trim seen t (add p c) = rw (full-trim seen t, used-trim seen t)
-answer-trim seen t (remove p) = rw (used-trim seen t)
-answer-trim seen t (contains p) = refl
-answer-trim seen t (nearest p) = refl
+answer-trim seen t s (add p c) = rw (full-trim seen t, used-trim seen t s)
+answer-trim seen t s (remove p) = rw (used-trim seen t s)
+answer-trim seen t s (contains p) = refl
+answer-trim seen t s (nearest p) = refl
 
-changed-trim : (seen : ℕ → Bool) (t : Table) (c : Call) → changed (trim seen t) c ≡ trim seen (changed t c)
+changed-trim : (seen : ℕ → Bool) (t : Table) (s : ℕ) (c : Call) → changed (trim seen t) s c ≡ trim seen (changed t s c)
 unfolding changed trim
-changed-trim seen t (add p c) = refl
-changed-trim seen t (remove p) = rw (searches-kept eight seen (t .stations))
-changed-trim seen t (contains p) = refl
-changed-trim seen t (nearest p) = refl
+changed-trim seen t s (add p c) = refl
+changed-trim seen t s (remove p) = rw (searches-kept eight seen (t .stations))
+changed-trim seen t s (contains p) = refl
+changed-trim seen t s (nearest p) = refl
 
-effect-trim : (b : Bool) (seen : ℕ → Bool) (t : Table) (c : Call) → changedIf b (trim seen t) c ≡ trim seen (changedIf b t c)
+effect-trim : (b : Bool) (seen : ℕ → Bool) (t : Table) (s : ℕ) (c : Call) → changedIf b (trim seen t) s c ≡ trim seen (changedIf b t s c)
 unfolding changedIf
-effect-trim true seen t c = changed-trim seen t c
-effect-trim false seen t c = refl
+effect-trim true seen t s c = changed-trim seen t s c
+effect-trim false seen t s c = refl
 
 -- ## Moments
 
@@ -142,8 +142,8 @@ set-trim : (seen : ℕ → Bool) (t : Table) (s i : ℕ) (c : Call) (a : Answer)
 unfolding setDown trim keepIf
 set-trim seen t s i c a l =
     let x = unfinished i c (some a) in
-    ap (λ (u : Table). withStations u (put (kept seen (t .stations)) s x)) (effect-trim (isChange a) seen t c)
-    ∙ ap (λ (g : ℕ → Station). withStations (changedIf (isChange a) t c) g) (sym (put-kept seen (t .stations) s x (rw (l, keepIf))))
+    ap (λ (u : Table). withStations u (put (kept seen (t .stations)) s x)) (effect-trim (isChange a) seen t s c)
+    ∙ ap (λ (g : ℕ → Station). withStations (changedIf (isChange a) t s c) g) (sym (put-kept seen (t .stations) s x (rw (l, keepIf))))
 
 nearest-code : (p : Point) (o : Option Record) → isChange (nearestAnswer p o) ≡ false
 unfolding isChange nearestAnswer
@@ -151,12 +151,12 @@ nearest-code p none = refl
 nearest-code p (some r) = refl
 
 -- a search changes nothing
-pub search-quiet : (t : Table) (c : Call) → isSearch c ≡ true → isChange (answerOf t c) ≡ false
+pub search-quiet : (t : Table) (s : ℕ) (c : Call) → isSearch c ≡ true → isChange (answerOf t s c) ≡ false
 unfolding answerOf isSearch
-search-quiet t (add p v) e = absurd (false≢true e)
-search-quiet t (remove p) e = absurd (false≢true e)
-search-quiet t (contains p) e = absurd (false≢true e)
-search-quiet t (nearest p) e = nearest-code p (nearestOf p (t .held))
+search-quiet t s (add p v) e = absurd (false≢true e)
+search-quiet t s (remove p) e = absurd (false≢true e)
+search-quiet t s (contains p) e = absurd (false≢true e)
+search-quiet t s (nearest p) e = nearest-code p (nearestOf p (t .held))
 
 only-map : (f : Table → Table) (b : Bool) (t u : Table) → u ≡ f t → onlyIf b u ≡ Option·map f (onlyIf b t)
 unfolding onlyIf
@@ -170,8 +170,8 @@ at-kept ev seen t s idle l = refl
 at-kept ev seen t s (waiting a) l = refl
 at-kept ev seen t s (unfinished i c (some a)) l = refl
 at-kept ev seen t s (unfinished i c none) l =
-    let a : Answer = answerOf t c in
-    rw (answer-trim seen t c) (only-map (trim seen) (mayFall ev s a) (setDown t s i c a) (setDown (trim seen t) s i c a) (set-trim seen t s i c a l))
+    let a : Answer = answerOf t s c in
+    rw (answer-trim seen t s c) (only-map (trim seen) (mayFall ev s a) (setDown t s i c a) (setDown (trim seen t) s i c a) (set-trim seen t s i c a l))
 
 -- a moment whose answer is seen
 pub moment-kept : (ev : Event) (seen : ℕ → Bool) (t : Table) (s : ℕ) → seen s ≡ true → moment ev (trim seen t) s ≡ Option·map (trim seen) (moment ev t s)
@@ -180,9 +180,9 @@ moment-kept ev seen t s l = ap (momentAt ev (trim seen t) s) (kept-same seen t s
 
 -- the moment of a search whose answer is not seen
 pub moment-dropped : (seen : ℕ → Bool) (t : Table) (s i : ℕ) (c : Call) → seen s ≡ false → isSearch c ≡ true → t .stations s ≡ unfinished i c none
-    → trim seen (setDown t s i c (answerOf t c)) ≡ trim seen t
+    → trim seen (setDown t s i c (answerOf t s c)) ≡ trim seen t
 unfolding setDown changedIf trim forget
-moment-dropped seen t s i c l g e = rw (search-quiet t c g, put-forgotten seen (t .stations) s (unfinished i c (some (answerOf t c))) l (rw (e, forget)))
+moment-dropped seen t s i c l g e = rw (search-quiet t s c g, put-forgotten seen (t .stations) s (unfinished i c (some (answerOf t s c))) l (rw (e, forget)))
 
 -- ## Events
 

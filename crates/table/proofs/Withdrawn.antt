@@ -26,7 +26,7 @@ use Rattle.table.proofs.Searched.{submit-accepted, Unanswered, follows-
 still-unfinished : (ev : Event) (ms : List ℕ) (t u : Table) (s i : ℕ) (c : Call) (o : Option Answer) → t .stations s ≡ unfinished i c o → moments ev t ms ≡ some u
     → (w : Option Answer) × (u .stations s ≡ unfinished i c w)
 still-unfinished ev ms t u s i c (some b) e m = (some b, sets-stay ev ms t u s i c b m e)
-still-unfinished ev ms t u s i c none e m = elim (between ev ms t u s i c e m) [ inl x ↦ (none, x) | inr x ↦ (some (answerOf (x .at-moment) c), x .is) ]
+still-unfinished ev ms t u s i c none e m = elim (between ev ms t u s i c e m) [ inl x ↦ (none, x) | inr x ↦ (some (answerOf (x .at-moment) s c), x .is) ]
 
 -- 11 with the point of the call, or a change
 abbrev pub AfterWithdrawal : Call → Answer → Type 0

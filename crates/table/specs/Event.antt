@@ -54,7 +54,7 @@ enter t s c = record {
   places = t .places;
   limit = t .limit;
   held = t .held;
-  changes = t .changes;
+  counters = t .counters;
   removals = t .removals;
   calls = t .calls + 1;
   stations = put (t .stations) s (unfinished (t .calls) c none);
@@ -70,7 +70,7 @@ submit t s kind p c =
 
 -- the call's answer is set down, with what it changes (Rules 4.10)
 unfoldable pub setDown : Table → ℕ → ℕ → Call → Answer → Table
-setDown t s i c a = withStations (changedIf (isChange a) t c) (put (t .stations) s (unfinished i c (some a)))
+setDown t s i c a = withStations (changedIf (isChange a) t s c) (put (t .stations) s (unfinished i c (some a)))
 
 -- the event is a step of the station
 unfoldable pub ownStep : Event → ℕ → Bool
@@ -101,7 +101,7 @@ unfoldable pub momentAt : Event → Table → ℕ → Station → Option Table
 momentAt ev t s idle = none
 momentAt ev t s (waiting a) = none
 momentAt ev t s (unfinished i c (some a)) = none
-momentAt ev t s (unfinished i c none) = onlyIf (mayFall ev s (answerOf t c)) (setDown t s i c (answerOf t c))
+momentAt ev t s (unfinished i c none) = onlyIf (mayFall ev s (answerOf t s c)) (setDown t s i c (answerOf t s c))
 
 -- the moment of the station's call
 unfoldable pub moment : Event → Table → ℕ → Option Table
