@@ -1,22 +1,24 @@
--- The common record has four parts: what opening writes, the counts, the tracks and the targets of the stations. What is written in one of them is
--- not seen in another.
+-- The common record has five parts: what opening writes, the counts, and the tracks, the counters and the targets of the stations. What is written in one
+-- of them is not seen in another.
 -- Assumes nothing.
 use mathlib.Core.Path.{_≡_}
 use mathlib.Core.List.{List}
 use Prim.Native.Nat.{ℕ}
 use native.Mathlib.Omega.{arith}
 use Rattle.points.specs.declared.point.Point.{Point}
-use Rattle.words.specs.Layout.{atCounts, atCursor, atTarget}
+use Rattle.words.specs.Layout.{atCounts, atCursor, atCounter, atTarget}
 use Rattle.words.proofs.AgreeLaws.{only-apart}
 use Rattle.stations.specs.declared.counts.Counts.{Counts}
 use Rattle.stations.specs.declared.track.Track.{Track}
 use Rattle.stations.specs.Counts.{countsAt, putCounts}
 use Rattle.stations.specs.Track.{trackAt, putTrack}
+use Rattle.stations.specs.Counter.{counterAt, changeCounted}
 use Rattle.stations.specs.Target.{targetAt, putTarget}
 use Rattle.stations.specs.Common.{openedIn, putOpening}
 use Rattle.stations.proofs.OpeningLaws.{opened-first, putOpening-words}
 use Rattle.stations.proofs.CountLaws.{counts-words, putCounts-words}
 use Rattle.stations.proofs.TrackLaws.{track-words, putTrack-words}
+use Rattle.stations.proofs.CounterLaws.{counter-words, counted-words}
 use Rattle.stations.proofs.TargetLaws.{target-words, putTarget-words}
 
 -- ---- what opening writes
@@ -28,6 +30,10 @@ module _ (w : List ℕ) (places limit : ℕ) where
   pub track-putOpening : (u : ℕ) → trackAt (putOpening w places limit) u ≡ trackAt w u
   unfolding atCursor
   track-putOpening u = track-words u (only-apart (putOpening-words w places limit) (atCursor 0) 32 (λ k h l h′ l′. omega arith))
+
+  pub counter-putOpening : (u : ℕ) → counterAt (putOpening w places limit) u ≡ counterAt w u
+  unfolding atCounter
+  counter-putOpening u = counter-words u (only-apart (putOpening-words w places limit) (atCounter 0) 8 (λ k h l h′ l′. omega arith))
 
   pub target-putOpening : (u : ℕ) → targetAt (putOpening w places limit) u ≡ targetAt w u
   unfolding atTarget
@@ -43,6 +49,10 @@ module _ (w : List ℕ) (counts : Counts) where
   unfolding atCounts atCursor
   track-putCounts u = track-words u (only-apart (putCounts-words w counts) (atCursor 0) 32 (λ k h l h′ l′. omega arith))
 
+  pub counter-putCounts : (u : ℕ) → counterAt (putCounts w counts) u ≡ counterAt w u
+  unfolding atCounts atCounter
+  counter-putCounts u = counter-words u (only-apart (putCounts-words w counts) (atCounter 0) 8 (λ k h l h′ l′. omega arith))
+
   pub target-putCounts : (u : ℕ) → targetAt (putCounts w counts) u ≡ targetAt w u
   unfolding atCounts atTarget
   target-putCounts u = target-words u (only-apart (putCounts-words w counts) (atTarget 0) 32 (λ k h l h′ l′. omega arith))
@@ -57,9 +67,31 @@ module _ (w : List ℕ) (s : ℕ) (track : Track) where
   unfolding atCounts atCursor
   counts-putTrack = counts-words (only-apart (putTrack-words w s track) atCounts 6 (λ k h l h′ l′. omega arith))
 
+  pub counter-putTrack : (u : ℕ) → counterAt (putTrack w s track) u ≡ counterAt w u
+  unfolding atCursor atCounter
+  counter-putTrack u = counter-words u (only-apart (putTrack-words w s track) (atCounter 0) 8 (λ k h l h′ l′. omega arith))
+
   pub target-putTrack : (u : ℕ) → targetAt (putTrack w s track) u ≡ targetAt w u
   unfolding atCursor atTarget
   target-putTrack u = target-words u (only-apart (putTrack-words w s track) (atTarget 0) 32 (λ k h l h′ l′. omega arith))
+
+-- ---- a counter
+module _ (w : List ℕ) (s : ℕ) where
+  pub opened-counted : openedIn (changeCounted w s) ≡ openedIn w
+  unfolding atCounter
+  opened-counted = opened-first (only-apart (counted-words w s) 0 3 (λ k h l h′ l′. omega arith))
+
+  pub counts-counted : countsAt (changeCounted w s) ≡ countsAt w
+  unfolding atCounts atCounter
+  counts-counted = counts-words (only-apart (counted-words w s) atCounts 6 (λ k h l h′ l′. omega arith))
+
+  pub track-counted : (u : ℕ) → trackAt (changeCounted w s) u ≡ trackAt w u
+  unfolding atCursor atCounter
+  track-counted u = track-words u (only-apart (counted-words w s) (atCursor 0) 32 (λ k h l h′ l′. omega arith))
+
+  pub target-counted : (u : ℕ) → targetAt (changeCounted w s) u ≡ targetAt w u
+  unfolding atCounter atTarget
+  target-counted u = target-words u (only-apart (counted-words w s) (atTarget 0) 32 (λ k h l h′ l′. omega arith))
 
 -- ---- a target
 module _ (w : List ℕ) (s : ℕ) (p : Point) where
@@ -74,3 +106,7 @@ module _ (w : List ℕ) (s : ℕ) (p : Point) where
   pub track-putTarget : (u : ℕ) → trackAt (putTarget w s p) u ≡ trackAt w u
   unfolding atCursor atTarget
   track-putTarget u = track-words u (only-apart (putTarget-words w s p) (atCursor 0) 32 (λ k h l h′ l′. omega arith))
+
+  pub counter-putTarget : (u : ℕ) → counterAt (putTarget w s p) u ≡ counterAt w u
+  unfolding atCounter atTarget
+  counter-putTarget u = counter-words u (only-apart (putTarget-words w s p) (atCounter 0) 8 (λ k h l h′ l′. omega arith))

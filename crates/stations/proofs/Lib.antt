@@ -9,6 +9,7 @@ pub mod SoundLaws
 pub mod OpeningLaws
 pub mod CountLaws
 pub mod TrackLaws
+pub mod CounterLaws
 pub mod TargetLaws
 pub mod FieldLaws
 pub mod OpenLaws

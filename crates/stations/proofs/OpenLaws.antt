@@ -1,22 +1,23 @@
--- What opening writes of the records: zero in every word of them, so that every station is idle (`state-cleared`), and mark, places and limit, so that the
+-- What opening writes of the records: zero in every word of them, so that every station is idle (`state-cleared`) and has made no change, and mark, places and limit, so that the
 -- slice is opened (`opened-begun`). The words beyond the records stay.
 -- Assumes nothing.
-use mathlib.Core.Path.{_≡_, _∙_}
-use mathlib.Core.Bool.{true}
+use mathlib.Core.Path.{_≡_, refl, _∙_}
+use mathlib.Core.Bool.{Bool, true, false, cond}
 use mathlib.Core.List.{List}
 use Prim.Native.Nat.{ℕ, zero, suc, _≤_, _<_}
 use native.Mathlib.Omega.{arith}
 use native.Mathlib.Decide.{ℕ-discrete}
 use lib.ListN.{length}
-use Rattle.words.specs.Layout.{stations, records, wordsFor, atMark, atPlaces, atLimit, atStation}
+use Rattle.words.specs.Layout.{stations, records, wordsFor, atMark, atPlaces, atLimit, atCounter, atStation}
 use Rattle.words.specs.Words.{get, put}
 use Rattle.words.specs.Agree.{inCommon, inStation, Beyond}
 use Rattle.words.proofs.WordLaws.{length-put, get-put-same, get-put-other}
 use Rattle.words.proofs.AgreeLaws.{elsewhere, station-common}
 use Rattle.words.proofs.BeyondLaws.{beyond-refl, beyond-common}
-use Rattle.stations.specs.Station.{idle, stateAt}
+use Rattle.stations.specs.Station.{idle, hasStation, stateAt}
+use Rattle.stations.specs.Counter.{counterAt}
 use Rattle.stations.specs.Common.{mark, placesIn, limitIn, markAt, placesAt, limitAt, Opened, openedIn, cleared, recordsCleared, putOpening}
-use Rattle.stations.proofs.StationLaws.{there-of}
+use Rattle.stations.proofs.StationLaws.{There, there-of, there-tells}
 use Rattle.stations.proofs.OpeningLaws.{places-tells, limit-tells, opened-of, putOpening-only, length-putOpening}
 use Rattle.stations.proofs.RecordLaws.{stateAt-is, stateAt-agree}
 
@@ -53,6 +54,15 @@ module _ (w : List ℕ) where
   state-cleared h s l =
       stateAt-is (recordsCleared w) s (there-of (recordsCleared w) s (record { station = l; long = omega (arith, length-cleared) }))
       ∙ (λ i. record { word = first-zero records w h (atStation s) (omega arith) i })
+
+  -- and has made no change
+  pub counter-cleared : records ≤ length w → (s : ℕ) → counterAt (recordsCleared w) s ≡ 0
+  unfolding counterAt recordsCleared atCounter
+  counter-cleared h s = go (hasStation (recordsCleared w) s) (there-tells (recordsCleared w) s)
+    where
+      go : (b : Bool) → (b ≡ true → There (recordsCleared w) s) → cond b (get (recordsCleared w) (atCounter s)) 0 ≡ 0
+      go true f = first-zero records w h (atCounter s) (omega (arith, f refl .station))
+      go false f = refl
 
 -- ---- mark, places and limit
 module _ (w : List ℕ) (places limit : ℕ) where

@@ -5,24 +5,25 @@ use mathlib.Core.Bool.{Bool, true, false, cond, _&&_, _||_}
 use lib.ListN.{length}
 use lib.Dec.{eqb, leb, ltb}
 use Rattle.points.specs.Word.{NONE}
-use Rattle.words.specs.Layout.{records, mostPlaces, mostLimit, wordsFor, atMark, atPlaces, atLimit}
+use Rattle.words.specs.Layout.{stations, records, mostPlaces, mostLimit, wordsFor, atMark, atPlaces, atLimit}
 use Rattle.words.specs.Words.{get, put}
 use Rattle.words.specs.Range.{linkIn}
 use Rattle.stations.specs.declared.track.Track.{Track}
 use Rattle.stations.specs.Counts.{countsAt}
+use Rattle.stations.specs.Counter.{greatestCounter}
 use Rattle.stations.specs.Track.{trackAt}
 
 -- ---- question 4
 
 -- the mark that opening writes
 abbrev pub mark : ℕ
-mark = 1279683398
+mark = 1279683399
 
 -- places 1 to 4,096
 unfoldable pub placesIn : ℕ → Bool
 placesIn places = leb 1 places && leb places mostPlaces
 
--- change limit 1 to 4,000,000,000
+-- change limit 1 to 500,000,000
 unfoldable pub limitIn : ℕ → Bool
 limitIn limit = leb 1 limit && leb limit mostLimit
 
@@ -74,10 +75,14 @@ putOpening words places limit = put (put (put words atMark mark) atPlaces places
 
 -- ---- the ranges of the fields (Rules 7.10)
 
--- counts, root, head and tail are in range
+-- no counter is above the limit
+unfoldable pub countersIn : List ℕ → Bool
+countersIn words = leb (greatestCounter words stations) (limitAt words)
+
+-- counts, root, head and tail are in range; the changes are those of eight stations
 unfoldable pub countsIn : List ℕ → ℕ → Bool
 countsIn words rows =
-    ((((leb (countsAt words .changes) (limitAt words) && leb (countsAt words .held) (placesAt words))
+    ((((leb (countsAt words .changes) (stations * limitAt words) && leb (countsAt words .held) (placesAt words))
     && leb (countsAt words .removals) (countsAt words .changes))
     && linkIn rows (countsAt words .root))
     && ltb (countsAt words .head) rows)
@@ -101,7 +106,7 @@ tracksIn words rows removals = eight (λ s. trackIn rows removals (trackAt words
 
 -- the records are there, and every field of the common record is in range, for an index of so many rows
 unfoldable pub commonSound : List ℕ → ℕ → Bool
-commonSound words rows = cond (leb records (length words)) (countsIn words rows && tracksIn words rows (countsAt words .removals)) false
+commonSound words rows = cond (leb records (length words)) ((countsIn words rows && countersIn words) && tracksIn words rows (countsAt words .removals)) false
 
 -- ---- places taken
 

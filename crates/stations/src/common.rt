@@ -1,4 +1,5 @@
 // The common record: question 4, what opening writes of it, the check of its fields, and the places taken.
+use crate::counter::greatest_counter;
 use crate::counts::read_counts;
 use crate::track::read_track;
 use words::layout::AT_LIMIT;
@@ -8,6 +9,7 @@ use words::layout::MOST_LIMIT;
 use words::layout::MOST_PLACES;
 use words::layout::NONE;
 use words::layout::RECORDS;
+use words::layout::STATIONS;
 use words::layout::words_for;
 use words::word::get;
 use words::word::link_in;
@@ -17,10 +19,10 @@ ghost use Prim.Native.Nat.{_+_, _≤_, min};
 ghost use Rattle.words.specs.Layout.{stations};
 ghost use Rattle.stations.specs.Track.{trackAt};
 ghost use Rattle.stations.specs.Common.{placesIn, limitIn, placesAt, limitAt, openIn, openedIn, isOpened, rowsIn, recordsCleared, putOpening};
-ghost use Rattle.stations.specs.Common.{countsIn, sinceIn, trackIn, tracksIn, commonSound, leastFour, leastSince, awaitingIn, takenIn};
+ghost use Rattle.stations.specs.Common.{countsIn, countersIn, sinceIn, trackIn, tracksIn, commonSound, leastFour, leastSince, awaitingIn, takenIn};
 
 // The mark that opening writes.
-const MARK: u32 = 1279683398;
+const MARK: u32 = 1279683399;
 
 // Places are 1 to 4,096.
 pub fn places_in(places: u32) -> bool
@@ -29,7 +31,7 @@ pub fn places_in(places: u32) -> bool
     (1 <= places) & (places <= MOST_PLACES)
 }
 
-// The change limit is 1 to 4,000,000,000.
+// The change limit is 1 to 500,000,000.
 pub fn limit_in(limit: u32) -> bool
     ensures { λ r. ⌜ r ≡ limitIn limit ⌝ }
 {
@@ -97,17 +99,24 @@ pub fn write_opening(words: &mut [u32], places: u32, limit: u32)
     put(words, AT_LIMIT, limit);
 }
 
-// Whether counts, root, head and tail are in range.
+// Whether counts, root, head and tail are in range; the changes are those of eight stations.
 fn counts_in(words: &[u32], rows: u32) -> bool
     ensures { λ r. ⌜ r ≡ countsIn (now (words .entry)) rows ⌝ }
 {
     let counts = read_counts(words);
-    (counts.changes <= read_limit(words))
+    ((counts.changes as u64) <= (STATIONS as u64) * (read_limit(words) as u64))
         & (counts.held <= read_places(words))
         & (counts.removals <= counts.changes)
         & link_in(rows, counts.root)
         & (counts.head < rows)
         & (counts.tail < rows)
+}
+
+// Whether no counter is above the limit.
+fn counters_in(words: &[u32]) -> bool
+    ensures { λ r. ⌜ r ≡ countersIn (now (words .entry)) ⌝ }
+{
+    greatest_counter(words) <= read_limit(words)
 }
 
 // A since word is none or at most the removals.
@@ -147,7 +156,9 @@ pub fn common_sound(words: &[u32], rows: u32) -> bool
     ensures { λ r. ⌜ r ≡ commonSound (now (words .entry)) rows ⌝ }
 {
     if RECORDS <= words.len() {
-        counts_in(words, rows) & tracks_in(words, rows, read_counts(words).removals)
+        counts_in(words, rows)
+            & counters_in(words)
+            & tracks_in(words, rows, read_counts(words).removals)
     } else {
         false
     }

@@ -2,6 +2,7 @@
 pub mod answer;
 pub mod call;
 pub mod common;
+pub mod counter;
 pub mod counts;
 pub mod station;
 pub mod target;

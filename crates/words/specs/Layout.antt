@@ -31,9 +31,9 @@ mostPlaces = 4096
 abbrev pub mostRows : ℕ
 mostRows = 2 * mostPlaces
 
--- the greatest change limit
+-- the greatest change limit, which each station may use up
 abbrev pub mostLimit : ℕ
-mostLimit = 4000000000
+mostLimit = 500000000
 
 -- the greatest curve number
 abbrev pub mostCurve : ℕ
@@ -76,6 +76,10 @@ atSince s = 32 + s
 -- the first row freed since that submission that its search has not looked at
 unfoldable pub atMissed : ℕ → ℕ
 atMissed s = 40 + s
+
+-- its counter: the changes that it has made since opening
+unfoldable pub atCounter : ℕ → ℕ
+atCounter s = 56 + s
 
 -- the four words of the target of its last search: weight, speed, draw, and grade and moisture in one
 unfoldable pub atTarget : ℕ → ℕ

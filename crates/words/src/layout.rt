@@ -1,6 +1,6 @@
 // Sizes, by name, and where each word of the slice stands.
 ghost use mathlib.Core.Path.{_≡_};
-ghost use Rattle.words.specs.Layout.{wordsFor, atCursor, atPhase, atSince, atMissed, atTarget, atStation, atCall, atBest, atAnswer, atRow};
+ghost use Rattle.words.specs.Layout.{wordsFor, atCursor, atPhase, atSince, atMissed, atCounter, atTarget, atStation, atCall, atBest, atAnswer, atRow};
 
 // The word for none, which is no row.
 pub const NONE: u32 = 4294967295;
@@ -23,8 +23,8 @@ pub const MOST_PLACES: u32 = 4096;
 
 pub const MOST_ROWS: u32 = 2 * MOST_PLACES;
 
-// The greatest change limit, and the greatest curve number.
-pub const MOST_LIMIT: u32 = 4000000000;
+// The greatest change limit, which each station may use up, and the greatest curve number.
+pub const MOST_LIMIT: u32 = 500000000;
 
 pub const MOST_CURVE: u32 = 999999;
 
@@ -44,7 +44,7 @@ pub fn words_for(places: u32) -> usize
     2 * ROW_SIZE * (places as usize) + RECORDS
 }
 
-// The words of a station in the common record: four of its track, and four of the target of its last search.
+// The words of a station in the common record: four of its track, its counter, and four of the target of its last search.
 pub fn at_cursor(s: u32) -> usize
     ensures { λ r. ⌜ r ≡ atCursor s ⌝ }
 {
@@ -67,6 +67,12 @@ pub fn at_missed(s: u32) -> usize
     ensures { λ r. ⌜ r ≡ atMissed s ⌝ }
 {
     40 + (s as usize)
+}
+
+pub fn at_counter(s: u32) -> usize
+    ensures { λ r. ⌜ r ≡ atCounter s ⌝ }
+{
+    56 + (s as usize)
 }
 
 pub fn at_target(s: u32) -> usize
