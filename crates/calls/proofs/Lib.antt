@@ -9,6 +9,7 @@ pub mod QueueLaws
 pub mod Questions
 pub mod SubmitLaws
 pub mod UnseenLaws
+pub mod ChangeLaws
 pub mod SearchNeeds
 pub mod WalkNeeds
 pub mod NeedLaws

@@ -239,7 +239,7 @@ module _ (words : List ℕ) (rows s : ℕ) (most : rows ≤ mostRows) (call : Ca
 
   -- at a row that is no cut
   end-needs : (at : ℕ) → ask (eqb at NONE || isLeaf (rowAt words rows at)) unsound words (conclude words rows s call at (rowAt words rows at)) .number
-      ≡ cond (allMet words rows (unless (eqb at NONE) (leafAt at ∷ []) ++ answerNeeds words rows at (codeAt words call (rowAt words rows at)))) 0 unsound
+      ≡ cond (allMet words rows (unless (eqb at NONE) (leafAt at ∷ []) ++ answerNeeds words rows at (codeAt words s call (rowAt words rows at)))) 0 unsound
   unfolding conclude allMet
   end-needs at = go (eqb at NONE) (isLeaf row) refl
     where
@@ -247,7 +247,7 @@ module _ (words : List ℕ) (rows s : ℕ) (most : rows ≤ mostRows) (call : Ca
       row = rowAt words rows at
 
       code : ℕ
-      code = codeAt words call row
+      code = codeAt words s call row
 
       needs : List Need
       needs = answerNeeds words rows at code
@@ -276,7 +276,7 @@ module _ (words : List ℕ) (rows s : ℕ) (most : rows ≤ mostRows) (call : Ca
           → pickReply c (walkTo words s call way) (ask (eqb at NONE || isLeaf (rowAt words rows at)) unsound words (conclude words rows s call at (rowAt words rows at))) .number
           ≡ cond
           (allMet words rows
-          (pickNeeds c (wayNeeds way) (unless (eqb at NONE) (leafAt at ∷ []) ++ answerNeeds words rows at (codeAt words call (rowAt words rows at)))))
+          (pickNeeds c (wayNeeds way) (unless (eqb at NONE) (leafAt at ∷ []) ++ answerNeeds words rows at (codeAt words s call (rowAt words rows at)))))
           0
           unsound
       go true = down-number (eqb (way .to) NONE) _ ∙ ap (λ (b : Bool). cond b 0 unsound) (way-needs words rows most (call .point) at)

@@ -9,6 +9,7 @@ use Rattle.stations.specs.Track.{trackAt, putTrack, standing}
 use Rattle.stations.specs.declared.counts.Counts.{Counts}
 use Rattle.stations.specs.declared.track.Track.{Track}
 use Rattle.stations.specs.Counts.{countsAt, putCounts}
+use Rattle.stations.specs.Counter.{changeCounted}
 use Rattle.points.specs.declared.point.Point.{Point}
 use Rattle.points.specs.declared.cut.Cut.{Cut as PointCut}
 use Rattle.points.specs.Cut.{cutOf, goesLeft}
@@ -100,8 +101,9 @@ countInserted site counts = record {
   removals = counts .removals;
 }
 
-unfoldable pub insertCounts : List ℕ → Site → List ℕ
-insertCounts words site = putCounts words (countInserted site (countsAt words))
+-- for the index, and for the station that adds
+unfoldable pub insertCounts : List ℕ → ℕ → Site → List ℕ
+insertCounts words s site = changeCounted (putCounts words (countInserted site (countsAt words))) s
 
 -- a track with its cursor moved where that stands on the row gone
 unfoldable pub cursorTo : ℕ → ℕ → Track → Track
@@ -116,16 +118,16 @@ unfoldable pub cursorsMoved : ℕ → ℕ → ℕ → List ℕ → List ℕ
 cursorsMoved gone to zero words = words
 cursorsMoved gone to (suc n) words = cursorMoved gone to n (cursorsMoved gone to n words)
 
-unfoldable pub insertWords : List ℕ → Site → Point → ℕ → List ℕ
-insertWords words site point curve =
-    insertRows (cursorsMoved (site .at) (site .second) stations (insertCounts words site)) site (more (countsAt words .changes)) point curve
+unfoldable pub insertWords : List ℕ → ℕ → Site → Point → ℕ → List ℕ
+insertWords words s site point curve =
+    insertRows (cursorsMoved (site .at) (site .second) stations (insertCounts words s site)) site (more (countsAt words .changes)) point curve
 
 -- ---- the insert
 
 abbrev pub insertTo : List ℕ → ℕ → Call → Site → Reply
 insertTo words s call site =
     ask (siteSound site) unsound words
-    (done (answeredWords (insertWords words site (call .point) (call .curve)) s (answer codeAdded (call .point) (call .curve) 0)))
+    (done (answeredWords (insertWords words s site (call .point) (call .curve)) s (answer codeAdded (call .point) (call .curve) 0)))
 
 unfoldable pub insertOf : List ℕ → ℕ → ℕ → Call → ℕ → Reply
 insertOf words rows s call at = insertTo words s call (siteAt words rows at)

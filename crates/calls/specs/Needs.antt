@@ -107,7 +107,7 @@ unfoldable pub walkNeeds : List ℕ → ℕ → ℕ → Call → List Need
 walkNeeds words rows s call =
     let at = standsAt words s in
     pickNeeds (isCut (rowAt words rows at)) (wayNeeds (wayOf words rows (call .point) at))
-    (unless (eqb at NONE) (leafAt at ∷ []) ++ answerNeeds words rows at (codeAt words call (rowAt words rows at)))
+    (unless (eqb at NONE) (leafAt at ∷ []) ++ answerNeeds words rows at (codeAt words s call (rowAt words rows at)))
 
 -- ---- a nearest
 

@@ -9,6 +9,7 @@ use Rattle.stations.specs.Track.{trackAt, putTrack}
 use Rattle.stations.specs.declared.counts.Counts.{Counts}
 use Rattle.stations.specs.declared.track.Track.{Track}
 use Rattle.stations.specs.Counts.{countsAt, putCounts}
+use Rattle.stations.specs.Counter.{changeCounted}
 use Rattle.points.specs.declared.point.Point.{Point}
 use Rattle.points.specs.Cut.{goesLeft}
 use Rattle.points.specs.Word.{NONE}
@@ -86,8 +87,9 @@ countUnlinked a counts = record {
   removals = more (counts .removals);
 }
 
-unfoldable pub unlinkCounts : List ℕ → Around → List ℕ
-unlinkCounts words a = putCounts words (countUnlinked a (countsAt words))
+-- for the index, and for the station that removes
+unfoldable pub unlinkCounts : List ℕ → ℕ → Around → List ℕ
+unlinkCounts words s a = changeCounted (putCounts words (countUnlinked a (countsAt words))) s
 
 -- the phase in which a search that stood at the leaf goes on at the other child of the cut: down where the leaf was the near child for its target, since
 -- the other is still to be seen; up where it was the far one, since the near one comes first. Down where the leaf had no cut over it.
@@ -130,15 +132,15 @@ unfoldable pub stationsMoved : Around → ℕ → List ℕ → List ℕ
 stationsMoved a zero words = words
 stationsMoved a (suc n) words = stationMoved (stationsMoved a n words) n a
 
-unfoldable pub unlinkWords : List ℕ → Around → List ℕ
-unlinkWords words a = unlinkRows (stationsMoved a stations (unlinkCounts words a)) a (more (countsAt words .removals))
+unfoldable pub unlinkWords : List ℕ → ℕ → Around → List ℕ
+unlinkWords words s a = unlinkRows (stationsMoved a stations (unlinkCounts words s a)) a (more (countsAt words .removals))
 
 -- ---- the unlink
 
 abbrev pub unlinkTo : List ℕ → ℕ → Call → Around → Reply
 unlinkTo words s call a =
     ask (aroundSound a && leb 1 (countsAt words .held)) unsound words
-    (done (answeredWords (unlinkWords words a) s (answer codeRemoved (call .point) (leafCurve (a .leaf)) 0)))
+    (done (answeredWords (unlinkWords words s a) s (answer codeRemoved (call .point) (leafCurve (a .leaf)) 0)))
 
 unfoldable pub unlinkOf : List ℕ → ℕ → ℕ → Call → ℕ → Reply
 unlinkOf words rows s call at = unlinkTo words s call (aroundAt words rows at)

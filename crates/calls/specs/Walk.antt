@@ -8,6 +8,7 @@ use Rattle.stations.specs.Call.{addKind, removeKind}
 use Rattle.words.specs.Refusal.{unsound}
 use Rattle.stations.specs.Track.{trackAt, putTrack, standing}
 use Rattle.stations.specs.Counts.{countsAt}
+use Rattle.stations.specs.Counter.{counterAt}
 use Rattle.points.specs.declared.point.Point.{Point}
 use Rattle.points.specs.Cut.{goesLeft}
 use Rattle.points.specs.Word.{NONE}
@@ -82,10 +83,10 @@ codeOf kind held spent full =
     cond (eqb kind addKind) (cond held codeHeld (cond spent codeSpent (cond full codeFull codeAdded)))
     (cond (eqb kind removeKind) (cond held (cond spent codeSpent codeRemoved) codeMissing) (cond held codeContained codeMissing))
 
--- the code of a call that ends its walk at this row
-unfoldable pub codeAt : List ℕ → Call → Row → ℕ
-codeAt words call row =
-    codeOf (call .kind) (holdsPoint (call .point) row) (eqb (countsAt words .changes) (limitAt words)) (leb (placesAt words) (takenIn words))
+-- the code of a call of station s that ends its walk at this row; the counter of its own station says whether its changes are used up (Rules 3.2)
+unfoldable pub codeAt : List ℕ → ℕ → Call → Row → ℕ
+codeAt words s call row =
+    codeOf (call .kind) (holdsPoint (call .point) row) (eqb (counterAt words s) (limitAt words)) (leb (placesAt words) (takenIn words))
 
 -- the answer of a code that is no change: with the held curve in 2 and 7
 unfoldable pub plainAnswer : Call → ℕ → Row → Answer
@@ -97,7 +98,7 @@ concludeAs words rows s call at row code =
     (pickReply (eqb code codeRemoved) (unlinkOf words rows s call at) (done (answeredWords words s (plainAnswer call code row))))
 
 unfoldable pub conclude : List ℕ → ℕ → ℕ → Call → ℕ → Row → Reply
-conclude words rows s call at row = concludeAs words rows s call at row (codeAt words call row)
+conclude words rows s call at row = concludeAs words rows s call at row (codeAt words s call row)
 
 -- ---- one step
 

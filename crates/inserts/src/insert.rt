@@ -20,6 +20,7 @@ use rows::row::write_row;
 use stations::answer::Answer;
 use stations::answer::CODE_ADDED;
 use stations::call::Call;
+use stations::counter::count_change;
 use stations::counts::Counts;
 use stations::counts::read_counts;
 use stations::counts::write_counts;
@@ -155,12 +156,13 @@ fn counted(site: Site, counts: Counts) -> Counts
     }
 }
 
-// Writes the counts afterwards.
-fn count(words: &mut [u32], site: Site)
-    ensures { λ _. ⌜ now (words .exit) ≡ insertCounts (now (words .entry)) site ⌝ }
+// Writes the counts afterwards, and counts a change of station s.
+fn count(words: &mut [u32], s: u32, site: Site)
+    ensures { λ _. ⌜ now (words .exit) ≡ insertCounts (now (words .entry)) s site ⌝ }
 {
     let counts = read_counts(words);
     write_counts(words, counted(site, counts));
+    count_change(words, s);
 }
 
 // A track with its cursor moved where that stands on the row `gone`.
@@ -195,11 +197,11 @@ fn move_cursors(words: &mut [u32], gone: u32, to: u32)
 }
 
 // Everything but the answer: counts, cursors, rows. Cursors on the old leaf move to the cut above it.
-fn change(words: &mut [u32], site: Site, point: Point, curve: u32)
-    ensures { λ _. ⌜ now (words .exit) ≡ insertWords (now (words .entry)) site point curve ⌝ }
+fn change(words: &mut [u32], s: u32, site: Site, point: Point, curve: u32)
+    ensures { λ _. ⌜ now (words .exit) ≡ insertWords (now (words .entry)) s site point curve ⌝ }
 {
     let added = more(read_counts(words).changes);
-    count(words, site);
+    count(words, s, site);
     move_cursors(words, site.at, site.second);
     write_rows(words, site, added, point, curve);
 }
@@ -211,7 +213,7 @@ pub fn insert(words: &mut [u32], rows: u32, s: u32, call: Call, at: u32) -> u32
     let site = gather(words, rows, at);
     let point = call.point;
     if sound(site) {
-        change(words, site, point, call.curve);
+        change(words, s, site, point, call.curve);
         let answer = Answer {
             code: CODE_ADDED,
             point: point,

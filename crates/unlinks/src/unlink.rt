@@ -22,6 +22,7 @@ use rows::row::write_row;
 use stations::answer::Answer;
 use stations::answer::CODE_REMOVED;
 use stations::call::Call;
+use stations::counter::count_change;
 use stations::counts::Counts;
 use stations::counts::read_counts;
 use stations::counts::write_counts;
@@ -149,12 +150,13 @@ fn counted(a: Around, counts: Counts) -> Counts
     }
 }
 
-// Writes the counts afterwards.
-fn count(words: &mut [u32], a: Around)
-    ensures { λ _. ⌜ now (words .exit) ≡ unlinkCounts (now (words .entry)) a ⌝ }
+// Writes the counts afterwards, and counts a change of station s.
+fn count(words: &mut [u32], s: u32, a: Around)
+    ensures { λ _. ⌜ now (words .exit) ≡ unlinkCounts (now (words .entry)) s a ⌝ }
 {
     let counts = read_counts(words);
     write_counts(words, counted(a, counts));
+    count_change(words, s);
 }
 
 // Where a call stands afterwards: at the other child, where it stood at the leaf or at the cut over it.
@@ -259,11 +261,11 @@ fn move_stations(words: &mut [u32], a: Around)
 }
 
 // Everything that the removal writes but the answer.
-fn change(words: &mut [u32], a: Around)
-    ensures { λ _. ⌜ now (words .exit) ≡ unlinkWords (now (words .entry)) a ⌝ }
+fn change(words: &mut [u32], s: u32, a: Around)
+    ensures { λ _. ⌜ now (words .exit) ≡ unlinkWords (now (words .entry)) s a ⌝ }
 {
     let number = more(read_counts(words).removals);
-    count(words, a);
+    count(words, s, a);
     move_stations(words, a);
     write_rows(words, a, number);
 }
@@ -282,7 +284,7 @@ pub fn unlink(words: &mut [u32], rows: u32, s: u32, call: Call, at: u32) -> u32
             curve: leaf_curve(leaf),
             square: 0,
         };
-        change(words, a);
+        change(words, s, a);
         write_answered(words, s, answer);
         0
     } else {

@@ -26,6 +26,7 @@ use stations::call::REMOVE_KIND;
 use stations::common::read_limit;
 use stations::common::read_places;
 use stations::common::taken;
+use stations::counter::read_counter;
 use stations::counts::read_counts;
 use stations::track::Track;
 use stations::track::read_track;
@@ -167,12 +168,12 @@ fn code_of(kind: u32, held: bool, spent: bool, full: bool) -> u32
     )
 }
 
-// The code of a call that ends its walk at this row.
-fn code_at(words: &[u32], call: Call, row: Row) -> u32
-    ensures { λ r. ⌜ r ≡ codeAt (now (words .entry)) call row ⌝ }
+// The code of a call of station s that ends its walk at this row; the counter of its own station says whether its changes are used up.
+fn code_at(words: &[u32], s: u32, call: Call, row: Row) -> u32
+    ensures { λ r. ⌜ r ≡ codeAt (now (words .entry)) s call row ⌝ }
 {
     let held = holds_point(call.point, row);
-    let spent = read_counts(words).changes == read_limit(words);
+    let spent = read_counter(words, s) == read_limit(words);
     let full = (read_places(words) as u64) <= taken(words);
     code_of(call.kind, held, spent, full)
 }
@@ -198,7 +199,7 @@ fn plain_answer(call: Call, code: u32, row: Row) -> Answer
 fn conclude(words: &mut [u32], rows: u32, s: u32, call: Call, at: u32, row: Row) -> u32
     ensures { λ r. ⌜ replied r (now (words .exit)) ≡ conclude (now (words .entry)) rows s call at row ⌝ }
 {
-    let code = code_at(words, call, row);
+    let code = code_at(words, s, call, row);
     if code == CODE_ADDED {
         insert(words, rows, s, call, at)
     } else if code == CODE_REMOVED {

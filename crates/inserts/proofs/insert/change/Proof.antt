@@ -1,4 +1,4 @@
--- `moves::insert::change` meets its contract. Assumes nothing.
+-- `inserts::insert::change` meets its contract. Assumes nothing.
 use borrow.Author.Needs.{needs}
 use Rattle.inserts.proofs.insert.change.Statement.{statement}
 use Rattle.inserts.proofs.insert.change.Tie as tie

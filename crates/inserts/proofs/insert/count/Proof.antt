@@ -1,4 +1,4 @@
--- `moves::insert::count` meets its contract. Assumes nothing.
+-- `inserts::insert::count` meets its contract. Assumes nothing.
 use borrow.Author.Needs.{needs}
 use Rattle.inserts.proofs.insert.count.Statement.{statement}
 use Rattle.inserts.proofs.insert.count.Tie as tie
@@ -13,6 +13,9 @@ counted-requires c κs = search needs
 write-counts-requires : tie.Need-write-counts-requires
 write-counts-requires c κs = search needs
 
+count-change-requires : tie.Need-count-change-requires
+count-change-requires c κs = search needs
+
 same-length : tie.Need-same-length
 same-length c = search needs
 
@@ -23,4 +26,10 @@ returns c = cc
 pub count-spec : {M : Type 1} → statement M
 count-spec =
     tie.close
-    (tie.spec read-counts-requires counted-requires write-counts-requires same-length returns)
+    (tie.spec
+    read-counts-requires
+    counted-requires
+    write-counts-requires
+    count-change-requires
+    same-length
+    returns)

@@ -1,4 +1,4 @@
--- `moves::insert::counted` meets its contract. Assumes nothing.
+-- `inserts::insert::counted` meets its contract. Assumes nothing.
 use borrow.Author.Needs.{needs}
 use Rattle.inserts.proofs.insert.counted.Statement.{statement}
 use Rattle.inserts.proofs.insert.counted.Tie as tie

@@ -1,4 +1,4 @@
--- `moves::insert::cursor_to` meets its contract. Assumes nothing.
+-- `inserts::insert::cursor_to` meets its contract. Assumes nothing.
 use borrow.Author.Needs.{needs}
 use Rattle.inserts.proofs.insert.cursor_to.Statement.{statement}
 use Rattle.inserts.proofs.insert.cursor_to.Tie as tie

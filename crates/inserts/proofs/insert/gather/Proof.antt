@@ -1,4 +1,4 @@
--- `moves::insert::gather` meets its contract. Assumes nothing.
+-- `inserts::insert::gather` meets its contract. Assumes nothing.
 use borrow.Author.Needs.{needs}
 use Rattle.inserts.proofs.insert.gather.Statement.{statement}
 use Rattle.inserts.proofs.insert.gather.Tie as tie

@@ -1,4 +1,4 @@
--- `moves::insert::head_after` meets its contract. Assumes nothing.
+-- `inserts::insert::head_after` meets its contract. Assumes nothing.
 use borrow.Author.Needs.{needs}
 use Rattle.inserts.proofs.insert.head_after.Statement.{statement}
 use Rattle.inserts.proofs.insert.head_after.Tie as tie

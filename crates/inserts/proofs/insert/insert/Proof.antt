@@ -1,4 +1,4 @@
--- `moves::insert::insert` meets its contract. Assumes nothing.
+-- `inserts::insert::insert` meets its contract. Assumes nothing.
 use borrow.Author.Needs.{needs}
 use Rattle.inserts.proofs.insert.insert.Statement.{statement}
 use Rattle.inserts.proofs.insert.insert.Tie as tie

@@ -1,4 +1,4 @@
--- `moves::insert::move_cursor` meets its contract. Assumes nothing.
+-- `inserts::insert::move_cursor` meets its contract. Assumes nothing.
 use borrow.Author.Needs.{needs}
 use Rattle.inserts.proofs.insert.move_cursor.Statement.{statement}
 use Rattle.inserts.proofs.insert.move_cursor.Tie as tie

@@ -1,4 +1,4 @@
--- `moves::insert::move_cursors` meets its contract. Assumes nothing.
+-- `inserts::insert::move_cursors` meets its contract. Assumes nothing.
 use Rattle.inserts.proofs.insert.move_cursors.Statement.{statement}
 use Rattle.inserts.proofs.insert.move_cursors.Tie as tie
 use borrow.Author.Needs.{needs}

@@ -1,4 +1,4 @@
--- `moves::insert::new_leaf` meets its contract. Assumes nothing.
+-- `inserts::insert::new_leaf` meets its contract. Assumes nothing.
 use Rattle.inserts.proofs.insert.new_leaf.Statement.{statement}
 use Rattle.inserts.proofs.insert.new_leaf.Tie as tie
 use Rattle.calls.specs.Insert.{newLeaf}

@@ -1,4 +1,4 @@
--- `moves::insert::root_after` meets its contract. Assumes nothing.
+-- `inserts::insert::root_after` meets its contract. Assumes nothing.
 use borrow.Author.Needs.{needs}
 use Rattle.inserts.proofs.insert.root_after.Statement.{statement}
 use Rattle.inserts.proofs.insert.root_after.Tie as tie

@@ -1,4 +1,4 @@
--- `moves::insert::sound` meets its contract. Assumes nothing.
+-- `inserts::insert::sound` meets its contract. Assumes nothing.
 use borrow.Author.Needs.{needs}
 use Rattle.inserts.proofs.insert.sound.Statement.{statement}
 use Rattle.inserts.proofs.insert.sound.Tie as tie

@@ -1,4 +1,4 @@
--- `moves::insert::write_cut` meets its contract. Assumes nothing.
+-- `inserts::insert::write_cut` meets its contract. Assumes nothing.
 use borrow.Author.Needs.{needs}
 use Rattle.inserts.proofs.insert.write_cut.Statement.{statement}
 use Rattle.inserts.proofs.insert.write_cut.Tie as tie

@@ -1,4 +1,4 @@
--- `moves::insert::write_rows` meets its contract. Assumes nothing.
+-- `inserts::insert::write_rows` meets its contract. Assumes nothing.
 use borrow.Author.Needs.{needs}
 use Rattle.inserts.proofs.insert.write_rows.Statement.{statement}
 use Rattle.inserts.proofs.insert.write_rows.Tie as tie

@@ -1,4 +1,4 @@
--- `moves::unlink::change` meets its contract. Assumes nothing.
+-- `unlinks::unlink::change` meets its contract. Assumes nothing.
 use borrow.Author.Needs.{needs}
 use Rattle.unlinks.proofs.unlink.change.Statement.{statement}
 use Rattle.unlinks.proofs.unlink.change.Tie as tie

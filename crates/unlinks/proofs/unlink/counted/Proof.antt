@@ -1,4 +1,4 @@
--- `moves::unlink::counted` meets its contract. Assumes nothing.
+-- `unlinks::unlink::counted` meets its contract. Assumes nothing.
 use borrow.Author.Needs.{needs}
 use Rattle.unlinks.proofs.unlink.counted.Statement.{statement}
 use Rattle.unlinks.proofs.unlink.counted.Tie as tie

@@ -1,4 +1,4 @@
--- `moves::unlink::cursor_after` meets its contract. Assumes nothing.
+-- `unlinks::unlink::cursor_after` meets its contract. Assumes nothing.
 use borrow.Author.Needs.{needs}
 use Rattle.unlinks.proofs.unlink.cursor_after.Statement.{statement}
 use Rattle.unlinks.proofs.unlink.cursor_after.Tie as tie

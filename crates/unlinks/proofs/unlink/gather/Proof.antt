@@ -1,4 +1,4 @@
--- `moves::unlink::gather` meets its contract. Assumes nothing.
+-- `unlinks::unlink::gather` meets its contract. Assumes nothing.
 use borrow.Author.Needs.{needs}
 use Rattle.unlinks.proofs.unlink.gather.Statement.{statement}
 use Rattle.unlinks.proofs.unlink.gather.Tie as tie

@@ -1,4 +1,4 @@
--- `moves::unlink::landing` meets its contract. Assumes nothing.
+-- `unlinks::unlink::landing` meets its contract. Assumes nothing.
 use borrow.Author.Needs.{needs}
 use Rattle.unlinks.proofs.unlink.landing.Statement.{statement}
 use Rattle.unlinks.proofs.unlink.landing.Tie as tie

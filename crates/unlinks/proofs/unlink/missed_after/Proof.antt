@@ -1,4 +1,4 @@
--- `moves::unlink::missed_after` meets its contract. Assumes nothing.
+-- `unlinks::unlink::missed_after` meets its contract. Assumes nothing.
 use borrow.Author.Needs.{needs}
 use Rattle.unlinks.proofs.unlink.missed_after.Statement.{statement}
 use Rattle.unlinks.proofs.unlink.missed_after.Tie as tie

@@ -1,4 +1,4 @@
--- `moves::unlink::move_station` meets its contract. Assumes nothing.
+-- `unlinks::unlink::move_station` meets its contract. Assumes nothing.
 use borrow.Author.Needs.{needs}
 use Rattle.unlinks.proofs.unlink.move_station.Statement.{statement}
 use Rattle.unlinks.proofs.unlink.move_station.Tie as tie

@@ -1,4 +1,4 @@
--- `moves::unlink::move_stations` meets its contract. Assumes nothing.
+-- `unlinks::unlink::move_stations` meets its contract. Assumes nothing.
 use borrow.Author.Needs.{needs}
 use Rattle.unlinks.proofs.unlink.move_stations.Statement.{statement}
 use Rattle.unlinks.proofs.unlink.move_stations.Tie as tie

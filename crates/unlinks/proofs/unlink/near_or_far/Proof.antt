@@ -1,4 +1,4 @@
--- `moves::unlink::near_or_far` meets its contract. Assumes nothing.
+-- `unlinks::unlink::near_or_far` meets its contract. Assumes nothing.
 use borrow.Author.Needs.{needs}
 use Rattle.unlinks.proofs.unlink.near_or_far.Statement.{statement}
 use Rattle.unlinks.proofs.unlink.near_or_far.Tie as tie

@@ -1,4 +1,4 @@
--- `moves::unlink::phase_after` meets its contract. Assumes nothing.
+-- `unlinks::unlink::phase_after` meets its contract. Assumes nothing.
 use borrow.Author.Needs.{needs}
 use Rattle.unlinks.proofs.unlink.phase_after.Statement.{statement}
 use Rattle.unlinks.proofs.unlink.phase_after.Tie as tie

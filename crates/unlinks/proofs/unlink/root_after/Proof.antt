@@ -1,4 +1,4 @@
--- `moves::unlink::root_after` meets its contract. Assumes nothing.
+-- `unlinks::unlink::root_after` meets its contract. Assumes nothing.
 use borrow.Author.Needs.{needs}
 use Rattle.unlinks.proofs.unlink.root_after.Statement.{statement}
 use Rattle.unlinks.proofs.unlink.root_after.Tie as tie

@@ -1,4 +1,4 @@
--- `moves::unlink::sound` meets its contract. Assumes nothing.
+-- `unlinks::unlink::sound` meets its contract. Assumes nothing.
 use borrow.Author.Needs.{needs}
 use Rattle.unlinks.proofs.unlink.sound.Statement.{statement}
 use Rattle.unlinks.proofs.unlink.sound.Tie as tie

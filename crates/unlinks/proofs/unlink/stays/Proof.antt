@@ -1,4 +1,4 @@
--- `moves::unlink::stays` meets its contract. Assumes nothing.
+-- `unlinks::unlink::stays` meets its contract. Assumes nothing.
 use Rattle.unlinks.proofs.unlink.stays.Statement.{statement}
 use Rattle.unlinks.proofs.unlink.stays.Tie as tie
 use Rattle.calls.specs.Unlink.{stays}

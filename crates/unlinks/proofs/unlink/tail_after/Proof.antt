@@ -1,4 +1,4 @@
--- `moves::unlink::tail_after` meets its contract. Assumes nothing.
+-- `unlinks::unlink::tail_after` meets its contract. Assumes nothing.
 use borrow.Author.Needs.{needs}
 use Rattle.unlinks.proofs.unlink.tail_after.Statement.{statement}
 use Rattle.unlinks.proofs.unlink.tail_after.Tie as tie

@@ -1,4 +1,4 @@
--- `moves::unlink::track_after` meets its contract. Assumes nothing.
+-- `unlinks::unlink::track_after` meets its contract. Assumes nothing.
 use borrow.Author.Needs.{needs}
 use Rattle.unlinks.proofs.unlink.track_after.Statement.{statement}
 use Rattle.unlinks.proofs.unlink.track_after.Tie as tie

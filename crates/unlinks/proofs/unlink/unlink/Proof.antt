@@ -1,4 +1,4 @@
--- `moves::unlink::unlink` meets its contract. Assumes nothing.
+-- `unlinks::unlink::unlink` meets its contract. Assumes nothing.
 use borrow.Author.Needs.{needs}
 use Rattle.unlinks.proofs.unlink.unlink.Statement.{statement}
 use Rattle.unlinks.proofs.unlink.unlink.Tie as tie

@@ -1,4 +1,4 @@
--- `moves::unlink::write_rows` meets its contract. Assumes nothing.
+-- `unlinks::unlink::write_rows` meets its contract. Assumes nothing.
 use borrow.Author.Needs.{needs}
 use Rattle.unlinks.proofs.unlink.write_rows.Statement.{statement}
 use Rattle.unlinks.proofs.unlink.write_rows.Tie as tie

@@ -1,4 +1,4 @@
--- `moves::unlink::write_station` meets its contract. Assumes nothing.
+-- `unlinks::unlink::write_station` meets its contract. Assumes nothing.
 use borrow.Author.Needs.{needs}
 use Rattle.unlinks.proofs.unlink.write_station.Statement.{statement}
 use Rattle.unlinks.proofs.unlink.write_station.Tie as tie

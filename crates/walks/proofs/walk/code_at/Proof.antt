@@ -1,4 +1,4 @@
--- `moves::walk::code_at` meets its contract. Assumes nothing.
+-- `walks::walk::code_at` meets its contract. Assumes nothing.
 use borrow.Author.Needs.{needs}
 use Rattle.walks.proofs.walk.code_at.Statement.{statement}
 use Rattle.walks.proofs.walk.code_at.Tie as tie
@@ -7,8 +7,8 @@ use Rattle.calls.specs.Walk.{codeAt}
 holds-point-requires : tie.Need-holds-point-requires
 holds-point-requires c κs = search needs
 
-read-counts-requires : tie.Need-read-counts-requires
-read-counts-requires c κs = search needs
+read-counter-requires : tie.Need-read-counter-requires
+read-counter-requires c κs = search needs
 
 read-limit-requires : tie.Need-read-limit-requires
 read-limit-requires c κs = search needs
@@ -34,7 +34,7 @@ code-at-spec =
     tie.close
     (tie.spec
     holds-point-requires
-    read-counts-requires
+    read-counter-requires
     read-limit-requires
     read-places-requires
     cast-full

@@ -1,4 +1,4 @@
--- `moves::walk::code_of` meets its contract. Assumes nothing.
+-- `walks::walk::code_of` meets its contract. Assumes nothing.
 use borrow.Author.Needs.{needs}
 use Rattle.walks.proofs.walk.code_of.Statement.{statement}
 use Rattle.walks.proofs.walk.code_of.Tie as tie

@@ -1,4 +1,4 @@
--- `moves::walk::conclude` meets its contract. Assumes nothing.
+-- `walks::walk::conclude` meets its contract. Assumes nothing.
 use borrow.Author.Needs.{needs}
 use Rattle.walks.proofs.walk.conclude.Statement.{statement}
 use Rattle.walks.proofs.walk.conclude.Tie as tie

@@ -1,4 +1,4 @@
--- `moves::walk::down` meets its contract. Assumes nothing.
+-- `walks::walk::down` meets its contract. Assumes nothing.
 use borrow.Author.Needs.{needs}
 use Rattle.walks.proofs.walk.down.Statement.{statement}
 use Rattle.walks.proofs.walk.down.Tie as tie

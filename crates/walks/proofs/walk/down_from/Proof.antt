@@ -1,4 +1,4 @@
--- `moves::walk::down_from` meets its contract. Assumes nothing.
+-- `walks::walk::down_from` meets its contract. Assumes nothing.
 use borrow.Author.Needs.{needs}
 use Rattle.walks.proofs.walk.down_from.Statement.{statement}
 use Rattle.walks.proofs.walk.down_from.Tie as tie

@@ -1,4 +1,4 @@
--- `moves::walk::further` meets its contract. Assumes nothing.
+-- `walks::walk::further` meets its contract. Assumes nothing.
 use borrow.Author.Needs.{needs}
 use Rattle.walks.proofs.walk.further.Statement.{statement}
 use Rattle.walks.proofs.walk.further.Tie as tie

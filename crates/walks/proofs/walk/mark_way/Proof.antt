@@ -1,4 +1,4 @@
--- `moves::walk::mark_way` meets its contract. Assumes nothing.
+-- `walks::walk::mark_way` meets its contract. Assumes nothing.
 use borrow.Author.Needs.{needs}
 use Rattle.walks.proofs.walk.mark_way.Statement.{statement}
 use Rattle.walks.proofs.walk.mark_way.Tie as tie

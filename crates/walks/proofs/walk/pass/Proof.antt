@@ -1,4 +1,4 @@
--- `moves::walk::pass` meets its contract. Assumes nothing.
+-- `walks::walk::pass` meets its contract. Assumes nothing.
 use borrow.Author.Needs.{needs}
 use Rattle.walks.proofs.walk.pass.Statement.{statement}
 use Rattle.walks.proofs.walk.pass.Tie as tie

@@ -1,4 +1,4 @@
--- `moves::walk::plain_answer` meets its contract. Assumes nothing.
+-- `walks::walk::plain_answer` meets its contract. Assumes nothing.
 use borrow.Author.Needs.{needs}
 use Rattle.walks.proofs.walk.plain_answer.Statement.{statement}
 use Rattle.walks.proofs.walk.plain_answer.Tie as tie

@@ -1,4 +1,4 @@
--- `moves::walk::six_down` meets its contract. Assumes nothing.
+-- `walks::walk::six_down` meets its contract. Assumes nothing.
 use borrow.Author.Needs.{needs}
 use Rattle.walks.proofs.walk.six_down.Statement.{statement}
 use Rattle.walks.proofs.walk.six_down.Tie as tie

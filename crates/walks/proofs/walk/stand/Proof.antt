@@ -1,4 +1,4 @@
--- `moves::walk::stand` meets its contract. Assumes nothing.
+-- `walks::walk::stand` meets its contract. Assumes nothing.
 use borrow.Author.Needs.{needs}
 use Rattle.walks.proofs.walk.stand.Statement.{statement}
 use Rattle.walks.proofs.walk.stand.Tie as tie

@@ -1,4 +1,4 @@
--- `moves::walk::stands_at` meets its contract. Assumes nothing.
+-- `walks::walk::stands_at` meets its contract. Assumes nothing.
 use borrow.Author.Needs.{needs}
 use Rattle.walks.proofs.walk.stands_at.Statement.{statement}
 use Rattle.walks.proofs.walk.stands_at.Tie as tie

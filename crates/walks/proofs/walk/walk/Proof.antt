@@ -1,4 +1,4 @@
--- `moves::walk::walk` meets its contract. Assumes nothing.
+-- `walks::walk::walk` meets its contract. Assumes nothing.
 use borrow.Author.Needs.{needs}
 use Rattle.walks.proofs.walk.walk.Statement.{statement}
 use Rattle.walks.proofs.walk.walk.Tie as tie

@@ -1,4 +1,4 @@
--- `moves::walk::walk_to` meets its contract. Assumes nothing.
+-- `walks::walk::walk_to` meets its contract. Assumes nothing.
 use borrow.Author.Needs.{needs}
 use Rattle.walks.proofs.walk.walk_to.Statement.{statement}
 use Rattle.walks.proofs.walk.walk_to.Tie as tie
