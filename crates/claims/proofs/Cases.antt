@@ -64,4 +64,6 @@ proved-cases = record {
   p9 = answered-calls 1 10 _ _ (places-of 1 (omega arith) (omega arith)) (limit-of 10 (omega arith) (omega arith)) (refl, (refl, tt)) refl;
   p10 = answered-calls 2 1 _ _ (places-of 2 (omega arith) (omega arith)) (limit-of 1 (omega arith) (omega arith)) (refl, (refl, tt)) refl;
   p10-full = answered-calls 1 1 _ _ (places-of 1 (omega arith) (omega arith)) (limit-of 1 (omega arith) (omega arith)) (refl, (refl, tt)) refl;
+  p10-second = answered-calls 2 1 _ _ (places-of 2 (omega arith) (omega arith)) (limit-of 1 (omega arith) (omega arith)) (refl, (refl, (refl, tt))) refl;
+  p10-second-full = answered-calls 1 1 _ _ (places-of 1 (omega arith) (omega arith)) (limit-of 1 (omega arith) (omega arith)) (refl, (refl, (refl, tt))) refl;
 }

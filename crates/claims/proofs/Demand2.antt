@@ -10,7 +10,7 @@ use mathlib.Core.Bool.{true}
 use mathlib.Core.List.{List, _++_, List·Memᴰ}
 use lib.ListN.{length, drop, take as takeFirst}
 use mathlib.Core.Option.{Option, none, some}
-use Rattle.claims.specs.Definitions.{Point, squareOf, sameGrade, chosenOver, Chosen, Record, curveAt, add, remove, contains, nearest, callOf, answer, isChange}
+use Rattle.claims.specs.Definitions.{Point, squareOf, sameGrade, chosenOver, Chosen, Record, curveAt, Call, add, remove, contains, nearest, callOf, answer, isChange}
 use Rattle.claims.specs.Definitions.{isUnfinished, stateAt, Table, busy, taken, answerOf, changedIf, Event, submit, done, openOf, submitOf, runOf, takeOf, takeWords}
 use Rattle.claims.specs.Definitions.{opened, givenBy, wordIndex, after, stepped, Frame, AllBytes, InWidth, Read, readOf, writtenOf}
 use Rattle.points.proofs.ChoiceLaws
@@ -27,42 +27,48 @@ use Rattle.claims.proofs.Demand3.{Agrees, agrees-with, Moments, moments
 
 -- ---- the plain table's answers
 
-module _ (t : Table) (p : Point) where
+-- of a call of station s
+module _ (t : Table) (s : ℕ) (p : Point) where
   -- add (Rules 2.5): the point is held, 2 with the held curve
-  pub add-held : (c held : ℕ) → curveAt p (t .held) ≡ some held → answerOf t (add p c) ≡ answer 2 p held 0
-  add-held = Answers.add-held t p
+  pub add-held : (c held : ℕ) → curveAt p (t .held) ≡ some held → answerOf t s (add p c) ≡ answer 2 p held 0
+  add-held = Answers.add-held t s p
 
-  -- else the changes are used up, 4
-  pub add-spent : (c : ℕ) → curveAt p (t .held) ≡ none → t .changes ≡ t .limit → answerOf t (add p c) ≡ answer 4 p 0 0
-  add-spent = Answers.add-spent t p
+  -- else the changes are used up, 4: station s has made as many as the limit (Rules 3.2)
+  pub add-spent : (c : ℕ) → curveAt p (t .held) ≡ none → t .counters s ≡ t .limit → answerOf t s (add p c) ≡ answer 4 p 0 0
+  add-spent = Answers.add-spent t s p
 
   -- else every place is taken, 3
-  pub add-full : (c : ℕ) → curveAt p (t .held) ≡ none → ¬ (t .changes ≡ t .limit) → taken t ≡ t .places → answerOf t (add p c) ≡ answer 3 p 0 0
-  add-full = Answers.add-full t p
+  pub add-full : (c : ℕ) → curveAt p (t .held) ≡ none → ¬ (t .counters s ≡ t .limit) → taken t ≡ t .places → answerOf t s (add p c) ≡ answer 3 p 0 0
+  add-full = Answers.add-full t s p
 
   -- else 1
-  pub add-new : (c : ℕ) → curveAt p (t .held) ≡ none → ¬ (t .changes ≡ t .limit) → ¬ (taken t ≡ t .places) → answerOf t (add p c) ≡ answer 1 p c 0
-  add-new = Answers.add-new t p
+  pub add-new : (c : ℕ) → curveAt p (t .held) ≡ none → ¬ (t .counters s ≡ t .limit) → ¬ (taken t ≡ t .places) → answerOf t s (add p c) ≡ answer 1 p c 0
+  add-new = Answers.add-new t s p
 
   -- remove (Rules 2.6): the point is not held, 6
-  pub remove-absent : curveAt p (t .held) ≡ none → answerOf t (remove p) ≡ answer 6 p 0 0
-  remove-absent = Answers.remove-absent t p
+  pub remove-absent : curveAt p (t .held) ≡ none → answerOf t s (remove p) ≡ answer 6 p 0 0
+  remove-absent = Answers.remove-absent t s p
 
   -- else the changes are used up, 4
-  pub remove-spent : (held : ℕ) → curveAt p (t .held) ≡ some held → t .changes ≡ t .limit → answerOf t (remove p) ≡ answer 4 p 0 0
-  remove-spent = Answers.remove-spent t p
+  pub remove-spent : (held : ℕ) → curveAt p (t .held) ≡ some held → t .counters s ≡ t .limit → answerOf t s (remove p) ≡ answer 4 p 0 0
+  remove-spent = Answers.remove-spent t s p
 
   -- else 5, with the curve that was held
-  pub remove-held : (held : ℕ) → curveAt p (t .held) ≡ some held → ¬ (t .changes ≡ t .limit) → answerOf t (remove p) ≡ answer 5 p held 0
-  remove-held = Answers.remove-held t p
+  pub remove-held : (held : ℕ) → curveAt p (t .held) ≡ some held → ¬ (t .counters s ≡ t .limit) → answerOf t s (remove p) ≡ answer 5 p held 0
+  remove-held = Answers.remove-held t s p
 
   -- contains (Rules 2.7): 7 with the curve
-  pub contains-held : (held : ℕ) → curveAt p (t .held) ≡ some held → answerOf t (contains p) ≡ answer 7 p held 0
-  contains-held = Answers.contains-held t p
+  pub contains-held : (held : ℕ) → curveAt p (t .held) ≡ some held → answerOf t s (contains p) ≡ answer 7 p held 0
+  contains-held = Answers.contains-held t s p
 
   -- or 6
-  pub contains-absent : curveAt p (t .held) ≡ none → answerOf t (contains p) ≡ answer 6 p 0 0
-  contains-absent = Answers.contains-absent t p
+  pub contains-absent : curveAt p (t .held) ≡ none → answerOf t s (contains p) ≡ answer 6 p 0 0
+  contains-absent = Answers.contains-absent t s p
+
+-- The counter of another station has no part in an answer (Rules 3.2).
+pub own-counter : (t u : Table) (s : ℕ) (c : Call) → t .places ≡ u .places → t .limit ≡ u .limit → t .held ≡ u .held → t .counters s ≡ u .counters s → taken t ≡ taken u
+    → answerOf t s c ≡ answerOf u s c
+own-counter = Answers.answer-own
 
 -- the choice (Rules 1.6, 1.7): of two points the one with the smaller square is chosen; of two with the
 -- same square the one of the higher basis weight; of two with the same square and weight the lower, compared axis by axis
@@ -76,12 +82,12 @@ pub record Found (t : Table) (p : Point) : Type 0 where
   pub held : List·Memᴰ found (t .held)
   pub grade : sameGrade p (found .point) ≡ true
   pub first : (q : Record) → List·Memᴰ q (t .held) → sameGrade p (q .point) ≡ true → ¬ (q .point ≡ found .point) → chosenOver p (found .point) (q .point) ≡ true
-  pub answers : answerOf t (nearest p) ≡ answer 8 (found .point) (found .curve) (squareOf p (found .point))
+  pub answers : (s : ℕ) → answerOf t s (nearest p) ≡ answer 8 (found .point) (found .curve) (squareOf p (found .point))
 
 -- "or 9 where the grade has no record" (Rules 2.8)
 pub record NoneFound (t : Table) (p : Point) : Type 0 where
   pub grade : (q : Record) → List·Memᴰ q (t .held) → ¬ (sameGrade p (q .point) ≡ true)
-  pub answers : answerOf t (nearest p) ≡ answer 9 p 0 0
+  pub answers : (s : ℕ) → answerOf t s (nearest p) ≡ answer 9 p 0 0
 
 -- one of the two
 pub nearest-either : (t : Table) (p : Point) → Found t p ⊎ NoneFound t p
@@ -89,8 +95,8 @@ unfolding answerOf nearestAnswer
 nearest-either t p = go (nearestOf p (t .held)) refl
   where
     go : (x : Option Record) → nearestOf p (t .held) ≡ x → Found t p ⊎ NoneFound t p
-    go (some r) e = let n = nearest-some p (t .held) r e in inl (record { found = r; held = n .mem; grade = n .grade; first = n .first; answers = rw (e, nearestAnswer) })
-    go none e = inr (record { grade = nearest-none p (t .held) e; answers = rw (e, nearestAnswer) })
+    go (some r) e = let n = nearest-some p (t .held) r e in inl (record { found = r; held = n .mem; grade = n .grade; first = n .first; answers = λ s. rw (e, nearestAnswer) })
+    go none e = inr (record { grade = nearest-none p (t .held) e; answers = λ s. rw (e, nearestAnswer) })
 
 -- ---- a call run alone
 
@@ -105,8 +111,8 @@ pub record RunsAlone (words : List ℕ) (t : Table) (places s kind : ℕ) (p : P
   pub few : steps < 16 * places + 64
   pub answered : AnsweredAt (begun words s kind p c) s steps
   pub ran : runOf (begun words s kind p c) s ≡ done (stepped (suc steps) (begun words s kind p c) s)
-  pub given : givenBy (takeOf (runOf (begun words s kind p c) s .words) s) ≡ some (answerOf t (callOf kind p c))
-  pub left : Agrees (takeWords (runOf (begun words s kind p c) s .words) s) (changedIf (isChange (answerOf t (callOf kind p c))) t (callOf kind p c))
+  pub given : givenBy (takeOf (runOf (begun words s kind p c) s .words) s) ≡ some (answerOf t s (callOf kind p c))
+  pub left : Agrees (takeWords (runOf (begun words s kind p c) s .words) s) (changedIf (isChange (answerOf t s (callOf kind p c))) t s (callOf kind p c))
 
 -- there are moments as demand 3 wants them; submission refuses what their table at the end refuses, and a call that it accepts, run alone, answers as this table
 pub record AnswersAsTable (start : List ℕ) (places limit : ℕ) (evs : List Event) : Type 0 where

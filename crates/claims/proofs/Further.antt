@@ -1,8 +1,8 @@
--- What the rules say besides the demands: what an opening leaves (`opening-fresh`, `opening-again`, `opening-beyond`), the report (`report-after`), the audit (`audit-says`,
--- `audit-exact`, `audit-after`), question 11 (`never-11`), runs (`run-is-steps`, `run-after`), the bytes of the frame runner (`runner-places`, `runner-prints`, `runner-ends`), ranges (`point-ranges`,
--- `square-most`) and the comparison of points (`comparison-tells`).
+-- What the rules say besides the demands: what an opening leaves (`opening-fresh`, `opening-again`, `opening-beyond`), the changes of each station (`changes-counted`), the report (`report-after`), the
+-- audit (`audit-says`, `audit-exact`, `audit-after`), question 11 (`never-11`), runs (`run-is-steps`, `run-after`), the bytes of the frame runner (`runner-places`, `runner-prints`, `runner-ends`), ranges
+-- (`point-ranges`, `square-most`) and the comparison of points (`comparison-tells`).
 use Prim.Native.Nat.{ℕ, _+_, _*_, _≤_, _<_}
-use mathlib.Core.Path.{_≡_, refl, ap, _∙_, subst}
+use mathlib.Core.Path.{_≡_, refl, sym, ap, _∙_, subst}
 use mathlib.Core.Logic.{_⊎_, _↔_}
 use mathlib.Core.Bool.{true, false, _&&_}
 use mathlib.Core.List.{List, [], map, append-nil, List·Memᴰ, List·Memᴰ·not-nil}
@@ -10,13 +10,13 @@ use lib.ListN.{length}
 use native.Mathlib.Omega.{arith}
 use lib.IntN.{pos, negsuc}
 use lib.Signed.{leZ}
-use Rattle.stations.specs.Counts.{countsAt}
 use Rattle.stations.specs.declared.counts.Counts.{Counts}
 use Rattle.claims.specs.Definitions.{Point, inRange, squareOf, orderOf, comparedOf, Looked}
-use Rattle.claims.specs.Definitions.{get, rowAt, Spare, isIdle, isUnfinished, stateAt, Record, Table, opened, taken, Event}
+use Rattle.claims.specs.Definitions.{get, rowAt, Spare, countsAt, counterAt, isIdle, isUnfinished, stateAt, Record, Table, opened, eight, total, taken, Event}
 use Rattle.claims.specs.Definitions.{limitIn, openOf, stepOf, runOf, takeOf, numberOf, reportOf, auditOf, verdictOf, heldIn, recordOf, after, firstNo, Audited, outputOf, begun, printed, lastOutput}
 use Rattle.points.proofs.PointLaws
 use Rattle.stations.proofs.OpeningLaws.{places-of}
+use Rattle.table.proofs.Counters.{total-same}
 use Rattle.points.proofs.SquareLaws.{square-le}
 use Rattle.points.proofs.ComparedLaws.{compared-tells}
 use Rattle.history.specs.View.{seatAt}
@@ -41,6 +41,7 @@ pub record Fresh (words : List ℕ) (places : ℕ) : Type 0 where
   pub spare : (r : ℕ) → r < 2 * places → (next : ℕ) × (rowAt words (2 * places) r ≡ Spare next 0)
   pub idle : (s : ℕ) → s < 8 → isIdle (stateAt words s) ≡ true
   pub unchanged : countsAt words .changes ≡ 0
+  pub uncounted : (s : ℕ) → counterAt words s ≡ 0
 
 -- An accepted opening, also of an opened slice, leaves this (Rules 7.4): for all words, as `demand-3` is.
 pub opening-fresh : (words : List ℕ) (places limit : ℕ) → openOf words places limit .number ≡ 0 → Fresh (openOf words places limit .words) places
@@ -54,6 +55,7 @@ opening-fresh words places limit e =
       spare = λ r l. (_, w .rows r l);
       idle = λ s l. rw (w .states s l);
       unchanged = ap (λ (c : Counts). c .changes) (w .counts);
+      uncounted = w .counters;
     }
 
 -- So an accepted opening of whatever a history left begins a new one, which agrees with a table of its own.
@@ -65,6 +67,20 @@ opening-again words places limit evs = demand-3 (after evs (openOf words places 
 pub opening-beyond : (words : List ℕ) (places limit : ℕ) → openOf words places limit .number ≡ 0
     → (length (openOf words places limit .words) ≡ length words) × ((k : ℕ) → 32 * places + 608 ≤ k → get (openOf words places limit .words) k ≡ get words k)
 opening-beyond words places limit e = let b = open-beyond words places limit e in (b .lengths, b .words)
+
+-- ---- changes
+
+-- After every history no station has made more changes than the limit, and the changes that are counted are those of the eight stations (Rules 3.2).
+pub changes-counted : (words : List ℕ) (places limit : ℕ) → openOf words places limit .number ≡ 0 → (evs : List Event)
+    → (countsAt (after evs (openOf words places limit .words)) .changes ≡ total eight (counterAt (after evs (openOf words places limit .words))))
+    × ((s : ℕ) → s < 8 → counterAt (after evs (openOf words places limit .words)) s ≤ limit)
+changes-counted words places limit e evs =
+    let a = accepted words places limit e in
+    let v : List ℕ = after evs (openOf words places limit .words) in
+    let st : Stands v places limit = rw (a .opens) (history-related words places limit a evs) in (
+      st .related .counted .changes ∙ total-same (st .table .counters) (counterAt v) (λ s l. sym (st .related .counters s l)),
+      λ s l. omega (arith, st .related .counters s l, st .sound .spent s, st .limit-same),
+    )
 
 -- ---- report and audit
 

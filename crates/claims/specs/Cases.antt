@@ -34,9 +34,12 @@ pub record Asked : Type 0 where
   pub point : Point
   pub curve : ℕ
 
--- an add by station 0, and a nearest by station 1
+-- an add by a station, by station 0, and a nearest by station 1
+abbrev pub addsBy : ℕ → Point → ℕ → Asked
+addsBy s p c = record { station = s; kind = 1; point = p; curve = c }
+
 abbrev pub adds : Point → ℕ → Asked
-adds p c = record { station = 0; kind = 1; point = p; curve = c }
+adds p c = addsBy 0 p c
 
 abbrev pub seeks : Point → Asked
 seeks p = record { station = 1; kind = 4; point = p; curve = 0 }
@@ -46,12 +49,12 @@ callOfAsked a = callOf (a .kind) (a .point) (a .curve)
 
 -- the plain table after a call
 abbrev pub answeredTable : Table → Asked → Table
-answeredTable t a = changedIf (isChange (answerOf t (callOfAsked a))) t (callOfAsked a)
+answeredTable t a = changedIf (isChange (answerOf t (a .station) (callOfAsked a))) t (a .station) (callOfAsked a)
 
 -- what the plain table answers
 unfoldable pub answersOf : Table → List Asked → List Answer
 answersOf t [] = []
-answersOf t (a ∷ more) = answerOf t (callOfAsked a) ∷ answersOf (answeredTable t a) more
+answersOf t (a ∷ more) = answerOf t (a .station) (callOfAsked a) ∷ answersOf (answeredTable t a) more
 
 -- the words after a call's submission, and after its run
 abbrev pub submittedWords : List ℕ → Asked → List ℕ
@@ -102,7 +105,13 @@ pub record ProvedCases : Type 0 where
   pub p8 : (byte : ℕ) → readOf (1 ∷ 0 ∷ byte ∷ []) 0 ≡ Refused 14
   -- one place, held point added again: 2
   pub p9 : Answered 1 10 (adds (atWeight 12 9_000) 41 ∷ adds (atWeight 12 9_000) 42 ∷ []) (answer 1 (atWeight 12 9_000) 41 0 ∷ answer 2 (atWeight 12 9_000) 41 0 ∷ [])
-  -- limit 1, one add done, new add: 4
+  -- limit 1, one add done, new add of the same station: 4
   pub p10 : Answered 2 1 (adds (atWeight 12 9_000) 41 ∷ adds (atWeight 12 9_001) 42 ∷ []) (answer 1 (atWeight 12 9_000) 41 0 ∷ answer 4 (atWeight 12 9_001) 0 0 ∷ [])
   -- also when full
   pub p10-full : Answered 1 1 (adds (atWeight 12 9_000) 41 ∷ adds (atWeight 12 9_001) 42 ∷ []) (answer 1 (atWeight 12 9_000) 41 0 ∷ answer 4 (atWeight 12 9_001) 0 0 ∷ [])
+  -- a second station still adds if there is a place
+  pub p10-second : Answered 2 1 (adds (atWeight 12 9_000) 41 ∷ adds (atWeight 12 9_001) 42 ∷ addsBy 1 (atWeight 12 9_001) 43 ∷ [])
+      (answer 1 (atWeight 12 9_000) 41 0 ∷ answer 4 (atWeight 12 9_001) 0 0 ∷ answer 1 (atWeight 12 9_001) 43 0 ∷ [])
+  -- and gets 3 if there is none
+  pub p10-second-full : Answered 1 1 (adds (atWeight 12 9_000) 41 ∷ adds (atWeight 12 9_001) 42 ∷ addsBy 1 (atWeight 12 9_001) 43 ∷ [])
+      (answer 1 (atWeight 12 9_000) 41 0 ∷ answer 4 (atWeight 12 9_001) 0 0 ∷ answer 3 (atWeight 12 9_001) 0 0 ∷ [])

@@ -15,13 +15,14 @@ pub use Rattle.points.specs.Cut.{cutOf, goesLeft}
 pub use Rattle.points.specs.Choice.{sameGrade, chosenOver, Chosen}
 -- ---- words, stations and rows
 
--- words, rows, question 4, and the counts of the common record
+-- words, rows, question 4, and the counts and counters of the common record
 pub use Rattle.words.specs.Layout.{wordsFor, atRow}
 pub use Rattle.words.specs.Words.{get, part}
 pub use Rattle.rows.specs.Row.{rowAt, rowOf, inRows}
 pub use Rattle.rows.specs.declared.row.Row.the-variants.{Spare}
 pub use Rattle.stations.specs.Common.{placesIn, limitIn, placesAt, openedIn, isOpened, rowsIn}
 pub use Rattle.stations.specs.Counts.{countsAt}
+pub use Rattle.stations.specs.Counter.{counterAt}
 -- a station's record
 pub use Rattle.stations.specs.Station.{isIdle, isUnfinished, stateAt}
 pub use Rattle.stations.specs.Call.{kindIn}
@@ -34,7 +35,7 @@ pub use Rattle.words.specs.Agree.{inStation, startOf, sizeOf}
 pub use Rattle.table.specs.Record.{Record, Same, Once, curveAt}
 pub use Rattle.table.specs.Call.{Call, add, remove, contains, nearest, callOf, Answer, answer, isChange}
 -- the plain table: at first, the number of places taken, a call's answer and its effect
-pub use Rattle.table.specs.Table.{Table, unfinished, busy, eight}
+pub use Rattle.table.specs.Table.{Table, unfinished, busy, eight, total}
 unfoldable pub use Rattle.table.specs.Table.{opened, taken, answerOf, changedIf}
 -- the unfinished nearest calls of some stations, some stations but one, and the removals that such calls hold
 pub use Rattle.table.specs.Table.{searches, others, holding}

@@ -4,14 +4,14 @@ use mathlib.Core.List.{List}
 use mathlib.Core.Option.{Option}
 use Rattle.stations.specs.declared.track.Track.{Track}
 use Rattle.table.specs.Call.{Call, Answer}
-use Rattle.table.specs.Table.{Table}
+use Rattle.table.specs.Table.{Table, allChanges}
 use Rattle.trees.specs.Tree.{Tree}
 use Rattle.trees.specs.Queue.{Free}
 use Rattle.history.specs.View.{Seat, withTrack}
 use Rattle.history.specs.Related.{Works, Busy}
 
 pub busy-on : {t : Table} {tree : Option Tree} {queue : List Free} {seat : Seat} {i : ℕ} {call : Call} {set : Option Answer} → Busy t tree queue seat i call set
-    → {t′ : Table} {tree′ : Option Tree} {queue′ : List Free} {set′ : Option Answer} (track : Track) → seat .call .asof ≤ t′ .changes → track .phase ≤ 1
+    → {t′ : Table} {tree′ : Option Tree} {queue′ : List Free} {set′ : Option Answer} (track : Track) → seat .call .asof ≤ allChanges t′ → track .phase ≤ 1
     → Works t′ tree′ queue′ (withTrack seat track) i call set′ → Busy t′ tree′ queue′ (withTrack seat track) i call set′
 busy-on v track asof phase works = record {
   state = v .state;

@@ -75,8 +75,8 @@ standing-open words places limit e =
 -- ---- a call
 
 pub record Called (words : List ℕ) (u : Table) (w : Standing words u) (s kind : ℕ) (p : Point) (c : ℕ) : Type 0 where
-  pub gives : CallGives words s kind p c (answerOf u (callOf kind p c))
-  pub standing : Standing (calledWords words s kind p c) (changedIf (isChange (answerOf u (callOf kind p c))) u (callOf kind p c))
+  pub gives : CallGives words s kind p c (answerOf u s (callOf kind p c))
+  pub standing : Standing (calledWords words s kind p c) (changedIf (isChange (answerOf u s (callOf kind p c))) u s (callOf kind p c))
   pub own : standing .table .stations s ≡ idle
   pub others : (v : ℕ) → ¬ (v ≡ s) → unsettled (w .table .stations v) ≡ false → standing .table .stations v ≡ w .table .stations v
 
@@ -87,7 +87,7 @@ called {words} {u} w s kind p c e =
     let submitted : submitOf words s kind p c .number ≡ 0 = related-submits s kind p c (w .sound) (w .related) .number ∙ alike-submit (w .alike) s kind p c ∙ e in
     let runs = related-alone words t (w .sound) (w .related) s kind p c submitted in
     let leaves = alone-leaves words t (w .sound) (w .related) s kind p c submitted in
-    let same : answerOf t d ≡ answerOf u d = alike-answer d (w .alike) in
+    let same : answerOf t s d ≡ answerOf u s d = alike-answer s d (w .alike) in
     let to : runOf (submitOf words s kind p c .words) s .words ≡ ranWords words s kind p c (suc (runs .before)) = ap (λ (r : Reply). r .words) (leaves .ran-all) in
     record {
       gives = record {
@@ -98,7 +98,7 @@ called {words} {u} w s kind p c e =
         table = leaves .last;
         sound = leaves .sound;
         related = rw to (leaves .related);
-        alike = rw same at (alike-trans (leaves .alike) (alike-changed (isChange (answerOf t d)) d (w .alike)));
+        alike = rw same at (alike-trans (leaves .alike) (alike-changed (isChange (answerOf t s d)) s d (w .alike)));
       };
       own = leaves .own;
       others = leaves .others;
@@ -112,7 +112,7 @@ pub record Begun (words : List ℕ) (u : Table) (s : ℕ) (p : Point) : Type 0 w
   pub sound : Sound table
   pub related : Related words table
   pub alike : Alike table (enter u s (nearest p))
-  pub is : table .stations s ≡ unfinished (u .calls) (nearest p) (some (answerOf u (nearest p)))
+  pub is : table .stations s ≡ unfinished (u .calls) (nearest p) (some (answerOf u s (nearest p)))
 
 pub begun : {words : List ℕ} {u : Table} (w : Standing words u) (s c : ℕ) (p : Point) → submit u s 4 p c .number ≡ 0
     → (submitOf words s 4 p c .number ≡ 0) × Begun (submitOf words s 4 p c .words) (w .table) s p

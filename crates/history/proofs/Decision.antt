@@ -97,13 +97,13 @@ module _ {words : List ℕ} {t : Table} {s i : ℕ} {c : Call} (sound : Sound t)
 
   -- the code is worked out from the table's kind, point and counts
   code-is : (row : WordRow)
-      → codeAt words (callAt words s) row ≡ codeOf (kindOf c) (holdsPoint (pointOf c) row) (eqb (t .changes) (t .limit)) (leb (t .places) (taken t))
+      → codeAt words s (callAt words s) row ≡ codeOf (kindOf c) (holdsPoint (pointOf c) row) (eqb (t .counters s) (t .limit)) (leb (t .places) (taken t))
   unfolding codeAt seatAt
-  code-is row = rw (busy .kind, busy .point, r .counted .changes, word-limit r, word-places r, related-taken r sound)
+  code-is row = rw (busy .kind, busy .point, r .counters s l, word-limit r, word-places r, related-taken r sound)
 
   -- a code that is no change is answered, with nothing else written
-  plain-outcome : {n : ℕ} (at : ℕ) (row : WordRow) (code curve : ℕ) → codeAt words (callAt words s) row ≡ code → eqb code 1 ≡ false → eqb code 5 ≡ false
-      → cond (eqb code 2 || eqb code 7) (leafCurve row) 0 ≡ curve → 1 ≤ code → code ≤ 9 → curve ≤ 999999 → answerOf t c ≡ answer code (pointOf c) curve 0
+  plain-outcome : {n : ℕ} (at : ℕ) (row : WordRow) (code curve : ℕ) → codeAt words s (callAt words s) row ≡ code → eqb code 1 ≡ false → eqb code 5 ≡ false
+      → cond (eqb code 2 || eqb code 7) (leafCurve row) 0 ≡ curve → 1 ≤ code → code ≤ 9 → curve ≤ 999999 → answerOf t s c ≡ answer code (pointOf c) curve 0
       → Outcome r s c none n (conclude words (2 * t .places) s (callAt words s) at row)
   unfolding conclude plainAnswer seatAt
   plain-outcome at row code curve is one five carries least most fits says =
@@ -117,39 +117,40 @@ module _ {words : List ℕ} {t : Table} {s i : ℕ} {c : Call} (sound : Sound t)
 
 -- an add (Rules 2.5)
 pub add-decides : {words : List ℕ} {t : Table} {s i n v : ℕ} {p : Point} (at : ℕ) (row : WordRow) → Sound t → s < stations → t .stations s ≡ unfinished i (add p v) none → (r : Related words t) → Decided t p row
-    → (holdsPoint p row ≡ false → curveAt p (t .held) ≡ none → ¬ (t .changes ≡ t .limit) → ¬ (taken t ≡ t .places) → Outcome r s (add p v) none n (insertOf words (2 * t .places) s (callAt words s) at))
+    → (holdsPoint p row ≡ false → curveAt p (t .held) ≡ none → ¬ (t .counters s ≡ t .limit) → ¬ (taken t ≡ t .places) → Outcome r s (add p v) none n (insertOf words (2 * t .places) s (callAt words s) at))
     → Outcome r s (add p v) none n (conclude words (2 * t .places) s (callAt words s) at row)
 unfolding codeOf conclude
 add-decides {words} {t} {s} {i} {n} {v} {p} at row sound l q r (there h f e) k =
-    plain-outcome sound l q r at row 2 (leafCurve row) (code-is sound l q r row ∙ rw h) refl refl refl (omega arith) (omega arith) f (add-held t p v (leafCurve row) e)
-add-decides {words} {t} {s} {i} {n} {v} {p} at row sound l q r (absent h e) k = spent (ℕ-discrete (t .changes) (t .limit))
+    plain-outcome sound l q r at row 2 (leafCurve row) (code-is sound l q r row ∙ rw h) refl refl refl (omega arith) (omega arith) f (add-held t s p v (leafCurve row) e)
+add-decides {words} {t} {s} {i} {n} {v} {p} at row sound l q r (absent h e) k = spent (ℕ-discrete (t .counters s) (t .limit))
   where
-    full : ¬ (t .changes ≡ t .limit) → Dec (taken t ≡ t .places) → Outcome r s (add p v) none n (conclude words (2 * t .places) s (callAt words s) at row)
+    full : ¬ (t .counters s ≡ t .limit) → Dec (taken t ≡ t .places) → Outcome r s (add p v) none n (conclude words (2 * t .places) s (callAt words s) at row)
     full d (yes f) =
-        plain-outcome sound l q r at row 3 0 (code-is sound l q r row ∙ rw (h, ne-eqb (t .changes) (t .limit) d, le-leb (t .places) (taken t) (omega arith))) refl refl refl (omega arith) (omega arith) (omega arith) (add-full t p v e d f)
+        plain-outcome sound l q r at row 3 0 (code-is sound l q r row ∙ rw (h, ne-eqb (t .counters s) (t .limit) d, le-leb (t .places) (taken t) (omega arith)))
+        refl refl refl (omega arith) (omega arith) (omega arith) (add-full t s p v e d f)
     full d (no f) =
-        let c : codeAt words (callAt words s) row ≡ 1 = code-is sound l q r row ∙ rw (h, ne-eqb (t .changes) (t .limit) d, lt-leb (t .places) (taken t) (omega (arith, f, sound .bounded))) in
+        let c : codeAt words s (callAt words s) row ≡ 1 = code-is sound l q r row ∙ rw (h, ne-eqb (t .counters s) (t .limit) d, lt-leb (t .places) (taken t) (omega (arith, f, sound .bounded))) in
         rw c (k h e d f)
 
-    spent : Dec (t .changes ≡ t .limit) → Outcome r s (add p v) none n (conclude words (2 * t .places) s (callAt words s) at row)
+    spent : Dec (t .counters s ≡ t .limit) → Outcome r s (add p v) none n (conclude words (2 * t .places) s (callAt words s) at row)
     spent (yes d) =
-        plain-outcome sound l q r at row 4 0 (code-is sound l q r row ∙ rw (h, eq-eqb (t .changes) (t .limit) d)) refl refl refl (omega arith) (omega arith) (omega arith) (add-spent t p v e d)
+        plain-outcome sound l q r at row 4 0 (code-is sound l q r row ∙ rw (h, eq-eqb (t .counters s) (t .limit) d)) refl refl refl (omega arith) (omega arith) (omega arith) (add-spent t s p v e d)
     spent (no d) = full d (ℕ-discrete (taken t) (t .places))
 
 -- a remove (Rules 2.6)
 pub remove-decides : {words : List ℕ} {t : Table} {s i n : ℕ} {p : Point} (at : ℕ) (row : WordRow) → Sound t → s < stations → t .stations s ≡ unfinished i (remove p) none → (r : Related words t) → Decided t p row
-    → (holdsPoint p row ≡ true → ¬ (t .changes ≡ t .limit) → Outcome r s (remove p) none n (unlinkOf words (2 * t .places) s (callAt words s) at))
+    → (holdsPoint p row ≡ true → ¬ (t .counters s ≡ t .limit) → Outcome r s (remove p) none n (unlinkOf words (2 * t .places) s (callAt words s) at))
     → Outcome r s (remove p) none n (conclude words (2 * t .places) s (callAt words s) at row)
 unfolding codeOf conclude
 remove-decides {words} {t} {s} {i} {n} {p} at row sound l q r (absent h e) k =
-    plain-outcome sound l q r at row 6 0 (code-is sound l q r row ∙ rw h) refl refl refl (omega arith) (omega arith) (omega arith) (remove-absent t p e)
-remove-decides {words} {t} {s} {i} {n} {p} at row sound l q r (there h f e) k = spent (ℕ-discrete (t .changes) (t .limit))
+    plain-outcome sound l q r at row 6 0 (code-is sound l q r row ∙ rw h) refl refl refl (omega arith) (omega arith) (omega arith) (remove-absent t s p e)
+remove-decides {words} {t} {s} {i} {n} {p} at row sound l q r (there h f e) k = spent (ℕ-discrete (t .counters s) (t .limit))
   where
-    spent : Dec (t .changes ≡ t .limit) → Outcome r s (remove p) none n (conclude words (2 * t .places) s (callAt words s) at row)
+    spent : Dec (t .counters s ≡ t .limit) → Outcome r s (remove p) none n (conclude words (2 * t .places) s (callAt words s) at row)
     spent (yes d) =
-        plain-outcome sound l q r at row 4 0 (code-is sound l q r row ∙ rw (h, eq-eqb (t .changes) (t .limit) d)) refl refl refl (omega arith) (omega arith) (omega arith) (remove-spent t p (leafCurve row) e d)
+        plain-outcome sound l q r at row 4 0 (code-is sound l q r row ∙ rw (h, eq-eqb (t .counters s) (t .limit) d)) refl refl refl (omega arith) (omega arith) (omega arith) (remove-spent t s p (leafCurve row) e d)
     spent (no d) =
-        let c : codeAt words (callAt words s) row ≡ 5 = code-is sound l q r row ∙ rw (h, ne-eqb (t .changes) (t .limit) d) in
+        let c : codeAt words s (callAt words s) row ≡ 5 = code-is sound l q r row ∙ rw (h, ne-eqb (t .counters s) (t .limit) d) in
         rw c (k h d)
 
 -- a contains (Rules 2.7)
@@ -157,6 +158,6 @@ pub contains-decides : {words : List ℕ} {t : Table} {s i n : ℕ} {p : Point} 
     → Outcome r s (contains p) none n (conclude words (2 * t .places) s (callAt words s) at row)
 unfolding codeOf
 contains-decides {words} {t} {s} {i} {n} {p} at row sound l q r (there h f e) =
-    plain-outcome sound l q r at row 7 (leafCurve row) (code-is sound l q r row ∙ rw h) refl refl refl (omega arith) (omega arith) f (contains-held t p (leafCurve row) e)
+    plain-outcome sound l q r at row 7 (leafCurve row) (code-is sound l q r row ∙ rw h) refl refl refl (omega arith) (omega arith) f (contains-held t s p (leafCurve row) e)
 contains-decides {words} {t} {s} {i} {n} {p} at row sound l q r (absent h e) =
-    plain-outcome sound l q r at row 6 0 (code-is sound l q r row ∙ rw h) refl refl refl (omega arith) (omega arith) (omega arith) (contains-absent t p e)
+    plain-outcome sound l q r at row 6 0 (code-is sound l q r row ∙ rw h) refl refl refl (omega arith) (omega arith) (omega arith) (contains-absent t s p e)

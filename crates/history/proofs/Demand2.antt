@@ -115,7 +115,7 @@ module _ (words : List ℕ) (t : Table) (h : Sound t) (r : Related words t) (s k
     before = ran .before;
     few = omega (arith, ran .few, same-places (set-related .1) (begun-related .1), enter-places t s call);
     answered = ran .answered;
-    given = taking .given ∙ take-given ending s (answerOf t call) eighth (finishing .waits);
+    given = taking .given ∙ take-given ending s (answerOf t s call) eighth (finishing .waits);
     left = alike-agree wordIndex (takeWords (ranWords words s kind p c (suc (ran .before))) s) (finishing .left) (related-agrees (sound-take ending s ending-sound) (taking .next));
   }
 
@@ -125,7 +125,7 @@ module _ (words : List ℕ) (t : Table) (h : Sound t) (r : Related words t) (s k
     pub last : Table
     pub sound : Sound last
     pub related : Related (takeWords (ranWords words s kind p c (suc (related-alone .before))) s) last
-    pub alike : Alike last (changedIf (isChange (answerOf t call)) t call)
+    pub alike : Alike last (changedIf (isChange (answerOf t s call)) t s call)
     pub own : last .stations s ≡ idle
     pub others : (v : ℕ) → ¬ (v ≡ s) → unsettled (t .stations v) ≡ false → last .stations v ≡ t .stations v
 
@@ -150,13 +150,13 @@ module _ (words : List ℕ) (t : Table) (h : Sound t) (r : Related words t) (s k
 runs-alike : {words : List ℕ} {t u : Table} {most s kind : ℕ} {p : Point} {c : ℕ} → Alike t u → RunsAlone words t most s kind p c → RunsAlone words u most s kind p c
 runs-alike {words} {t} {u} {most} {s} {kind} {p} {c} a w =
     let d : Call = callOf kind p c in
-    let e : answerOf t d ≡ answerOf u d = alike-answer d a in
+    let e : answerOf t s d ≡ answerOf u s d = alike-answer s d a in
     record {
       before = w .before;
       few = w .few;
       answered = w .answered;
       given = w .given ∙ ap {B = Option Answer} some e;
-      left = rw e at (alike-agree wordIndex (takeWords (ranWords words s kind p c (suc (w .before))) s) (alike-changed (isChange (answerOf t d)) d a) (w .left));
+      left = rw e at (alike-agree wordIndex (takeWords (ranWords words s kind p c (suc (w .before))) s) (alike-changed (isChange (answerOf t s d)) s d a) (w .left));
     }
 
 -- ---- the theorem

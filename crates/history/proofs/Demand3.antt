@@ -48,7 +48,7 @@ take-busy t s i c o l q = rw (lt-ltb s stations l, q)
 
 pub finished-waits : (t : Table) (s : ℕ) (c : Call) (o : Option Answer) → (a : Answer) × (finished t s c o .stations s ≡ waiting a)
 unfolding finished
-finished-waits t s c none = (answerOf t c, put-same (t .stations) s (waiting (answerOf t c)))
+finished-waits t s c none = (answerOf t s c, put-same (t .stations) s (waiting (answerOf t s c)))
 finished-waits t s c (some a) = (a, put-same (t .stations) s (waiting a))
 
 pub take-waits : (t : Table) (s : ℕ) (a : Answer) → s < stations → t .stations s ≡ waiting a → take t s .number ≡ 0

@@ -29,9 +29,9 @@ opens : (words : List ℕ) → wordsFor 2 ≤ length words → openOf words 2 10
 unfolding openOf
 opens words l = rw (places-of 2 (omega arith) (omega arith), limit-of 10 (omega arith) (omega arith), le-leb (wordsFor 2) (length words) l)
 
--- the table after a call
-abbrev effect : Table → ℕ → Point → ℕ → Table
-effect u kind p c = changedIf (isChange (answerOf u (callOf kind p c))) u (callOf kind p c)
+-- the table after a call of station s
+abbrev effect : Table → ℕ → ℕ → Point → ℕ → Table
+effect u s kind p c = changedIf (isChange (answerOf u s (callOf kind p c))) u s (callOf kind p c)
 
 -- ---- the frame runner
 
@@ -75,27 +75,27 @@ pub record CaseN (words : List ℕ) : Type 0 where
 -- what the answer of a remove depends on
 record Plain (t u : Table) : Type 0 where
   held : t .held ≡ u .held
-  changes : t .changes ≡ u .changes
+  counters : t .counters ≡ u .counters
   limit : t .limit ≡ u .limit
 
 plain-alike : {t u v : Table} → Alike t u → Plain u v → Plain t v
-plain-alike a q = record { held = a .held ∙ q .held; changes = a .changes ∙ q .changes; limit = a .limit ∙ q .limit }
+plain-alike a q = record { held = a .held ∙ q .held; counters = a .counters ∙ q .counters; limit = a .limit ∙ q .limit }
 
 plain-enter : {t u : Table} (s : ℕ) (c : Call) → Plain t u → Plain (enter t s c) u
 unfolding enter
-plain-enter s c q = record { held = q .held; changes = q .changes; limit = q .limit }
+plain-enter s c q = record { held = q .held; counters = q .counters; limit = q .limit }
 
-remove-answer : {t u : Table} (x : Point) → Plain t u → answerOf t (remove x) ≡ answerOf u (remove x)
+remove-answer : {t u : Table} (s : ℕ) (x : Point) → Plain t u → answerOf t s (remove x) ≡ answerOf u s (remove x)
 unfolding answerOf usedUp
-remove-answer x q = rw (q .held, q .changes, q .limit)
+remove-answer s x q = rw (q .held, q .counters, q .limit)
 
-remove-effect : {t u : Table} (x : Point) → Plain t u → Plain (effect t 2 x 0) (effect u 2 x 0)
+remove-effect : {t u : Table} (s : ℕ) (x : Point) → Plain t u → Plain (effect t s 2 x 0) (effect u s 2 x 0)
 unfolding callOf changedIf changed
-remove-effect {t} {u} x q = rw (remove-answer x q) (go (isChange (answerOf u (remove x))))
+remove-effect {t} {u} s x q = rw (remove-answer s x q) (go (isChange (answerOf u s (remove x))))
   where
-    go : (b : Bool) → Plain (changedIf b t (remove x)) (changedIf b u (remove x))
+    go : (b : Bool) → Plain (changedIf b t s (remove x)) (changedIf b u s (remove x))
     go false = q
-    go true = record { held = rw (q .held); changes = rw (q .changes); limit = q .limit }
+    go true = record { held = rw (q .held); counters = rw (q .counters); limit = q .limit }
 
 -- an idle station may submit the removal of one of the two points
 submits-m : (t : Table) → t .stations 0 ≡ idle → submit t 0 2 m 0 .number ≡ 0
@@ -109,10 +109,10 @@ submits-p t e = rw e
 module _ (words : List ℕ) (l : wordsFor 2 ≤ length words) where
   -- the tables with m, and with m and p held
   abbrev heldM : Table
-  heldM = effect (opened 2 10) 1 m 41
+  heldM = effect (opened 2 10) 0 1 m 41
 
   abbrev heldBoth : Table
-  heldBoth = effect heldM 1 p 42
+  heldBoth = effect heldM 0 1 p 42
 
   first : Called (openOf words 2 10 .words) (opened 2 10) (standing-open words 2 10 (opens words l)) 0 1 m 41
   unfolding run
@@ -131,7 +131,7 @@ module _ (words : List ℕ) (l : wordsFor 2 ≤ length words) where
   under = search .1 .table
 
   under-plain : Plain under heldBoth
-  under-plain = plain-alike (search .1 .alike) (plain-enter 1 (nearest target) (plain-alike (second .standing .alike) (record { held = refl; changes = refl; limit = refl })))
+  under-plain = plain-alike (search .1 .alike) (plain-enter 1 (nearest target) (plain-alike (second .standing .alike) (record { held = refl; counters = refl; limit = refl })))
 
   under-idle : under .stations 0 ≡ idle
   unfolding enter
@@ -139,15 +139,15 @@ module _ (words : List ℕ) (l : wordsFor 2 ≤ length words) where
 
   under-set : under .stations 1 ≡ unfinished (second .standing .table .calls) (nearest target) (some (answer 8 p 42 1))
   unfolding run
-  under-set = search .1 .is ∙ ap (λ (a : Answer). unfinished (second .standing .table .calls) (nearest target) (some a)) (alike-answer (nearest target) (second .standing .alike))
+  under-set = search .1 .is ∙ ap (λ (a : Answer). unfinished (second .standing .table .calls) (nearest target) (some a)) (alike-answer 1 (nearest target) (second .standing .alike))
 
   third : Called (searchBegun words) under (record { table = under; sound = search .1 .sound; related = search .1 .related; alike = alike-refl under }) 0 2 m 0
   third = called (record { table = under; sound = search .1 .sound; related = search .1 .related; alike = alike-refl under }) 0 2 m 0 (submits-m under under-idle)
 
-  fourth : Called (withoutM words) (effect under 2 m 0) (third .standing) 0 2 p 0
+  fourth : Called (withoutM words) (effect under 0 2 m 0) (third .standing) 0 2 p 0
   fourth =
       called (third .standing) 0 2 p 0
-      (submits-p (effect under 2 m 0) (ap (λ (f : ℕ → Station). f 0) (changed-stations (isChange (answerOf under (callOf 2 m 0))) under (callOf 2 m 0)) ∙ under-idle))
+      (submits-p (effect under 0 2 m 0) (ap (λ (f : ℕ → Station). f 0) (changed-stations (isChange (answerOf under 0 (callOf 2 m 0))) under 0 (callOf 2 m 0)) ∙ under-idle))
 
   third-set : third .standing .table .stations 1 ≡ unfinished (second .standing .table .calls) (nearest target) (some (answer 8 p 42 1))
   unfolding unsettled
@@ -164,7 +164,7 @@ module _ (words : List ℕ) (l : wordsFor 2 ≤ length words) where
     adds-m = first .gives;
     adds-p = second .gives;
     submits = search .0;
-    removes-m = rw (remove-answer m under-plain) at (third .gives);
-    removes-p = rw (remove-answer p (remove-effect m under-plain)) at (fourth .gives);
+    removes-m = rw (remove-answer 0 m under-plain) at (third .gives);
+    removes-p = rw (remove-answer 0 p (remove-effect 0 m under-plain)) at (fourth .gives);
     finds-p = set-gives 1 (second .standing .table .calls) (nearest target) (answer 8 p 42 1) (fourth .standing .sound) (fourth .standing .related) (omega arith) fourth-set;
   }

@@ -10,7 +10,7 @@ use Rattle.points.specs.Word.{NONE}
 use Rattle.stations.specs.Common.{leastSince}
 use Rattle.rows.proofs.RowLaws.{rowAt-outside}
 use Rattle.table.specs.Record.{Record, Once}
-use Rattle.table.specs.Table.{Table}
+use Rattle.table.specs.Table.{Table, allChanges}
 use Rattle.trees.specs.Row.{Entry, Heap}
 use Rattle.trees.specs.Tree.{Tree, leaf, cut, top, topOf, TreeHas, TreeShape, treeSize, treeEntries, entriesOf, Different}
 use Rattle.trees.specs.Store.{Store}
@@ -46,7 +46,7 @@ pub held-entries : {words : List ℕ} {t : Table} (r : Related words t) → map 
 unfolding heldIn
 held-entries {words} {t} r = rw (related-rows r, word-root r) (go (r .tree) (r .store))
   where
-    go : (tree : Option Tree) → Store (t .places) (r .heap) tree (r .queue) (t .changes) (length (t .removals)) (leastSince words)
+    go : (tree : Option Tree) → Store (t .places) (r .heap) tree (r .queue) (allChanges t) (length (t .removals)) (leastSince words)
         → map heldRecord (heldBelow words (2 * t .places) (2 * t .places) (topOf tree)) ≡ map recordOf (entriesOf tree)
     go none st = rw (held-nowhere words (2 * t .places) (2 * t .places) (st .fits))
     go (some tree) st = held-tree words (2 * t .places) (r .heap) (r .reads) (2 * t .places) NONE tree (st .shape) (st .inside) (omega (arith, st .all))

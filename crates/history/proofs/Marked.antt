@@ -9,6 +9,7 @@ use mathlib.Core.Option.{Option, none, some}
 use native.Mathlib.Omega.{arith}
 use lib.Dec.{eqb}
 use borrow.Author.Tests.{eq-eqb, ne-eqb}
+use Rattle.stations.specs.Counter.{counterAt}
 use Rattle.stations.specs.Counts.{countsAt}
 use Rattle.stations.specs.declared.counts.Counts.{Counts}
 use Rattle.points.specs.declared.point.Point.{Point}
@@ -60,7 +61,7 @@ marking-grows marks marks′ tree cursor (unfinished i (nearest p) set) g m = tt
 -- the words w have gained marks alone, and an add of p has marked its way down to row x
 pub record Come {words : List ℕ} {t : Table} (r : Related words t) (p : Point) (w : List ℕ) (x : ℕ) : Type 0 where
   pub reads : Reads w (2 * t .places) (r .heap)
-  pub written : Written words w (countsAt words) (λ s. seatAt words s)
+  pub written : Written words w (countsAt words) (counterAt words) (λ s. seatAt words s)
   pub grown : Grows (marksIn words) (marksIn w) (r .tree)
   pub passed : Passed (marksIn w) (r .tree) p x
 
@@ -134,6 +135,7 @@ module _ {words : List ℕ} {t : Table} (r : Related words t) (p : Point) where
             written = record {
               opened = only .opened ∙ c .written .opened;
               counted = only .counted ∙ c .written .counted;
+              counters = λ s. only .counters s ∙ c .written .counters s;
               seated = λ s l. only .seated s l ∙ c .written .seated s l;
             };
             grown = λ y m side q e. more y m side q (c .grown y m side q e);
@@ -148,7 +150,7 @@ module _ {words : List ℕ} {t : Table} (r : Related words t) (p : Point) where
   pub way-come : (x : ℕ) → Passed (marksIn words) (r .tree) p x → Come r p (markedWay words (wayOf words rows p x) (slotOf p)) (wayOf words rows p x .to)
   unfolding wayOf markedWay
   way-come x m =
-      let first : Come r p words x = record { reads = r .reads; written = record { opened = refl; counted = refl; seated = λ s l. refl }; grown = λ y h side q e. e; passed = m } in
+      let first : Come r p words x = record { reads = r .reads; written = record { opened = refl; counted = refl; counters = λ s. refl; seated = λ s l. refl }; grown = λ y h side q e. e; passed = m } in
       let one = stride words x first in
       let two = stride _ _ one in
       let three = stride _ _ two in
@@ -157,7 +159,7 @@ module _ {words : List ℕ} {t : Table} (r : Related words t) (p : Point) where
       stride _ _ five
 
 -- Words that have gained marks alone are related to the same table.
-unfoldable pub related-marked : {words w : List ℕ} {t : Table} (r : Related words t) → Written words w (countsAt words) (λ s. seatAt words s) → Reads w (2 * t .places) (r .heap)
+unfoldable pub related-marked : {words w : List ℕ} {t : Table} (r : Related words t) → Written words w (countsAt words) (counterAt words) (λ s. seatAt words s) → Reads w (2 * t .places) (r .heap)
     → Grows (marksIn words) (marksIn w) (r .tree) → Related w t
 related-marked {words} {w} {t} r v reads g = record {
   opened = v .opened ∙ r .opened;
@@ -167,6 +169,7 @@ related-marked {words} {w} {t} r v reads g = record {
   reads = reads;
   store = rw (least-same words w (ap (λ (c : Counts). c .removals) (v .counted)) (λ s l. ap (λ (x : Seat). x .track .since) (v .seated s l))) (r .store);
   counted = rw (v .counted) (r .counted);
+  counters = λ s l. v .counters s ∙ r .counters s l;
   records = r .records;
   number = r .number;
   seats = λ s l. rw (v .seated s l) (r .seats s l);

@@ -15,7 +15,7 @@ use Rattle.stations.specs.Track.{nowhere}
 use Rattle.points.specs.declared.point.Point.{Point}
 use Rattle.points.specs.Word.{NONE}
 use Rattle.table.specs.Call.{Call, add, remove, contains, nearest, Answer}
-use Rattle.table.specs.Table.{Station, idle, unfinished, waiting, Table}
+use Rattle.table.specs.Table.{Station, idle, unfinished, waiting, Table, allChanges}
 use Rattle.table.proofs.Eager.{unsettled}
 use Rattle.trees.specs.Row.{Entry, Heap}
 use Rattle.trees.specs.Tree.{Tree}
@@ -69,7 +69,7 @@ quiet-moved gone to seat n w = record { cursor = go (ℕ-discrete gone NONE); ph
 
 -- t′ is the table with one change more and the same removals
 module _ {h h′ : Heap} {tree : Option Tree} {queue : List Free} {released : ℕ} {new : Entry} {place : Option Leaf} {a b : ℕ} (t t′ : Table)
-    (w : Inserted (t .places) h h′ tree queue (t .changes) (length (t .removals)) released new place a b) (changes : t′ .changes ≡ suc (t .changes)) (removals : t′ .removals ≡ t .removals)
+    (w : Inserted (t .places) h h′ tree queue (allChanges t) (length (t .removals)) released new place a b) (changes : allChanges t′ ≡ suc (allChanges t)) (removals : t′ .removals ≡ t .removals)
     (seat : Seat) where
   abbrev moved : Seat
   moved = movedCursor (leafOf place) (cutFor place b) seat
@@ -108,7 +108,7 @@ module _ {h h′ : Heap} {tree : Option Tree} {queue : List Free} {released : �
   }
 
   -- a search has at most four moves more left
-  pub left-insert : Store (t .places) h tree queue (t .changes) (length (t .removals)) released → (i : ℕ) (p : Point) (x : Answer) → released ≤ seat .track .since
+  pub left-insert : Store (t .places) h tree queue (allChanges t) (length (t .removals)) released → (i : ℕ) (p : Point) (x : Answer) → released ≤ seat .track .since
       → Busy t tree queue seat i (nearest p) (some x) → leftAt (w .tree) (w .queue) moved ≤ 4 + leftAt tree queue seat
   left-insert st i p x l v =
       let same = ap (λ (z : Progress). progressLeft (choiceOf p .side) (w .tree) (w .queue) z) (progress-moved (leafOf place) (cutFor place b) seat) in

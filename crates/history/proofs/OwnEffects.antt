@@ -12,15 +12,17 @@ use Rattle.words.specs.Agree.{inCommon, inStation, inRow, AgreeIn, OnlyIn}
 use Rattle.words.proofs.AgreeLaws.{only-none, row-common, common-station, station-station, row-station, elsewhere}
 use Rattle.stations.specs.declared.track.Track.{Track}
 use Rattle.stations.specs.Common.{openedIn}
+use Rattle.stations.specs.Counter.{counterAt}
 use Rattle.stations.specs.Counts.{countsAt}
 use Rattle.stations.specs.Station.{hasStation}
 use Rattle.stations.specs.Target.{targetAt, putTarget}
 use Rattle.stations.specs.Track.{trackAt, putTrack}
 use Rattle.stations.proofs.OpeningLaws.{openedIn-agree}
 use Rattle.stations.proofs.CountLaws.{counts-agree}
+use Rattle.stations.proofs.CounterLaws.{counter-agree}
 use Rattle.stations.proofs.TrackLaws.{track-agree, track-other, putTrack-only}
 use Rattle.stations.proofs.TargetLaws.{targetAt-agree, putTarget-only, target-other, target-back}
-use Rattle.stations.proofs.FieldLaws.{opened-putTrack, counts-putTrack, target-putTrack, opened-putTarget, counts-putTarget, track-putTarget}
+use Rattle.stations.proofs.FieldLaws.{opened-putTrack, counts-putTrack, counter-putTrack, target-putTrack, opened-putTarget, counts-putTarget, track-putTarget, counter-putTarget}
 use Rattle.rows.specs.Grades.{slotOf}
 use Rattle.calls.specs.Submit.{aimedWords}
 use Rattle.calls.proofs.UnseenLaws.{StationReads, RowReads, reads-unseen}
@@ -34,6 +36,7 @@ pub record Own (v w : List ℕ) (s : ℕ) : Type 0 where
   pub lengths : length v ≡ length w
   pub opened : openedIn v ≡ openedIn w
   pub counts : countsAt v ≡ countsAt w
+  pub counters : (u : ℕ) → counterAt v u ≡ counterAt w u
   pub tracks : (u : ℕ) → ¬ (u ≡ s) → trackAt v u ≡ trackAt w u
   pub targets : (u : ℕ) → ¬ (u ≡ s) → targetAt v u ≡ targetAt w u
   pub stations : (u : ℕ) → ¬ (u ≡ s) → StationReads v w u
@@ -44,6 +47,7 @@ own-trans g h = record {
   lengths = g .lengths ∙ h .lengths;
   opened = g .opened ∙ h .opened;
   counts = g .counts ∙ h .counts;
+  counters = λ u. g .counters u ∙ h .counters u;
   tracks = λ u n. g .tracks u n ∙ h .tracks u n;
   targets = λ u n. g .targets u n ∙ h .targets u n;
   stations = λ u n.
@@ -60,6 +64,7 @@ own-station {v} {w} s g =
       lengths = g .lengths;
       opened = openedIn-agree common;
       counts = counts-agree common;
+      counters = counter-agree common;
       tracks = λ u n. track-agree common u;
       targets = λ u n. targetAt-agree common u;
       stations = λ u n. reads-unseen (inStation s) (inStation u) g (station-station u s n);
@@ -70,9 +75,9 @@ own-station {v} {w} s g =
 pub own-rows : {v w : List ℕ} {s : ℕ} → Own v w s → (rows : ℕ) → SameRows w v rows
 own-rows g rows = record { row = λ r l. g .rows r .row rows; marks = λ x side p. g .rows x .grades side (slotOf p) (slot-fits p) }
 
-pub own-written : (v w : List ℕ) (s : ℕ) (x : Seat) → Own v w s → seatAt v s ≡ x → Written w v (countsAt w) (seatPut (λ u. seatAt w u) s x)
+pub own-written : (v w : List ℕ) (s : ℕ) (x : Seat) → Own v w s → seatAt v s ≡ x → Written w v (countsAt w) (counterAt w) (seatPut (λ u. seatAt w u) s x)
 unfolding seatPut
-own-written v w s x g e = record { opened = g .opened; counted = g .counts; seated = λ u m. go u (eqb u s) refl }
+own-written v w s x g e = record { opened = g .opened; counted = g .counts; counters = g .counters; seated = λ u m. go u (eqb u s) refl }
   where
     go : (u : ℕ) (b : Bool) → eqb u s ≡ b → seatAt v u ≡ elim b [ true ↦ x | false ↦ seatAt w u ]
     go u true f = rw (eqb-true u s f) e
@@ -88,6 +93,7 @@ own-track w s track = record {
   lengths = putTrack-only w s track .lengths;
   opened = opened-putTrack w s track;
   counts = counts-putTrack w s track;
+  counters = counter-putTrack w s track;
   tracks = λ u n. track-other w s track u n;
   targets = λ u n. target-putTrack w s track u;
   stations = λ u n. common-stations (putTrack-only w s track) u;
@@ -110,6 +116,7 @@ module _ (w : List ℕ) (s kind : ℕ) (p : Point) where
     lengths = aimed-only .lengths;
     opened = opened (eqb kind 4);
     counts = counts (eqb kind 4);
+    counters = λ u. counter (eqb kind 4) u;
     tracks = λ u n. track (eqb kind 4) u;
     targets = λ u n. targets (eqb kind 4) u n;
     stations = λ u n. common-stations aimed-only u;
@@ -123,6 +130,10 @@ module _ (w : List ℕ) (s kind : ℕ) (p : Point) where
       counts : (b : Bool) → countsAt (cond b (putTarget w s p) w) ≡ countsAt w
       counts true = counts-putTarget w s p
       counts false = refl
+
+      counter : (b : Bool) (u : ℕ) → counterAt (cond b (putTarget w s p) w) u ≡ counterAt w u
+      counter true u = counter-putTarget w s p u
+      counter false u = refl
 
       track : (b : Bool) (u : ℕ) → trackAt (cond b (putTarget w s p) w) u ≡ trackAt w u
       track true u = track-putTarget w s p u

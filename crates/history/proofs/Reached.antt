@@ -44,17 +44,17 @@ pub record Stands (words : List ℕ) (places limit : ℕ) : Type 0 where
 abbrev Alike : Table → Table → Type 0
 Alike t u = (u .places ≡ t .places) × (u .limit ≡ t .limit)
 
-changed-alike : (b : Bool) (t : Table) (c : Call) → Alike t (changedIf b t c)
+changed-alike : (b : Bool) (t : Table) (s : ℕ) (c : Call) → Alike t (changedIf b t s c)
 unfolding changedIf changed
-changed-alike false t c = (refl, refl)
-changed-alike true t (add p c) = (refl, refl)
-changed-alike true t (remove p) = (refl, refl)
-changed-alike true t (contains p) = (refl, refl)
-changed-alike true t (nearest p) = (refl, refl)
+changed-alike false t s c = (refl, refl)
+changed-alike true t s (add p c) = (refl, refl)
+changed-alike true t s (remove p) = (refl, refl)
+changed-alike true t s (contains p) = (refl, refl)
+changed-alike true t s (nearest p) = (refl, refl)
 
 set-alike : (t : Table) (s i : ℕ) (c : Call) (a : Answer) → Alike t (setDown t s i c a)
 unfolding setDown
-set-alike t s i c a = changed-alike (isChange a) t c
+set-alike t s i c a = changed-alike (isChange a) t s c
 
 submit-alike : (t : Table) (s kind : ℕ) (p : Point) (c : ℕ) → Alike t (submit t s kind p c .next)
 unfolding submit enter
@@ -80,7 +80,7 @@ retract-alike t s = retract-all (λ r. Alike t (r .next)) t s (refl, refl) (refl
 pub finished-alike : (t : Table) (s : ℕ) (c : Call) (o : Option Answer) → Alike t (finished t s c o)
 unfolding finished
 finished-alike t s c (some a) = (refl, refl)
-finished-alike t s c none = changed-alike (isChange (answerOf t c)) t c
+finished-alike t s c none = changed-alike (isChange (answerOf t s c)) t s c
 
 pub still-alike : (t : Table) (s : ℕ) → still t s .next ≡ t
 unfolding still stillAt
@@ -103,7 +103,7 @@ module _ {places limit : ℕ} where
   settled-stands {words} w =
       let t = w .table in
       let k = settle-keeps (λ u. Sound u × (Related words u × Alike t u))
-      (λ u s i c l g e x. (sound-set u s i c l e (x .0), (related-settles (x .0) l g e (x .1 .0), alike-trans t u (setDown u s i c (answerOf u c)) (x .1 .1) (set-alike u s i c (answerOf u c))))) t
+      (λ u s i c l g e x. (sound-set u s i c l e (x .0), (related-settles (x .0) l g e (x .1 .0), alike-trans t u (setDown u s i c (answerOf u s c)) (x .1 .1) (set-alike u s i c (answerOf u s c))))) t
       (w .sound, (w .related, (refl, refl))) in
       (moved t (settle eight t) (k .0) (k .1 .0) (k .1 .1) (w .places-same) (w .limit-same), settled t)
     where

@@ -1,15 +1,18 @@
 -- Readings of single definitions of `table` and `trees` that the steps of a walk cite.
-use Prim.Native.Nat.{ℕ, _+_}
-use mathlib.Core.Path.{_≡_, refl}
+use Prim.Native.Nat.{ℕ, suc, _+_, _<_}
+use mathlib.Core.Path.{_≡_, refl, _∙_}
 use mathlib.Core.Bool.{true, false, cond}
 use mathlib.Core.List.{_∷_}
 use mathlib.Core.Option.{none}
+use native.Mathlib.Numerals.{add-one}
 use lib.Dec.{eqb}
 use Rattle.points.specs.declared.point.Point.{Point}
+use Rattle.words.specs.Layout.{stations}
 use Rattle.points.specs.Word.{NONE}
 use Rattle.table.specs.Record.{without}
 use Rattle.table.specs.Call.{add, remove, nearest, isSearch, answer, isChange}
-use Rattle.table.specs.Table.{Station, unfinished, Table, eight, searches, changed}
+use Rattle.table.specs.Table.{Station, unfinished, Table, eight, put, searches, total, allChanges, changed}
+use Rattle.table.proofs.Counters.{total-put}
 use Rattle.table.proofs.Eager.{unsettled}
 use Rattle.trees.specs.Row.{Heap}
 use Rattle.trees.specs.Route.{downRow, down}
@@ -39,37 +42,41 @@ pub plain-change : (code : ℕ) (p : Point) (c : ℕ) → eqb code 1 ≡ false �
 unfolding isChange
 plain-change code p c e f = rw (e, f)
 
--- the table after an addition
-abbrev pub addedTable : Table → Point → ℕ → Table
-addedTable t p c = record {
+-- the table after an addition by station s
+abbrev pub addedTable : Table → ℕ → Point → ℕ → Table
+addedTable t s p c = record {
   places = t .places;
   limit = t .limit;
   held = record { point = p; curve = c } ∷ t .held;
-  changes = t .changes + 1;
+  counters = put (t .counters) s (t .counters s + 1);
   removals = t .removals;
   calls = t .calls;
   stations = t .stations;
 }
 
-pub changed-add : (t : Table) (p : Point) (c : ℕ) → changed t (add p c) ≡ addedTable t p c
+pub changed-add : (t : Table) (s : ℕ) (p : Point) (c : ℕ) → changed t s (add p c) ≡ addedTable t s p c
 unfolding changed
-changed-add t p c = refl
+changed-add t s p c = refl
 
--- the table after a removal, with other stations
-abbrev pub removedTable : Table → Point → (ℕ → Station) → Table
-removedTable t p f = record {
+-- the table after a removal by station s, with other stations
+abbrev pub removedTable : Table → ℕ → Point → (ℕ → Station) → Table
+removedTable t s p f = record {
   places = t .places;
   limit = t .limit;
   held = without p (t .held);
-  changes = t .changes + 1;
+  counters = put (t .counters) s (t .counters s + 1);
   removals = searches eight (t .stations) ∷ t .removals;
   calls = t .calls;
   stations = f;
 }
 
-pub changed-remove : (t : Table) (p : Point) → changed t (remove p) ≡ removedTable t p (t .stations)
+pub changed-remove : (t : Table) (s : ℕ) (p : Point) → changed t s (remove p) ≡ removedTable t s p (t .stations)
 unfolding changed
-changed-remove t p = refl
+changed-remove t s p = refl
+
+-- either counts one change
+pub one-more : (t : Table) (s : ℕ) → s < stations → total eight (put (t .counters) s (t .counters s + 1)) ≡ suc (allChanges t)
+one-more t s l = total-put (t .counters) s l ∙ add-one (allChanges t)
 
 -- ---- trees: Route
 

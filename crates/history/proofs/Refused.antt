@@ -72,7 +72,7 @@ unfolding walkOf conclude
 walk-settles words rows s call =
     let at = standsAt words s in
     let row = rowAt words rows at in
-    let code = codeAt words call row in
+    let code = codeAt words s call row in
     pick-settles (isCut row) (pick-settles (eqb (wayOf words rows (call .point) at .to) NONE) (is-refused refl) (is-done refl))
     (pick-settles (eqb at NONE || isLeaf row)
     (pick-settles (eqb code 1) (insert-settles words rows s call at) (pick-settles (eqb code 5) (unlink-settles words rows s call at) (is-done refl)))

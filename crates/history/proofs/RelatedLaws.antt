@@ -1,6 +1,7 @@
 -- What follows of a slice from its relation to a table: question 4, the words of the common record, and the places taken.
 use Prim.Native.Nat.{ℕ, suc, _+_, _-_, _*_, _≤_, _<_}
 use mathlib.Core.Path.{_≡_, sym, ap, _∙_, subst}
+use mathlib.Core.Logic.{inl, inr}
 use mathlib.Core.Bool.{true, false≢true}
 use mathlib.Core.List.{List}
 use mathlib.Core.Option.{Option}
@@ -9,15 +10,18 @@ use lib.ListN.{length}
 use native.Mathlib.Numerals.{add-one}
 use borrow.Author.Tests.{le-leb, lt-ltb}
 use Rattle.words.specs.Layout.{mostLimit, stations}
+use Rattle.words.specs.Words.{more}
 use Rattle.stations.specs.Counts.{countsAt}
+use Rattle.stations.specs.Counter.{counterAt}
 use Rattle.stations.specs.Track.{trackAt}
 use Rattle.points.specs.Word.{NONE}
 use Rattle.stations.specs.Common.{openedIn, leastSince, takenIn, isOpened, rowsIn, placesAt, limitAt}
 use Rattle.stations.proofs.OpeningLaws.{IsOpen, opened-tells}
 use Rattle.stations.proofs.TakenLaws.{awaiting-is, taken-is}
 use Rattle.table.specs.Call.{Call, add, remove, contains, nearest, isSearch, Answer}
-use Rattle.table.specs.Table.{Station, idle, unfinished, waiting, Table, taken}
-use Rattle.table.proofs.Sound.{Sound, removals-changes}
+use Rattle.table.specs.Table.{Station, idle, unfinished, waiting, Table, put, taken, allChanges}
+use Rattle.table.proofs.Sound.{Sound, removals-changes, changes-most}
+use Rattle.table.proofs.Stations.{put-same, put-other, put-cases}
 use Rattle.table.proofs.Taken.{SinceSays, IsLeast, taken-oldest}
 use Rattle.trees.specs.Tree.{Tree, topOf}
 use Rattle.trees.specs.Queue.{Free, headOf, tailOf}
@@ -68,7 +72,7 @@ module _ {words : List ℕ} {t : Table} (r : Related words t) where
   related-rows = rows-in words (t .places) (t .limit) (r .opened)
 
   -- the counts, and the root, head and tail links
-  pub word-changes : countsAt words .changes ≡ t .changes
+  pub word-changes : countsAt words .changes ≡ allChanges t
   word-changes = r .counted .changes
 
   pub word-held : countsAt words .held ≡ length (t .held)
@@ -102,9 +106,24 @@ module _ {words : List ℕ} {t : Table} (r : Related words t) where
 
   -- ---- the places taken
 
-  -- the number of removals is never the word for none
-  pub removals-word : Sound t → length (t .removals) ≤ mostLimit
-  removals-word h = omega (arith, removals-changes t h, h .spent, related-is-open .limit-most)
+  -- the number of changes is never the word for none
+  pub changes-word : Sound t → allChanges t ≤ stations * mostLimit
+  changes-word h = omega (arith, changes-most t h, related-is-open .limit-most)
+
+  -- nor is that of removals
+  pub removals-word : Sound t → length (t .removals) ≤ stations * mostLimit
+  removals-word h = omega (arith, removals-changes t h, changes-word h)
+
+  -- one change more of station s is counted as the table counts it
+  pub counters-more : Sound t → (s : ℕ) → s < stations → (u : ℕ) → u < stations
+      → put (counterAt words) s (more (counterAt words s)) u ≡ put (t .counters) s (t .counters s + 1) u
+  counters-more h s l u k = elim (put-cases (t .counters) s u (t .counters s + 1)) [
+    | inl w ↦
+        rw (w .1, w .0)
+        (put-same (counterAt words) s (more (counterAt words s)) ∙ ap more (r .counters s l) ∙ more-is (t .counters s) (omega (arith, h .spent s, related-is-open .limit-most))
+        ∙ sym (add-one (t .counters s)))
+    | inr w ↦ rw (w .1) (put-other (counterAt words) s u (more (counterAt words s)) (w .0) ∙ r .counters u k)
+  ]
 
   -- the since words say what the table's stations say
   pub related-since : Sound t → (s : ℕ) → s < stations → SinceSays (t .removals) (trackAt words s .since) (t .stations s)

@@ -15,6 +15,7 @@ use Rattle.stations.specs.Common.{placesIn, limitIn, leastSince}
 use Rattle.stations.proofs.OpeningLaws.{opened-tells}
 use Rattle.stations.proofs.TakenLaws.{least-removals}
 use Rattle.table.specs.Table.{opened}
+use Rattle.table.proofs.Counters.{total-zero}
 use Rattle.trees.specs.Row.{spareRow, Heap}
 use Rattle.trees.specs.Queue.{headOf, tailOf, spareRows}
 use Rattle.trees.specs.Store.{Store}
@@ -61,15 +62,16 @@ module _ {words : List ℕ} {places limit : ℕ} (w : OpenedAs words places limi
         tree = none;
         queue = spareRows 0 (2 * places);
         reads = λ r l. w .rows r l ∙ rw (add-one r);
-        store = open-store;
+        store = rw total-zero open-store;
         counted = record {
-          changes = ap (λ (c : Counts). c .changes) (w .counts);
+          changes = ap (λ (c : Counts). c .changes) (w .counts) ∙ sym total-zero;
           held = ap (λ (c : Counts). c .held) (w .counts);
           root = ap (λ (c : Counts). c .root) (w .counts);
           head = ap (λ (c : Counts). c .head) (w .counts) ∙ sym (q .0);
           tail = ap (λ (c : Counts). c .tail) (w .counts) ∙ sym (q .1);
           removals = ap (λ (c : Counts). c .removals) (w .counts);
         };
+        counters = λ s l. w .counters s;
         records = λ r. (λ m. m, λ m. m);
         number = refl;
         seats = λ s l. record { state = w .states s l; quiet = open-quiet s l };

@@ -35,7 +35,7 @@ entries-same r entries f q = (
 
 -- the table's answer is set down
 settled-busy : {words : List ℕ} {t : Table} (s : ℕ) {i : ℕ} {p : Point} → Sound t → (r : Related words t) → Busy t (r .tree) (r .queue) (seatAt words s) i (nearest p) none
-    → Busy t (r .tree) (r .queue) (seatAt words s) i (nearest p) (some (answerOf t (nearest p)))
+    → Busy t (r .tree) (r .queue) (seatAt words s) i (nearest p) (some (answerOf t s (nearest p)))
 unfolding answerOf
 settled-busy {words} {t} s {p = p} h r b = busy-on b (seatAt words s .track) (b .asof) (b .phase) (record {
   since = b .works .since;
@@ -48,15 +48,15 @@ settled-busy {words} {t} s {p = p} h r b = busy-on b (seatAt words s .track) (b 
 })
 
 -- what is set down changes nothing else of the table
-set-stations : (t : Table) (s i : ℕ) (c : Call) → isSearch c ≡ true → setDown t s i c (answerOf t c) ≡ withStations t (put (t .stations) s (unfinished i c (some (answerOf t c))))
+set-stations : (t : Table) (s i : ℕ) (c : Call) → isSearch c ≡ true → setDown t s i c (answerOf t s c) ≡ withStations t (put (t .stations) s (unfinished i c (some (answerOf t s c))))
 unfolding setDown changedIf
-set-stations t s i c e = rw (search-quiet t c e)
+set-stations t s i c e = rw (search-quiet t s c e)
 
 -- the relation with the answer set down
 settled-related : {words : List ℕ} {t : Table} {s i : ℕ} {p : Point} → Sound t → s < stations → t .stations s ≡ unfinished i (nearest p) none → Related words t
-    → Related words (withStations t (put (t .stations) s (unfinished i (nearest p) (some (answerOf t (nearest p))))))
+    → Related words (withStations t (put (t .stations) s (unfinished i (nearest p) (some (answerOf t s (nearest p))))))
 settled-related {words} {t} {s} {i} {p} h l q r =
-    let x : Station = unfinished i (nearest p) (some (answerOf t (nearest p))) in
+    let x : Station = unfinished i (nearest p) (some (answerOf t s (nearest p))) in
     let u : Table = withStations t (put (t .stations) s x) in
     record {
       opened = r .opened;
@@ -73,6 +73,7 @@ settled-related {words} {t} {s} {i} {p} h l q r =
         tail = r .counted .tail;
         removals = r .counted .removals;
       };
+      counters = r .counters;
       records = r .records;
       number = r .number;
       seats = λ v k. elim (put-cases (t .stations) s v x) [
@@ -87,11 +88,11 @@ settled-related {words} {t} {s} {i} {p} h l q r =
 
 -- The moment of a nearest call keeps the relation; no word changes.
 pub related-settles : {words : List ℕ} {t : Table} {s i : ℕ} {c : Call} → Sound t → s < stations → isSearch c ≡ true → t .stations s ≡ unfinished i c none → Related words t
-    → Related words (setDown t s i c (answerOf t c))
+    → Related words (setDown t s i c (answerOf t s c))
 unfolding isSearch
 related-settles {words} {t} {s} {i} {c} h l e q r = rw (set-stations t s i c e) (go c e q)
   where
-    go : (c : Call) → isSearch c ≡ true → t .stations s ≡ unfinished i c none → Related words (withStations t (put (t .stations) s (unfinished i c (some (answerOf t c)))))
+    go : (c : Call) → isSearch c ≡ true → t .stations s ≡ unfinished i c none → Related words (withStations t (put (t .stations) s (unfinished i c (some (answerOf t s c)))))
     go (add p v) e q = absurd (false≢true e)
     go (remove p) e q = absurd (false≢true e)
     go (contains p) e q = absurd (false≢true e)

@@ -23,8 +23,8 @@ use Rattle.stations.proofs.CommonLaws.{since-none, since-some, common-of}
 use Rattle.words.proofs.RangeLaws.{curve-tells}
 use Rattle.stations.proofs.SoundLaws.{best-none, best-record, call-of}
 use Rattle.table.specs.Call.{Call, add, remove, contains, nearest, Answer}
-use Rattle.table.specs.Table.{Station, idle, unfinished, waiting, Table}
-use Rattle.table.proofs.Sound.{Sound, removals-changes, held-places}
+use Rattle.table.specs.Table.{Station, idle, unfinished, waiting, Table, allChanges}
+use Rattle.table.proofs.Sound.{Sound, removals-changes, held-places, changes-most}
 use Rattle.table.proofs.Removals.{since-le}
 use Rattle.trees.specs.Row.{Entry, Heap}
 use Rattle.trees.specs.Tree.{Tree}
@@ -51,7 +51,7 @@ quiet-track : (rows removals : ℕ) (track : Track) → Quiet track → TrackIn 
 quiet-track rows removals track q =
     record { cursor = inl (q .cursor); phase = omega (arith, q .phase); since = since-none removals (track .since) (q .since); missed = inl (q .missed) }
 
-module _ {h : Heap} {tree : Option Tree} {q : List Free} {released : ℕ} (t : Table) (st : Store (t .places) h tree q (t .changes) (length (t .removals)) released) where
+module _ {h : Heap} {tree : Option Tree} {q : List Free} {released : ℕ} (t : Table) (st : Store (t .places) h tree q (allChanges t) (length (t .removals)) released) where
   walk-track : (seat : Seat) (p : Point) (o : Option Answer) → seat .track .phase ≤ 1 → Walks tree seat p o → TrackIn (2 * t .places) (length (t .removals)) (seat .track)
   walk-track seat p o l w = record {
     cursor = walking-link st p (seat .track .cursor) (w .walking);
@@ -89,13 +89,14 @@ related-common {words} {t} h r =
     common-of words (2 * t .places) (record {
       there = omega (arith, o .long);
       counts = record {
-        changes = omega (arith, word-changes r, word-limit r, h .spent);
+        changes = omega (arith, word-changes r, word-limit r, changes-most t h);
         held = omega (arith, word-held r, word-places r, held-places t h);
         removals = omega (arith, word-removals r, word-changes r, removals-changes t h);
         root = rw (word-root r) (link-in (2 * t .places) _ (root-link (r .tree) (r .store)));
         head = rw (word-head r) (head-inside (r .store) (o .places-least));
         tail = rw (word-tail r) (tail-inside (r .store) (o .places-least));
       };
+      counters = λ s l. omega (arith, r .counters s l, word-limit r, h .spent s);
       tracks = λ s l. record {
         cursor = link-in (2 * t .places) (trackAt words s .cursor) (related-track r s l .cursor);
         phase = related-track r s l .phase;
@@ -137,8 +138,8 @@ module _ {t : Table} {tree : Option Tree} {q : List Free} {seat : Seat} {i : ℕ
   busy-curve (nearest p) b = refl
 
   -- the call of a seat is in range
-  pub busy-sound : (c : Call) → Busy t tree q seat i c o → callSound (seat .call) (t .changes) ≡ true
-  busy-sound c b = call-of (seat .call) (t .changes) (record {
+  pub busy-sound : (c : Call) → Busy t tree q seat i c o → callSound (seat .call) (allChanges t) ≡ true
+  busy-sound c b = call-of (seat .call) (allChanges t) (record {
     kind-least = omega (arith, kind-range c, b .kind);
     kind-most = omega (arith, kind-range c, b .kind);
     point = rw (b .point) (b .ranged);

@@ -5,6 +5,7 @@ use mathlib.Core.Bool.{Bool, true, false}
 use mathlib.Core.List.{List}
 use lib.Dec.{eqb}
 use borrow.Author.Tests.{eqb-true, eqb-false}
+use Rattle.stations.specs.Counter.{counterAt}
 use Rattle.stations.specs.Counts.{countsAt}
 use Rattle.points.specs.Word.{NONE}
 use Rattle.rows.specs.declared.row.Row.{Row as WordRow}
@@ -18,6 +19,7 @@ use Rattle.stations.proofs.OpeningLaws.{opened-tells, opened-fits}
 use Rattle.calls.proofs.UnseenLaws.{reads-unseen}
 use Rattle.trees.specs.Row.{Row, spareRow, removedRow, leafRow, cutRow, Heap}
 use Rattle.stations.proofs.CountLaws.{counts-agree}
+use Rattle.stations.proofs.CounterLaws.{counter-agree}
 use Rattle.stations.proofs.TrackLaws.{track-agree}
 use Rattle.stations.proofs.TargetLaws.{targetAt-agree}
 use Rattle.history.specs.View.{seatAt, wordRow, Reads, heapPut, Written}
@@ -41,16 +43,17 @@ pub put-none : (words : List ℕ) (row : WordRow) → putRow words NONE row ≡ 
 put-none words row = putRow-none words row
 
 -- what is written in a row leaves the counts and the seats
-pub region-written : {v w : List ℕ} (r : ℕ) → OnlyIn v w (inRow r) → Written w v (countsAt w) (λ s. seatAt w s)
+pub region-written : {v w : List ℕ} (r : ℕ) → OnlyIn v w (inRow r) → Written w v (countsAt w) (counterAt w) (λ s. seatAt w s)
 region-written {v} {w} r only =
     let common = elsewhere (inRow r) inCommon only (common-row r) in
     record {
       opened = reads-unseen (inRow r) inCommon only (common-row r) .opened;
       counted = counts-agree common;
+      counters = counter-agree common;
       seated = λ s l. seat-same v w s (track-agree common s) (targetAt-agree common s) (reads-unseen (inRow r) (inStation s) only (station-row s r));
     }
 
-pub row-written : (words : List ℕ) (r : ℕ) (row : WordRow) → Written words (putRow words r row) (countsAt words) (λ s. seatAt words s)
+pub row-written : (words : List ℕ) (r : ℕ) (row : WordRow) → Written words (putRow words r row) (countsAt words) (counterAt words) (λ s. seatAt words s)
 row-written words r row = region-written r (putRow-only words r row)
 
 -- a row of a heap is a row

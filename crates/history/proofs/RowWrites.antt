@@ -6,6 +6,7 @@ use mathlib.Core.Bool.{Bool, true, false≢true}
 use mathlib.Core.List.{List}
 use native.Mathlib.Decide.{ℕ-discrete}
 use borrow.Author.Tests.{eq-eqb, ne-eqb}
+use Rattle.stations.specs.Counter.{counterAt}
 use Rattle.stations.specs.Counts.{countsAt}
 use Rattle.points.specs.declared.point.Point.{Point}
 use Rattle.points.specs.declared.cut.Cut.{Cut as PointCut}
@@ -33,12 +34,12 @@ heap-wrote h r row = record { here = rw (eq-eqb r r refl, heapPut); rest = λ i 
 -- the words read as the heap; counts and seats are those of the words before
 pub record Holding (before words : List ℕ) (places limit : ℕ) (h : Heap) : Type 0 where
   pub opened : openedIn words ≡ Opened places limit
-  pub written : Written before words (countsAt before) (λ s. seatAt before s)
+  pub written : Written before words (countsAt before) (counterAt before) (λ s. seatAt before s)
   pub reads : Reads words (2 * places) h
 
 -- no row is written yet
 pub held-first : (words : List ℕ) (places limit : ℕ) (h : Heap) → openedIn words ≡ Opened places limit → Reads words (2 * places) h → Holding words words places limit h
-held-first words places limit h o r = record { opened = o; written = record { opened = refl; counted = refl; seated = λ s l. refl }; reads = r }
+held-first words places limit h o r = record { opened = o; written = record { opened = refl; counted = refl; counters = λ s. refl; seated = λ s l. refl }; reads = r }
 
 -- a row in range is written
 pub put-row : {before words : List ℕ} {places limit : ℕ} {h : Heap} → Holding before words places limit h → (r : ℕ) (x : WordRow) (row : Row) → x ≡ wordRow row → r < 2 * places
@@ -50,6 +51,7 @@ put-row {before} {words} {places} {limit} {h} w r x row e l i =
       written = record {
         opened = v .opened ∙ w .written .opened;
         counted = v .counted ∙ w .written .counted;
+        counters = λ s. v .counters s ∙ w .written .counters s;
         seated = λ s k. v .seated s k ∙ w .written .seated s k;
       };
       reads = rw e (reads-put words places limit h r row (w .opened) l i (w .reads));
@@ -65,6 +67,7 @@ put-grades {before} {words} {places} w r left p q e =
       written = record {
         opened = v .opened ∙ w .written .opened;
         counted = v .counted ∙ w .written .counted;
+        counters = λ s. v .counters s ∙ w .written .counters s;
         seated = λ s k. v .seated s k ∙ w .written .seated s k;
       };
       reads = λ i l. begin-rows words r left (slotOf p) (slotOf q) (slot-fits p) (slot-fits q) (2 * places) e i ∙ w .reads i l;

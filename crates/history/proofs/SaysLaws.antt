@@ -10,13 +10,14 @@ use native.Mathlib.Omega.{arith}
 use lib.Dec.{eqb}
 use borrow.Author.Tests.{eqb-true, eqb-false, eq-eqb, ne-eqb}
 use Rattle.words.specs.Layout.{stations}
+use Rattle.stations.specs.Counter.{counterAt}
 use Rattle.stations.specs.Counts.{countsAt}
 use Rattle.stations.specs.declared.counts.Counts.{Counts}
 use Rattle.stations.specs.Track.{trackAt}
 use Rattle.stations.specs.Common.{leastSince}
 use Rattle.stations.proofs.TakenLaws.{least-removals}
 use Rattle.table.specs.Call.{Call, add, remove, contains, nearest, Answer}
-use Rattle.table.specs.Table.{Station, idle, unfinished, waiting, Table, put}
+use Rattle.table.specs.Table.{Station, idle, unfinished, waiting, Table, put, allChanges}
 use Rattle.table.proofs.Stations.{put-cases}
 use Rattle.trees.specs.Tree.{Tree}
 use Rattle.trees.specs.Queue.{Free}
@@ -33,10 +34,10 @@ pub record Alike (t t′ : Table) : Type 0 where
   pub places : t′ .places ≡ t .places
   pub limit : t′ .limit ≡ t .limit
   pub held : t′ .held ≡ t .held
-  pub changes : t′ .changes ≡ t .changes
+  pub counters : t′ .counters ≡ t .counters
   pub removals : t′ .removals ≡ t .removals
 
-module _ (t t′ : Table) (changes : t′ .changes ≡ t .changes) (removals : t′ .removals ≡ t .removals) (tree : Option Tree) (queue : List Free) (seat : Seat) where
+module _ (t t′ : Table) (changes : allChanges t′ ≡ allChanges t) (removals : t′ .removals ≡ t .removals) (tree : Option Tree) (queue : List Free) (seat : Seat) where
   -- an unfinished call goes on as before
   works-kept : (i : ℕ) (c : Call) (o : Option Answer) → Works t tree queue seat i c o → Works t′ tree queue seat i c o
   works-kept i (add p c) o w = w
@@ -86,7 +87,7 @@ seat-put-each P seats s x h u k = go (eqb u s) refl
     go false q = rw (seat-put-other seats s u x (eqb-false u s q)) k
 
 -- a seat and a station put anew: the others say what they said
-pub says-put : (t t′ : Table) → t′ .changes ≡ t .changes → t′ .removals ≡ t .removals → (tree : Option Tree) (queue : List Free) (seats : ℕ → Seat) (said : ℕ → Station)
+pub says-put : (t t′ : Table) → allChanges t′ ≡ allChanges t → t′ .removals ≡ t .removals → (tree : Option Tree) (queue : List Free) (seats : ℕ → Seat) (said : ℕ → Station)
     → ((u : ℕ) → u < stations → Says t tree queue (seats u) (said u)) → (s : ℕ) (x : Seat) (y : Station) → Says t′ tree queue x y
     → (u : ℕ) → u < stations → Says t′ tree queue (seatPut seats s x u) (put said s y u)
 says-put t t′ changes removals tree queue seats said says s x y b u l = elim (put-cases said s u y) [
@@ -109,7 +110,7 @@ marking-put marks tree seats said each s x y b u l = elim (put-cases said s u y)
 
 -- ---- what was written
 
-module _ {words words′ : List ℕ} {counts : Counts} {seats : ℕ → Seat} (w : Written words words′ counts seats) where
+module _ {words words′ : List ℕ} {counts : Counts} {made : ℕ → ℕ} {seats : ℕ → Seat} (w : Written words words′ counts made seats) where
   -- a word of the common record as it was written
   pub written-removals : countsAt words′ .removals ≡ counts .removals
   written-removals = ap (λ (c : Counts). c .removals) (w .counted)
@@ -124,7 +125,7 @@ same-marks same = λ i. λ x side p. same .marks x side p i
 
 -- Where the rows and the counts are as they were, the table differs in its stations alone, no removal is awaited anew, the seats say what
 -- the stations say, and every add has marked its way, words and table are related again.
-unfoldable pub related-written : {words words′ : List ℕ} {t t′ : Table} {seats : ℕ → Seat} (r : Related words t) → Written words words′ (countsAt words) seats → SameRows words words′ (2 * t .places)
+unfoldable pub related-written : {words words′ : List ℕ} {t t′ : Table} {seats : ℕ → Seat} (r : Related words t) → Written words words′ (countsAt words) (counterAt words) seats → SameRows words words′ (2 * t .places)
     → Alike t t′ → leastSince words ≤ leastSince words′ → ((s : ℕ) → s < stations → Says t′ (r .tree) (r .queue) (seats s) (t′ .stations s))
     → ((s : ℕ) → s < stations → Marking (marksIn words) (r .tree) (seats s .track .cursor) (t′ .stations s)) → Related words′ t′
 related-written {words} {words′} {t} {t′} {seats} r w rows a le says marking = record {
@@ -133,15 +134,16 @@ related-written {words} {words′} {t} {t′} {seats} r w rows a le says marking
   tree = r .tree;
   queue = r .queue;
   reads = rw (a .places) (λ i l. rows .row i l ∙ r .reads i l);
-  store = rw (a .places, a .changes, a .removals) (store-release le (omega (arith, least-removals words′, written-removals w, r .counted .removals)) (r .store));
+  store = rw (a .places, a .counters, a .removals) (store-release le (omega (arith, least-removals words′, written-removals w, r .counted .removals)) (r .store));
   counted = rw (w .counted) (record {
-    changes = rw (a .changes) (r .counted .changes);
+    changes = rw (a .counters) (r .counted .changes);
     held = r .counted .held;
     root = r .counted .root;
     head = r .counted .head;
     tail = r .counted .tail;
     removals = rw (a .removals) (r .counted .removals);
   });
+  counters = λ s l. w .counters s ∙ rw (a .counters) (r .counters s l);
   records = rw (a .held) (r .records);
   number = rw (a .held) (r .number);
   seats = λ s l. subst (λ x. Says t′ (r .tree) (r .queue) x (t′ .stations s)) (sym (w .seated s l)) (says s l);

@@ -9,6 +9,7 @@ use native.Mathlib.Omega.{arith}
 use lib.Dec.{eqb}
 use borrow.Author.Tests.{eqb-true, eqb-false}
 use Rattle.words.specs.Layout.{stations}
+use Rattle.stations.specs.Counter.{counterAt}
 use Rattle.stations.specs.Counts.{countsAt}
 use Rattle.stations.specs.Track.{trackAt}
 use Rattle.stations.specs.Common.{leastSince}
@@ -29,7 +30,7 @@ seat-cases seats s x u = go (eqb u s) refl
 
 -- ---- the removals that are awaited
 
-module _ {words words′ : List ℕ} {seats : ℕ → Seat} (w : Written words words′ (countsAt words) seats) where
+module _ {words words′ : List ℕ} {seats : ℕ → Seat} (w : Written words words′ (countsAt words) (counterAt words) seats) where
   -- where each seat has a since word no less than the least one, that is no less
   pub least-written : ((u : ℕ) → u < stations → leastSince words ≤ seats u .track .since) → leastSince words ≤ leastSince words′
   unfolding seatAt
@@ -37,7 +38,7 @@ module _ {words words′ : List ℕ} {seats : ℕ → Seat} (w : Written words w
       (λ u l. let e : trackAt words′ u .since ≡ seats u .track .since = ap (λ (z : Seat). z .track .since) (w .seated u l) in omega (arith, f u l))
 
 module _ (words words′ : List ℕ) (t : Table) (f : ℕ → Station) (s : ℕ) (x : Seat) (r : Related words t)
-    (w : Written words words′ (countsAt words) (seatPut (λ u. seatAt words u) s x)) (same : SameRows words words′ (2 * t .places))
+    (w : Written words words′ (countsAt words) (counterAt words) (seatPut (λ u. seatAt words u) s x)) (same : SameRows words words′ (2 * t .places))
     (later : leastSince words ≤ x .track .since) (others : (u : ℕ) → u ≢ s → f u ≡ t .stations u) (says : Says t (r .tree) (r .queue) x (f s))
     (marking : Marking (marksIn words) (r .tree) (x .track .cursor) (f s)) where
   pub put-since : (u : ℕ) → u < stations → leastSince words ≤ seatPut (λ v. seatAt words v) s x u .track .since
@@ -58,4 +59,4 @@ module _ (words words′ : List ℕ) (t : Table) (f : ℕ → Station) (s : ℕ)
 
   unfoldable pub related-seat : Related words′ (withStations t f)
   related-seat =
-      related-written r w same (record { places = refl; limit = refl; held = refl; changes = refl; removals = refl }) (least-written w put-since) put-says put-marking
+      related-written r w same (record { places = refl; limit = refl; held = refl; counters = refl; removals = refl }) (least-written w put-since) put-says put-marking

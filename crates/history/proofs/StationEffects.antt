@@ -15,6 +15,7 @@ use Rattle.words.proofs.AgreeLaws.{only-trans, common-station, elsewhere}
 use Rattle.stations.specs.declared.answer.Answer.{Answer}
 use Rattle.stations.specs.declared.track.Track.{Track}
 use Rattle.stations.specs.Common.{Opened, openedIn}
+use Rattle.stations.specs.Counter.{counterAt}
 use Rattle.stations.specs.Counts.{countsAt}
 use Rattle.stations.specs.Station.{hasStation, submitted, answered, emptied, stateAt, putState}
 use Rattle.stations.specs.Target.{targetAt}
@@ -70,7 +71,7 @@ module _ (words : List ℕ) (places limit : ℕ) (o : openedIn words ≡ Opened 
     unfolding submittedWords begunWords
     own-submit = own-trans (own-aimed begun s kind p) (own-trans (own-track asked s (begunTrack (countsAt asked) kind)) (own-station s asked-only))
 
-    pub submit-written : inRange p ≡ true → Written words (submittedWords words s kind p c) (countsAt words)
+    pub submit-written : inRange p ≡ true → Written words (submittedWords words s kind p c) (countsAt words) (counterAt words)
         (seatPut (λ u. seatAt words u) s
         (record {
           track = record { cursor = countsAt words .root; phase = 0; since = sinceFor (countsAt words .removals) kind; missed = NONE };
@@ -105,7 +106,7 @@ module _ (words : List ℕ) (places limit : ℕ) (o : openedIn words ≡ Opened 
   own-take : Own empty words s
   own-take = own-station s (putState-only words s (emptied (stateAt words s)))
 
-  pub take-written : Written words empty (countsAt words)
+  pub take-written : Written words empty (countsAt words) (counterAt words)
       (seatPut (λ u. seatAt words u) s
       (record { track = seatAt words s .track; target = seatAt words s .target; state = 0; call = seatAt words s .call; answer = seatAt words s .answer }))
   unfolding seatAt
@@ -134,7 +135,7 @@ module _ (words : List ℕ) (places limit : ℕ) (o : openedIn words ≡ Opened 
     unfolding answeredWords letGo
     own-answer = own-trans (own-track waits s nowhere) (own-station s waits-only)
 
-    pub answer-written : answerSound a ≡ true → Written words (answeredWords words s a) (countsAt words)
+    pub answer-written : answerSound a ≡ true → Written words (answeredWords words s a) (countsAt words) (counterAt words)
         (seatPut (λ u. seatAt words u) s (answeredSeat (seatAt words s) a))
     unfolding answeredWords letGo seatAt
     answer-written e =
@@ -162,7 +163,7 @@ module _ (words : List ℕ) (places limit : ℕ) (o : openedIn words ≡ Opened 
     unfolding keptWords
     own-kept = own-trans (own-track chosen s kept) (own-station s (putBest-only words s (p .best)))
 
-    pub kept-written : inRange (p .best .point) ≡ true → Written words (keptWords words s p) (countsAt words)
+    pub kept-written : inRange (p .best .point) ≡ true → Written words (keptWords words s p) (countsAt words) (counterAt words)
         (seatPut (λ u. seatAt words u) s
         (record {
           track = record { cursor = p .cursor; phase = p .phase; since = seatAt words s .track .since; missed = p .missed };
@@ -190,7 +191,7 @@ module _ (words : List ℕ) (places limit : ℕ) (o : openedIn words ≡ Opened 
     abbrev stands : Track
     stands = standing to 0 (trackAt words s)
 
-    pub walk-written : Written words (walkedWords words s to) (countsAt words) (seatPut (λ u. seatAt words u) s (withTrack (seatAt words s) (standing to 0 (seatAt words s .track))))
+    pub walk-written : Written words (walkedWords words s to) (countsAt words) (counterAt words) (seatPut (λ u. seatAt words u) s (withTrack (seatAt words s) (standing to 0 (seatAt words s .track))))
     unfolding walkedWords seatAt
     walk-written =
         let reads = common-stations (putTrack-only words s stands) s in

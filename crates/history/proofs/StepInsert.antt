@@ -1,15 +1,14 @@
 -- An add that finds its point not held, a change left and site: the record is inserted, and the step answers 1 (`insert-outcome`).
-use Prim.Native.Nat.{ℕ, suc, _+_, _-_, _*_, _≤_, _<_}
+use Prim.Native.Nat.{ℕ, suc, _+_, _-_, _*_, _<_}
 use mathlib.Core.Path.{_≡_, refl, sym, _∙_, ap, subst}
 use mathlib.Core.Logic.{_↔_, _⊎_, inl, inr}
 use mathlib.Core.Bool.{true}
 use mathlib.Core.List.{List, _∷_, map, List·Memᴰ, List·Memᴰ·head, List·Memᴰ·tail, List·Memᴰ·cases-cons, Memᴰ·map, Memᴰ·of-map}
 use mathlib.Core.Option.{Option, none, some}
 use native.Mathlib.Omega.{arith}
-use native.Mathlib.Numerals.{add-one}
 use lib.ListN.{length}
 use borrow.Author.Tests.{ne-eqb}
-use Rattle.words.specs.Layout.{mostLimit, stations}
+use Rattle.words.specs.Layout.{stations}
 use Rattle.stations.specs.Counts.{countsAt}
 use Rattle.stations.specs.declared.counts.Counts.{Counts}
 use Rattle.points.specs.declared.point.Point.{Point}
@@ -22,7 +21,7 @@ use Rattle.words.proofs.RangeLaws.{curve-tells}
 use Rattle.stations.proofs.SoundLaws.{answer-of}
 use Rattle.table.specs.Record.{Record, Same, curveAt}
 use Rattle.table.specs.Call.{add, answer}
-use Rattle.table.specs.Table.{unfinished, waiting, Table, put, withStations, taken}
+use Rattle.table.specs.Table.{unfinished, waiting, Table, put, withStations, taken, allChanges}
 use Rattle.table.proofs.Sound.{Sound}
 use Rattle.table.proofs.Eager.{Settled}
 use Rattle.table.proofs.Answers.{add-new, finished-change}
@@ -43,9 +42,9 @@ use Rattle.calls.specs.Answer.{answer as given, answeredWords}
 use Rattle.calls.specs.Insert.{siteAt, siteSound, insertRoot as rootAfter, insertHead as headAfter, insertRows, insertCounts, cursorsMoved, insertWords, insertOf}
 use Rattle.history.specs.View.{Seat, seatAt, marksIn}
 use Rattle.history.specs.Related.{recordOf, Busy, Related}
-use Rattle.history.proofs.Readings.{added-change, addedTable, changed-add}
+use Rattle.history.proofs.Readings.{added-change, addedTable, changed-add, one-more}
 use Rattle.history.proofs.Effects.{movedCursor, insert-written, insert-same-rows}
-use Rattle.history.proofs.RelatedLaws.{more-is, related-is-open, removals-word, related-busy, related-taken}
+use Rattle.history.proofs.RelatedLaws.{more-is, related-is-open, changes-word, removals-word, counters-more, related-busy, related-taken}
 use Rattle.history.proofs.Outcome.{Outcome, ends, leftAt, Beside, Next}
 use Rattle.history.proofs.OwnSeat.{least-same, least-seat, next-answered}
 use Rattle.history.proofs.OtherSeats.{says-insert, marking-insert, left-insert}
@@ -87,22 +86,22 @@ record Gains (words words′ : List ℕ) (tree : Option Tree) (new : Entry) (pla
 
 -- ---- the relation after an insert
 
--- the words after an insert, given what was read, what is written and what that makes of tree and queue
-next-inserted : {words : List ℕ} {t : Table} {h′ : Heap} {a b : ℕ} {new : Entry} (place : Option Leaf) (site : Site) → Sound t → Settled t → (r : Related words t)
-    → new .added ≡ more (countsAt words .changes) → t .changes < NONE → countOf (r .tree) < NONE
+-- the words after an insert by the station `own`, given what was read, what is written and what that makes of tree and queue
+next-inserted : {words : List ℕ} {t : Table} {h′ : Heap} {a b : ℕ} {new : Entry} (own : ℕ) → own < stations → (place : Option Leaf) (site : Site) → Sound t → Settled t → (r : Related words t)
+    → new .added ≡ more (countsAt words .changes) → allChanges t < NONE → countOf (r .tree) < NONE
     → (leafOf place ≡ NONE → cutFor place b ≡ NONE) → site .at ≡ leafOf place → site .second ≡ cutFor place b
     → rootAfter site (countsAt words .root) ≡ insertRoot place a b (topOf (r .tree)) → headAfter site ≡ insertHead (r .heap) place a b
-    → Holding (cursorsMoved (site .at) (site .second) stations (insertCounts words site))
-    (insertRows (cursorsMoved (site .at) (site .second) stations (insertCounts words site)) site (new .added) (new .point) (new .curve)) (t .places) (t .limit) h′
-    → Inserted (t .places) (r .heap) h′ (r .tree) (r .queue) (t .changes) (length (t .removals)) (leastSince words) new place a b
-    → Gains words (insertRows (cursorsMoved (site .at) (site .second) stations (insertCounts words site)) site (new .added) (new .point) (new .curve)) (r .tree) new place b
-    → Next r stations (insertWords words site (new .point) (new .curve)) (addedTable t (new .point) (new .curve))
+    → Holding (cursorsMoved (site .at) (site .second) stations (insertCounts words own site))
+    (insertRows (cursorsMoved (site .at) (site .second) stations (insertCounts words own site)) site (new .added) (new .point) (new .curve)) (t .places) (t .limit) h′
+    → Inserted (t .places) (r .heap) h′ (r .tree) (r .queue) (allChanges t) (length (t .removals)) (leastSince words) new place a b
+    → Gains words (insertRows (cursorsMoved (site .at) (site .second) stations (insertCounts words own site)) site (new .added) (new .point) (new .curve)) (r .tree) new place b
+    → Next r stations (insertWords words own site (new .point) (new .curve)) (addedTable t own (new .point) (new .curve))
 unfolding insertWords
-next-inserted {words} {t} {h′} {a} {b} {new} place site sound settled r number below few still at second root head v w gains =
+next-inserted {words} {t} {h′} {a} {b} {new} own mine place site sound settled r number below few still at second root head v w gains =
     rw (← number) (record { related = inserted; beside = beside })
   where
     base : List ℕ
-    base = cursorsMoved (site .at) (site .second) stations (insertCounts words site)
+    base = cursorsMoved (site .at) (site .second) stations (insertCounts words own site)
 
     written : List ℕ
     written = insertRows base site (new .added) (new .point) (new .curve)
@@ -115,44 +114,47 @@ next-inserted {words} {t} {h′} {a} {b} {new} place site sound settled r number
       tail = countsAt words .tail;
       removals = countsAt words .removals;
     }
-    counts = v .written .counted ∙ insert-written words (t .places) (t .limit) (r .opened) site .counted
+    counts = v .written .counted ∙ insert-written words (t .places) (t .limit) (r .opened) own mine site .counted
 
     seated : (s : ℕ) → s < stations → seatAt written s ≡ movedCursor (site .at) (site .second) (seatAt words s)
-    seated s l = v .written .seated s l ∙ insert-written words (t .places) (t .limit) (r .opened) site .seated s l
+    seated s l = v .written .seated s l ∙ insert-written words (t .places) (t .limit) (r .opened) own mine site .seated s l
 
     least : leastSince written ≡ leastSince words
     least = least-same words written (ap (λ (c : Counts). c .removals) counts) (λ s l. ap (λ (x : Seat). x .track .since) (seated s l))
 
-    inserted : Related written (addedTable t (new .point) (new .curve))
+    inserted : Related written (addedTable t own (new .point) (new .curve))
     inserted = record {
       opened = v .opened;
       heap = h′;
       tree = w .tree;
       queue = w .queue;
       reads = v .reads;
-      store = rw (add-one (t .changes), least) (w .store);
+      store = rw (one-more t own mine, least) (w .store);
       counted = rw counts (record {
-        changes = ap more (r .counted .changes) ∙ more-is (t .changes) below ∙ sym (add-one (t .changes));
+        changes = ap more (r .counted .changes) ∙ more-is (allChanges t) below ∙ sym (one-more t own mine);
         held = ap more (r .counted .held) ∙ more-is (countOf (r .tree)) few ∙ sym (w .count);
         root = root ∙ sym (w .root);
         head = head ∙ sym (w .head);
         tail = r .counted .tail ∙ sym (w .tail);
         removals = r .counted .removals;
       });
+      counters = λ s l. v .written .counters s ∙ insert-written words (t .places) (t .limit) (r .opened) own mine site .counters s ∙ counters-more r sound own mine s l;
       records = records-insert (r .tree) (w .tree) new (t .held) (r .records) (w .holds);
       number = w .count ∙ ap suc (r .number);
-      seats = λ s l. rw (seated s l, at, second) (says-insert t (addedTable t (new .point) (new .curve)) w (add-one (t .changes)) refl (seatAt words s) (t .stations s) (least-seat words s l) still (settled s l) (r .seats s l));
+      seats = λ s l.
+          rw (seated s l, at, second)
+          (says-insert t (addedTable t own (new .point) (new .curve)) w (one-more t own mine) refl (seatAt words s) (t .stations s) (least-seat words s l) still (settled s l) (r .seats s l));
       covered = w .covers (marksIn words) (marksIn written) (r .covered) (gains .grown) (gains .marked);
       marking = λ s l.
           let e : seatAt written s ≡ movedCursor (leafOf place) (cutFor place b) (seatAt words s) = seated s l ∙ (λ j. movedCursor (at j) (second j) (seatAt words s)) in
-          rw e (marking-insert t (addedTable t (new .point) (new .curve)) w (add-one (t .changes)) refl (seatAt words s) (marksIn words) (marksIn written) (gains .grown) (t .stations s) (r .marking s l));
+          rw e (marking-insert t (addedTable t own (new .point) (new .curve)) w (one-more t own mine) refl (seatAt words s) (marksIn words) (marksIn written) (gains .grown) (t .stations s) (r .marking s l));
     }
 
     -- a search has four moves more at most, which were spent with the record
     beside : Beside r inserted stations
     beside u k d i p x q =
         let same : seatAt written u ≡ movedCursor (leafOf place) (cutFor place b) (seatAt words u) = seated u k ∙ (λ j. movedCursor (at j) (second j) (seatAt words u)) in
-        let fewer = left-insert t (addedTable t (new .point) (new .curve)) w (add-one (t .changes)) refl (seatAt words u) (r .store) i p x (least-seat words u k) (related-busy r k q) in
+        let fewer = left-insert t (addedTable t own (new .point) (new .curve)) w (one-more t own mine) refl (seatAt words u) (r .store) i p x (least-seat words u k) (related-busy r k q) in
         omega (
           arith,
           fewer,
@@ -167,10 +169,6 @@ next-inserted {words} {t} {h′} {a} {b} {new} place site sound settled r number
 -- ---- the step
 
 module _ {words : List ℕ} {t : Table} (r : Related words t) (sound : Sound t) where
-  -- the changes fit a word with room to spare
-  changes-word : t .changes ≤ mostLimit
-  changes-word = omega (arith, sound .spent, related-is-open r .limit-most)
-
   -- with a place free there is room in the queue
   related-room : ¬ (taken t ≡ t .places) → countOf (r .tree) + (length (t .removals) - leastSince words) < t .places
   related-room n = omega (arith, n, sound .bounded, related-taken r sound, taken-is words, awaiting-is words, r .counted .held, r .counted .removals)
@@ -181,40 +179,41 @@ PassedTo marks tree p none = Unit {0}
 PassedTo marks tree p (some l) = Passed marks tree p (l .row)
 
 module _ {words : List ℕ} {t : Table} {s i : ℕ} {p : Point} {c : ℕ} (sound : Sound t) (settled : Settled t) (l : s < stations) (q : t .stations s ≡ unfinished i (add p c) none) (r : Related words t) (free : curveAt p (t .held) ≡ none)
-    (left : ¬ (t .changes ≡ t .limit)) (place-left : ¬ (taken t ≡ t .places)) where
+    (left : ¬ (t .counters s ≡ t .limit)) (place-left : ¬ (taken t ≡ t .places)) where
   busy : Busy t (r .tree) (r .queue) (seatAt words s) i (add p c) none
   busy = related-busy r l q
 
   -- the answer is written after the record
-  next-after : {w w′ : List ℕ} {t′ : Table} (v : Next r stations w (addedTable t p c)) → Next (v .related) s w′ t′ → Next r s w′ t′
+  next-after : {w w′ : List ℕ} {t′ : Table} (v : Next r stations w (addedTable t s p c)) → Next (v .related) s w′ t′ → Next r s w′ t′
   next-after v z = record {
     related = z .related;
     beside = λ u k d j y a e. omega (arith, v .beside u k (λ x. omega arith) j y a e, z .beside u k d j y a e);
   }
 
   -- once the record is inserted the answer waits
-  inserted-outcome : {n : ℕ} (at : ℕ) (site : Site) → siteAt words (2 * t .places) at ≡ site → siteSound site ≡ true → Next r stations (insertWords words site p c) (addedTable t p c)
+  inserted-outcome : {n : ℕ} (at : ℕ) (site : Site) → siteAt words (2 * t .places) at ≡ site → siteSound site ≡ true → Next r stations (insertWords words s site p c) (addedTable t s p c)
       → Outcome r s (add p c) none n (insertOf words (2 * t .places) s (callAt words s) at)
   unfolding insertOf seatAt
   inserted-outcome at site e ok v =
       rw (e, ok, busy .point, busy .curve)
-      (ends refl (subst (λ (u : Table). Next r s (answeredWords (insertWords words site p c) s (given 1 p c 0)) u)
-      (sym (finished-change t s (add p c) (answer 1 p c 0) (add-new t p c free left place-left) (added-change p c) ∙ ap (λ (u : Table). withStations u (put (t .stations) s (waiting (answer 1 p c 0)))) (changed-add t p c)))
+      (ends refl (subst (λ (u : Table). Next r s (answeredWords (insertWords words s site p c) s (given 1 p c 0)) u)
+      (sym (finished-change t s (add p c) (answer 1 p c 0) (add-new t s p c free left place-left) (added-change p c)
+      ∙ ap (λ (u : Table). withStations u (put (t .stations) s (waiting (answer 1 p c 0)))) (changed-add t s p c)))
       (next-after v (next-answered s l (v .related) (given 1 p c 0) (omega (arith, removals-word r sound))
       (answer-of (given 1 p c 0) (record { code = refl; point = busy .ranged; curve = curve-tells c (busy .fits) .1; square = omega arith }))))))
 
   abbrev entry : Entry
   entry = record { point = p; curve = c; added = more (countsAt words .changes) }
 
-  entry-number : more (countsAt words .changes) ≡ suc (t .changes)
-  entry-number = ap more (r .counted .changes) ∙ more-is (t .changes) (omega (arith, changes-word r sound))
+  entry-number : more (countsAt words .changes) ≡ suc (allChanges t)
+  entry-number = ap more (r .counted .changes) ∙ more-is (allChanges t) (omega (arith, changes-word r sound))
 
   -- the slice with the counts and cursors of the insert has the same rows
-  begun : (site : Site) → let base : List ℕ = cursorsMoved (site .at) (site .second) stations (insertCounts words site) in Holding base base (t .places) (t .limit) (r .heap)
+  begun : (site : Site) → let base : List ℕ = cursorsMoved (site .at) (site .second) stations (insertCounts words s site) in Holding base base (t .places) (t .limit) (r .heap)
   begun site =
-      held-first (cursorsMoved (site .at) (site .second) stations (insertCounts words site)) (t .places) (t .limit) (r .heap)
-      (insert-written words (t .places) (t .limit) (r .opened) site .opened ∙ r .opened)
-      (λ x lx. insert-same-rows words (t .places) (t .limit) (r .opened) site .row x lx ∙ r .reads x lx)
+      held-first (cursorsMoved (site .at) (site .second) stations (insertCounts words s site)) (t .places) (t .limit) (r .heap)
+      (insert-written words (t .places) (t .limit) (r .opened) s l site .opened ∙ r .opened)
+      (λ x lx. insert-same-rows words (t .places) (t .limit) (r .opened) s l site .row x lx ∙ r .reads x lx)
 
   few : countOf (r .tree) < NONE
   few = omega (arith, related-room r sound place-left, related-is-open r .places-most)
@@ -225,13 +224,13 @@ module _ {words : List ℕ} {t : Table} {s i : ℕ} {p : Point} {c : ℕ} (sound
   alone-outcome e =
       let h : Heap = r .heap in
       let a : ℕ = headOf (r .queue) in
-      let f = alone-finds (subst (λ (x : Option Tree). Store (t .places) h x (r .queue) (t .changes) (length (t .removals)) (leastSince words)) e (r .store)) (omega (arith, related-room r sound place-left)) in
+      let f = alone-finds (subst (λ (x : Option Tree). Store (t .places) h x (r .queue) (allChanges t) (length (t .removals)) (leastSince words)) e (r .store)) (omega (arith, related-room r sound place-left)) in
       let w = alone-writes words (t .places) h a (f .0) (r .reads) (r .store .fits) entry (busy .ranged) (busy .fits) (begun (aloneSite h a)) in
-      let v : Inserted (t .places) h (w .0) (r .tree) (r .queue) (t .changes) (length (t .removals)) (leastSince words) entry none a (nextOf (h a)) =
+      let v : Inserted (t .places) h (w .0) (r .tree) (r .queue) (allChanges t) (length (t .removals)) (leastSince words) entry none a (nextOf (h a)) =
       insert (w .0) entry (r .tree) none (r .store) (related-room r sound place-left) e tt (busy .ranged) entry-number (w .2) in
       inserted-outcome NONE (aloneSite h a) (room-alone words (t .places) h a (f .0) (r .reads) (r .store .fits) (r .counted .head))
       (sound-alone words (t .places) h a (f .0) (r .reads) (r .store .fits) (f .1))
-      (next-inserted none (aloneSite h a) sound settled r refl (omega (arith, changes-word r sound)) few (λ d. refl) refl refl refl (next-word (h a)) (w .1) v
+      (next-inserted s l none (aloneSite h a) sound settled r refl (omega (arith, changes-word r sound)) few (λ d. refl) refl refl refl (next-word (h a)) (w .1) v
       (record { grown = λ x m side q g. absurd (rw e at m); marked = tt }))
 
   -- beside a leaf
@@ -246,28 +245,28 @@ module _ {words : List ℕ} {t : Table} {s i : ℕ} {p : Point} {c : ℕ} (sound
       let site : Site = besideSite words (2 * t .places) h a b leaf in
       let there : ¬ (leaf .row ≡ NONE) = λ d. omega (arith, d, f .leaf-row, r .store .fits) in
       let w = beside-writes words f (r .reads) (r .store .fits) entry (busy .ranged) (busy .fits) (begun site) in
-      let v : Inserted (t .places) h (w .0) (r .tree) (r .queue) (t .changes) (length (t .removals)) (leastSince words) entry (some leaf) a b =
+      let v : Inserted (t .places) h (w .0) (r .tree) (r .queue) (allChanges t) (length (t .removals)) (leastSince words) entry (some leaf) a b =
       insert (w .0) entry (r .tree) (some leaf) (r .store) (related-room r sound place-left) (on, reads) other (busy .ranged) entry-number (w .2) in
       inserted-outcome (leaf .row) site (room-beside words f (r .reads) (r .store .fits) (r .counted .head)) (sound-beside words f (r .reads) (r .store .fits))
-      (next-inserted (some leaf) site sound settled r refl (omega (arith, changes-word r sound)) few (λ d. absurd (there d)) refl refl
+      (next-inserted s l (some leaf) site sound settled r refl (omega (arith, changes-word r sound)) few (λ d. absurd (there d)) refl refl
       (rw (ne-eqb (leaf .row) NONE there, r .counted .root)) (rw (ne-eqb (leaf .row) NONE there) (next-word (h b))) (w .1) v (gains f))
     where
       gains : {a b : ℕ} (f : Finds (t .places) (r .heap) a b leaf)
           → Gains words
-          (insertRows (cursorsMoved (leaf .row) b stations (insertCounts words (besideSite words (2 * t .places) (r .heap) a b leaf))) (besideSite words (2 * t .places) (r .heap) a b leaf) (entry .added) p c)
+          (insertRows (cursorsMoved (leaf .row) b stations (insertCounts words s (besideSite words (2 * t .places) (r .heap) a b leaf))) (besideSite words (2 * t .places) (r .heap) a b leaf) (entry .added) p c)
           (r .tree) entry (some leaf) b
       gains {a} {b} f =
           let site : Site = besideSite words (2 * t .places) (r .heap) a b leaf in
-          let base : List ℕ = cursorsMoved (leaf .row) b stations (insertCounts words site) in
+          let base : List ℕ = cursorsMoved (leaf .row) b stations (insertCounts words s site) in
           record {
             grown = λ x m side q g.
                 let k = cut-reads (r .tree) (r .store) m in
                 marks-inserted words f (r .reads) (r .store .fits) base entry x (r .store .inside x (cut-has (r .tree) x m)) (ap kindAt (k .reads)) side q
-                ∙ insert-same-rows words (t .places) (t .limit) (r .opened) site .marks x side q ∙ g;
+                ∙ insert-same-rows words (t .places) (t .limit) (r .opened) s l site .marks x side q ∙ g;
             marked = (mark-new words f (r .reads) (r .store .fits) base entry (begun site .opened), mark-old words f (r .reads) (r .store .fits) base entry (begun site .opened), passed);
           }
 
-      finds : (tree : Option Tree) → Store (t .places) (r .heap) tree (r .queue) (t .changes) (length (t .removals)) (leastSince words)
+      finds : (tree : Option Tree) → Store (t .places) (r .heap) tree (r .queue) (allChanges t) (length (t .removals)) (leastSince words)
           → countOf tree + (length (t .removals) - leastSince words) < t .places → OnRoute tree p (leaf .row)
           → Finds (t .places) (r .heap) (headOf (r .queue)) (nextOf (r .heap (headOf (r .queue)))) leaf
       finds none store lt o = absurd o

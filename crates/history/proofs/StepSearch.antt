@@ -16,12 +16,11 @@ use Rattle.stations.specs.declared.answer.Answer.{Answer as WordAnswer}
 use Rattle.stations.specs.Common.{leastSince}
 use Rattle.stations.specs.Call.{callAt}
 use Rattle.stations.specs.Answer.{answerSound}
-use Rattle.stations.proofs.OpeningLaws.{opened-tells}
 use Rattle.stations.proofs.TakenLaws.{least-removals, least-since}
 use Rattle.table.specs.Record.{nearestOf}
 use Rattle.table.specs.Call.{nearest, Answer, nearestAnswer}
-use Rattle.table.specs.Table.{Station, unfinished, waiting, Table, put}
-use Rattle.table.proofs.Sound.{Sound, removals-changes}
+use Rattle.table.specs.Table.{Station, unfinished, waiting, Table, put, allChanges}
+use Rattle.table.proofs.Sound.{Sound}
 use Rattle.table.proofs.Stations.{put-same, put-other}
 use Rattle.table.proofs.Simulation.{finished}
 use Rattle.trees.specs.Row.{Entry}
@@ -37,6 +36,7 @@ use Rattle.calls.specs.Search.{seek, progressAt, isFinished, foundAnswer, keptW
 use Rattle.history.specs.Index.{answerOf}
 use Rattle.history.specs.View.{Seat, seatAt, progressOf, answeredSeat}
 use Rattle.history.specs.Related.{recordOf, Busy, Searching, Waits, Says, Related}
+use Rattle.history.proofs.RelatedLaws.{removals-word}
 use Rattle.history.proofs.Effects.{answer-written, answer-rows, kept-written, kept-rows}
 use Rattle.history.proofs.Outcome.{LeftSays, Left, Aside, Outcome, goesOn, ends, beside-still, Next}
 use Rattle.history.proofs.ProgressWords.{viewOf}
@@ -66,12 +66,12 @@ module _ {words : List ℕ} {t : Table} {s i : ℕ} {p : Point} {a : Answer} (h 
 
   -- what holds of the progress of the call's search before its moves and after them
   abbrev Sought : WordProgress → ℕ → Type 0
-  Sought g m = Seeks (callAt words s) (trackAt words s .since) (λ e. List·Memᴰ e entries) (r .tree) (r .queue) (t .changes) (length (t .removals)) g m
+  Sought g m = Seeks (callAt words s) (trackAt words s .since) (λ e. List·Memᴰ e entries) (r .tree) (r .queue) (allChanges t) (length (t .removals)) g m
 
   -- the search of one target as that of another that is the same, with the moves left
   abbrev Sighted : Point → Progress → ℕ → Type 0
   Sighted x g m =
-      (v : Search (choiceOf x) (callAt words s .asof) (trackAt words s .since) (λ e. List·Memᴰ e entries) (r .tree) (r .queue) (t .changes) (length (t .removals)) g)
+      (v : Search (choiceOf x) (callAt words s .asof) (trackAt words s .since) (λ e. List·Memᴰ e entries) (r .tree) (r .queue) (allChanges t) (length (t .removals)) g)
       × (searchLeft v ≤ m)
 
   -- before the step
@@ -155,7 +155,7 @@ module _ {words : List ℕ} {t : Table} {s i : ℕ} {p : Point} {a : Answer} (h 
       -- no removal is numbered as high as none
       least-none : leastSince words ≤ NONE
       least-none =
-          omega (arith, least-removals words, r .counted .removals, removals-changes t h, h .spent, opened-tells words (t .places) (t .limit) (r .opened) .limit-most)
+          omega (arith, least-removals words, r .counted .removals, removals-word r h)
 
       ended-waits : Waits (answeredSeat (seatAt words s) (foundAnswer (callAt words s) (g .best))) a
       ended-waits = record { state = refl; sound = found-ranged; answer = found-set; quiet = record { cursor = refl; phase = refl; since = refl; missed = refl } }

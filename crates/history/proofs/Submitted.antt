@@ -129,7 +129,7 @@ related-submitted {words} {t} s kind p c h r l k ranged fits =
     let x : Seat = begunSeat words s kind p c in
     let low : leastSince words ≤ sinceFor (countsAt words .removals) kind =
     omega (arith, least-removals words, since-begun (countsAt words .removals) kind (omega (arith, word-removals r, removals-word r h))) in
-    related-written r w (submit-rows words (t .places) (t .limit) (r .opened) s l kind p c) (record { places = refl; limit = refl; held = refl; changes = refl; removals = refl })
+    related-written r w (submit-rows words (t .places) (t .limit) (r .opened) s l kind p c) (record { places = refl; limit = refl; held = refl; counters = refl; removals = refl })
     (least-greatest (submittedWords words s kind p c) (leastSince words) (omega (arith, least-removals words, written-removals w)) (λ u m.
     rw (written-since w u m) (seat-put-each (λ (y : Seat). leastSince words ≤ y .track .since) (λ v. seatAt words v) s x low u (least-since words u m))))
     (says-put t (enter t s (callOf kind p c)) refl refl (r .tree) (r .queue) (λ u. seatAt words u) (t .stations) (r .seats) s x (unfinished (t .calls) (callOf kind p c) none)

@@ -45,7 +45,7 @@ step-rows v s =
     let needed = pickRows (eqb (call .kind) 4) (searchRows v (rowsIn v) s call) (walkRows v (rowsIn v) s call) in
     let few : length needed ≤ 6 = pick-few (eqb (call .kind) 4) _ _ (pick-few (eqb (progressAt v s call .missed) NONE) _ _ (omega arith) (omega arith))
     (pick-few (isCut row) _ _ (omega arith)
-    (pick-few (eqb (codeAt v call row) 1) _ _ (omega arith) (pick-few (eqb (codeAt v call row) 5) _ _ (omega arith) (omega arith))))
+    (pick-few (eqb (codeAt v s call row) 1) _ _ (omega arith) (pick-few (eqb (codeAt v s call row) 5) _ _ (omega arith) (omega arith))))
     in
     omega (arith, few, below-few (rowsIn v) needed)
 

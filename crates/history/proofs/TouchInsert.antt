@@ -20,7 +20,7 @@ use Rattle.calls.specs.declared.insert.Site.{Site}
 use Rattle.calls.specs.Link.{nextOf, parentOf, linksTo, isLeaf, withParent, replaced, leafPoint}
 use Rattle.calls.specs.Insert.{siteAt, siteSound, newSide, putCut, insertRows, insertCounts, cursorsMoved, insertWords, insertTo, insertOf, countInserted, cursorTo, cursorMoved}
 use Rattle.history.specs.Touch.{AgreeOn, Leaves, siteRows, rowsBelow}
-use Rattle.history.proofs.TouchLaws.{leaves-nothing, counts-same, track-same, leaves-counts, leaves-track}
+use Rattle.history.proofs.TouchLaws.{leaves-nothing, counts-same, track-same, leaves-counts, leaves-counted, leaves-track}
 use Rattle.history.proofs.TouchRows.{the-first, the-second, the-third, the-fourth, row-alike, leaves-below, leaves-begun, none-idle, bad-idle}
 use Rattle.history.proofs.TouchReply.{Alike, alike-done, alike-ask, leaves-answered}
 
@@ -90,11 +90,10 @@ module _ {v w v′ w′ : List ℕ} {s : ℕ} {rows : List ℕ} (l : Leaves v w 
       let before = cursors-leaves gone to n in
       leaves-track before n _ _ (ap (cursorTo gone to) (track-same (before .agree) n))
 
-  -- the counts, the root and the head
-  insert-counts-leaves : (site : Site) → Leaves v w (insertCounts v′ site) (insertCounts w′ site) s rows
+  -- the counts, the root and the head, and the counter
+  insert-counts-leaves : (site : Site) → Leaves v w (insertCounts v′ s site) (insertCounts w′ s site) s rows
   unfolding insertCounts
-  insert-counts-leaves site =
-      leaves-counts l _ _ (ap (countInserted site) (counts-same (l .agree)))
+  insert-counts-leaves site = leaves-counted (leaves-counts l _ _ (ap (countInserted site) (counts-same (l .agree)))) s
 
 -- the four rows: each is among the rows of the index, or nothing is written there
 insert-rows-leaves : {v w v′ w′ : List ℕ} {s : ℕ} (rows : ℕ) (site : Site) → InSite rows site → siteSound site ≡ true
@@ -115,7 +114,7 @@ insert-rows-leaves rows site inside sound l added point curve =
 
 insert-leaves : {v w : List ℕ} {s : ℕ} (rows : ℕ) (site : Site) → InSite rows site → siteSound site ≡ true
     → AgreeOn v w s (rowsBelow rows (siteRows site)) → (point : Point) (curve : ℕ)
-    → Leaves v w (insertWords v site point curve) (insertWords w site point curve) s (rowsBelow rows (siteRows site))
+    → Leaves v w (insertWords v s site point curve) (insertWords w s site point curve) s (rowsBelow rows (siteRows site))
 unfolding insertWords
 insert-leaves rows site inside sound a point curve =
     rw (← counts-same a)

@@ -14,6 +14,7 @@ use Rattle.stations.specs.declared.call.Call.{Call}
 use Rattle.stations.specs.declared.answer.Answer.{Answer}
 use Rattle.stations.specs.Common.{openedIn}
 use Rattle.stations.specs.Counts.{countsAt, putCounts}
+use Rattle.stations.specs.Counter.{changeCounted}
 use Rattle.stations.specs.Track.{trackAt, putTrack}
 use Rattle.stations.specs.Target.{targetAt, putTarget}
 use Rattle.stations.specs.Station.{putState}
@@ -21,6 +22,7 @@ use Rattle.stations.specs.Call.{putBest, putCall}
 use Rattle.stations.specs.Answer.{putAnswer}
 use Rattle.stations.proofs.OpeningLaws.{openedIn-agree}
 use Rattle.stations.proofs.CountLaws.{counts-agree, putCounts-only, putCounts-agree}
+use Rattle.stations.proofs.CounterLaws.{counted-only, counted-agree}
 use Rattle.stations.proofs.TrackLaws.{track-agree, putTrack-only, putTrack-agree}
 use Rattle.stations.proofs.TargetLaws.{targetAt-agree, putTarget-only, putTarget-agree}
 use Rattle.stations.proofs.StationLaws.{putState-only, putState-agree, putBest-only, putBest-agree, putCall-only, putCall-agree, putAnswer-only, putAnswer-agree}
@@ -84,6 +86,9 @@ more-leaves x m f o p l = record {
 module _ {v w v′ w′ : List ℕ} {s : ℕ} {rows : List ℕ} (l : Leaves v w v′ w′ s rows) where
   pub leaves-counts : (x y : Counts) → x ≡ y → Leaves v w (putCounts v′ x) (putCounts w′ y) s rows
   leaves-counts x y e = rw (← e) (more-leaves inCommon the-common (λ i n a. putCounts-agree a x) (putCounts-only v′ x) (putCounts-only w′ x) l)
+
+  pub leaves-counted : (u : ℕ) → Leaves v w (changeCounted v′ u) (changeCounted w′ u) s rows
+  leaves-counted u = more-leaves inCommon the-common (λ i n a. counted-agree (l .agree .common) a u) (counted-only v′ u) (counted-only w′ u) l
 
   pub leaves-track : (u : ℕ) (x y : Track) → x ≡ y → Leaves v w (putTrack v′ u x) (putTrack w′ u y) s rows
   leaves-track u x y e = rw (← e) (more-leaves inCommon the-common (λ i n a. putTrack-agree a u x) (putTrack-only v′ u x) (putTrack-only w′ u x) l)

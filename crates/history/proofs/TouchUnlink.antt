@@ -19,7 +19,7 @@ use Rattle.calls.specs.declared.unlink.Around.{Around}
 use Rattle.calls.specs.Link.{nextOf, parentOf, siblingOf, linksTo, isLeaf, isTree, isFree, withNext, withParent, removedAs, replaced}
 use Rattle.calls.specs.Unlink.{aroundAt, aroundSound, unlinkRows, unlinkCounts, stationMoved, stationsMoved, unlinkWords, unlinkTo, unlinkOf, countUnlinked, trackAfter}
 use Rattle.history.specs.Touch.{AgreeOn, Leaves, aroundRows, rowsBelow}
-use Rattle.history.proofs.TouchLaws.{leaves-nothing, counts-same, track-same, target-same, leaves-counts, leaves-track}
+use Rattle.history.proofs.TouchLaws.{leaves-nothing, counts-same, track-same, target-same, leaves-counts, leaves-counted, leaves-track}
 use Rattle.history.proofs.TouchRows.{the-first, the-second, the-third, the-fourth, the-fifth, row-alike, leaves-below, none-idle, bad-idle}
 use Rattle.history.proofs.TouchReply.{Alike, alike-done, alike-ask, leaves-answered}
 
@@ -94,10 +94,10 @@ module _ {v w v′ w′ : List ℕ} {s : ℕ} {rows : List ℕ} (l : Leaves v w 
   unfolding stationMoved
   station-leaves n = leaves-track l n _ _ (ap₂ (trackAfter x) (target-same (l .agree) n) (track-same (l .agree) n))
 
-  -- the counts, the root and the tail
-  unlink-counts-leaves : Leaves v w (unlinkCounts v′ x) (unlinkCounts w′ x) s rows
+  -- the counts, the root and the tail, and the counter
+  unlink-counts-leaves : Leaves v w (unlinkCounts v′ s x) (unlinkCounts w′ s x) s rows
   unfolding unlinkCounts
-  unlink-counts-leaves = leaves-counts l _ _ (ap (countUnlinked x) (counts-same (l .agree)))
+  unlink-counts-leaves = leaves-counted (leaves-counts l _ _ (ap (countUnlinked x) (counts-same (l .agree)))) s
 
 -- the tracks of the first n stations
 stations-leaves : {v w v′ w′ : List ℕ} {s : ℕ} {rows : List ℕ} → Leaves v w v′ w′ s rows → (x : Around) (n : ℕ)
@@ -123,7 +123,7 @@ unlink-rows-leaves rows x inside sound l number =
     (x .above) _ the-fifth (λ h. bad-idle (ap (replaced (x .over) (x .side)) (inside .grand h)) (x .above))
 
 unlink-leaves : {v w : List ℕ} {s : ℕ} (rows : ℕ) (x : Around) → InAround rows x → aroundSound x ≡ true → AgreeOn v w s (rowsBelow rows (aroundRows x))
-    → Leaves v w (unlinkWords v x) (unlinkWords w x) s (rowsBelow rows (aroundRows x))
+    → Leaves v w (unlinkWords v s x) (unlinkWords w s x) s (rowsBelow rows (aroundRows x))
 unfolding unlinkWords
 unlink-leaves rows x inside sound a =
     rw (← counts-same a)

@@ -7,7 +7,7 @@ use mathlib.Core.List.{List, List·Memᴰ}
 use native.Mathlib.Decide.{decLt}
 use native.Mathlib.Omega.{arith}
 use borrow.Author.Tests.{eqb-false}
-use lib.Dec.{eqb, leb}
+use lib.Dec.{eqb}
 use Rattle.words.specs.Layout.{stations}
 use Rattle.stations.specs.Track.{standing}
 use Rattle.stations.specs.declared.track.Track.{Track}
@@ -21,11 +21,13 @@ use Rattle.rows.specs.Grades.{slotOf}
 use Rattle.rows.proofs.RowLaws.{rowAt-outside}
 use Rattle.stations.proofs.TakenLaws.{takenIn-agree}
 use Rattle.calls.specs.declared.walk.Way.{Way}
-use Rattle.calls.specs.Link.{isLeaf, isCut, holdsPoint}
+use Rattle.calls.specs.Link.{isLeaf, isCut}
 use Rattle.calls.specs.Insert.{siteAt}
 use Rattle.calls.specs.Unlink.{aroundAt}
-use Rattle.calls.specs.Walk.{downFrom, down, wayOf, markedWay, passedWords, walkTo, codeOf, codeAt, conclude, standsAt, walkFrom, walkOf, walkedWords}
+use Rattle.calls.specs.Walk.{downFrom, down, wayOf, markedWay, passedWords, walkTo, codeAt, conclude, standsAt, walkFrom, walkOf, walkedWords}
 use Rattle.stations.proofs.OpeningLaws.{limit-agree, places-agree}
+use Rattle.stations.proofs.CounterLaws.{counter-agree}
+use Rattle.calls.proofs.ChangeLaws.{code-own}
 use Rattle.history.specs.Touch.{AgreeOn, Leaves, wayRows, pickRows, endRows, walkRows, rowsBelow}
 use Rattle.history.proofs.TouchLaws.{leaves-nothing, counts-same, track-same, leaves-track}
 use Rattle.history.proofs.TouchRows.{the-first, the-second, the-third, the-fourth, the-fifth, the-sixth, in-pick, row-alike, leaves-marked}
@@ -40,11 +42,8 @@ module _ {v w : List ℕ} {s : ℕ} {rows : List ℕ} (a : AgreeOn v w s rows) w
   unfolding standsAt
   stands-same = ap₂ (λ (track : Track) (counts : Counts). cond (eqb (track .cursor) NONE) (counts .root) (track .cursor)) (track-same a s) (counts-same a)
 
-  code-same : (call : Call) (row : Row) → codeAt v call row ≡ codeAt w call row
-  unfolding codeAt
-  code-same call row =
-      ap₂ (codeOf (call .kind) (holdsPoint (call .point) row)) (ap₂ eqb (ap (λ (counts : Counts). counts .changes) (counts-same a)) (limit-agree (a .common)))
-      (ap₂ leb (places-agree (a .common)) (takenIn-agree (a .common)))
+  code-same : (call : Call) (row : Row) → codeAt v s call row ≡ codeAt w s call row
+  code-same call row = code-own v w s call row (counter-agree (a .common) s) (limit-agree (a .common)) (places-agree (a .common)) (takenIn-agree (a .common))
 
 -- ---- six rows down
 
@@ -146,21 +145,21 @@ way-alike {v} count few call at a =
 
 -- ---- the decision
 
-end-alike : {v w : List ℕ} {s : ℕ} (count : ℕ) (call : Call) (at : ℕ) (row : Row) → AgreeOn v w s (rowsBelow count (endRows v count call at row))
-    → Alike v w (conclude v count s call at row) (conclude w count s call at row) s (rowsBelow count (endRows v count call at row))
+end-alike : {v w : List ℕ} {s : ℕ} (count : ℕ) (call : Call) (at : ℕ) (row : Row) → AgreeOn v w s (rowsBelow count (endRows v count s call at row))
+    → Alike v w (conclude v count s call at row) (conclude w count s call at row) s (rowsBelow count (endRows v count s call at row))
 unfolding conclude
-end-alike {v} count call at row a =
+end-alike {v} {s = s} count call at row a =
     rw (← code-same a call row)
-    (alike-rows count (eqb (codeAt v call row) 1) _ _ a (insert-alike count call at)
-    (λ b. alike-rows count (eqb (codeAt v call row) 5) _ _ b (unlink-alike count call at)
+    (alike-rows count (eqb (codeAt v s call row) 1) _ _ a (insert-alike count call at)
+    (λ b. alike-rows count (eqb (codeAt v s call row) 5) _ _ b (unlink-alike count call at)
     (λ c. alike-done (leaves-answered (leaves-nothing c) _ _ refl))))
 
 -- ---- one step
 
 -- from a row that both slices have alike
 from-alike : {v w : List ℕ} {s : ℕ} (count : ℕ) → count ≤ NONE → (call : Call) (at : ℕ) (row : Row)
-    → AgreeOn v w s (rowsBelow count (pickRows (isCut row) (wayRows (wayOf v count (call .point) at)) (endRows v count call at row)))
-    → Alike v w (walkFrom v count s call at row) (walkFrom w count s call at row) s (rowsBelow count (pickRows (isCut row) (wayRows (wayOf v count (call .point) at)) (endRows v count call at row)))
+    → AgreeOn v w s (rowsBelow count (pickRows (isCut row) (wayRows (wayOf v count (call .point) at)) (endRows v count s call at row)))
+    → Alike v w (walkFrom v count s call at row) (walkFrom w count s call at row) s (rowsBelow count (pickRows (isCut row) (wayRows (wayOf v count (call .point) at)) (endRows v count s call at row)))
 from-alike count few call at row a =
     alike-rows count (isCut row) _ _ a (way-alike count few call at)
     (λ b. alike-ask b (eqb at NONE || isLeaf row) (eqb at NONE || isLeaf row) 11 refl (λ sound. end-alike count call at row b))
@@ -171,7 +170,7 @@ unfolding siteAt aroundAt wayOf
 at-stands v count s call =
     let row = rowAt v count (standsAt v s) in
     in-pick (isCut row) the-first
-    (in-pick (eqb (codeAt v call row) 1) the-first (in-pick (eqb (codeAt v call row) 5) the-first the-first))
+    (in-pick (eqb (codeAt v s call row) 1) the-first (in-pick (eqb (codeAt v s call row) 5) the-first the-first))
 
 -- from two slices that agree in the rows that the first one's walk needs
 pub walk-alike : {v w : List ℕ} {s : ℕ} → s < stations → (count : ℕ) → count ≤ NONE → (call : Call) → AgreeOn v w s (rowsBelow count (walkRows v count s call))

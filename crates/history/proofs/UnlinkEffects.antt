@@ -1,6 +1,6 @@
--- What an unlink writes of the common record: it counts a removal, puts rows behind the queue, and moves the cursors on the leaf and on the cut
+-- What an unlink writes of the common record: it counts a removal, for its station too, puts rows behind the queue, and moves the cursors on the leaf and on the cut
 -- over it to the cut's other child, those on the leaf in the phase of `landing`; an unfinished nearest that has missed nothing yet has now missed the leaf.
-use Prim.Native.Nat.{ℕ, zero, suc, _*_, _-_, _≤_}
+use Prim.Native.Nat.{ℕ, zero, suc, _*_, _-_, _≤_, _<_}
 use mathlib.Core.Path.{_≡_}
 use mathlib.Core.Bool.{cond, _&&_, _||_, not}
 use mathlib.Core.List.{List}
@@ -8,16 +8,19 @@ use native.Mathlib.Omega.{arith}
 use lib.Dec.{eqb}
 use lib.ListN.{length}
 use Rattle.points.specs.Word.{NONE}
-use Rattle.words.specs.Layout.{stations, commonSize, records}
+use Rattle.words.specs.Layout.{stations, records}
 use Rattle.words.specs.Words.{more}
 use Rattle.stations.specs.Common.{Opened, openedIn}
 use Rattle.stations.specs.Counts.{countsAt}
-use Rattle.stations.proofs.OpeningLaws.{opened-tells}
+use Rattle.stations.specs.Counter.{counterAt}
+use Rattle.stations.proofs.OpeningLaws.{opened-tells, opened-station}
 use Rattle.stations.proofs.StationLaws.{there-of}
 use Rattle.calls.specs.declared.unlink.Around.{Around}
 use Rattle.calls.specs.Unlink.{unlinkTail, unlinkRoot, countUnlinked, unlinkCounts, landing, cursorAfter, phaseAfter, missedAfter, trackAfter, stationMoved, stationsMoved}
+use Rattle.calls.proofs.ChangeLaws.{Counting, unlink-counted}
+use Rattle.table.specs.Table.{put}
 use Rattle.history.specs.View.{Seat, seatAt, withTrack, SameRows, Written}
-use Rattle.history.proofs.TrackEffects.{Counting, counting, Moved, moved-at, moved-none, moved-next, moved-written, moved-rows}
+use Rattle.history.proofs.TrackEffects.{Moved, moved-at, moved-none, moved-next, moved-written, moved-rows}
 
 -- a leaf and the cut over it leave
 abbrev pub movedSeat : Around → Seat → Seat
@@ -36,18 +39,17 @@ stations-moved a (suc n) w h long =
     let here = there-of (stationsMoved a n w) n (record { station = omega arith; long = omega (arith, m .only .lengths) }) in
     moved-next (moved-at (trackAfter a) (stationsMoved a n w) n here) m
 
-module _ (words : List ℕ) (places limit : ℕ) (o : openedIn words ≡ Opened places limit) (a : Around) where
+module _ (words : List ℕ) (places limit : ℕ) (o : openedIn words ≡ Opened places limit) (s : ℕ) (l : s < stations) (a : Around) where
   long : records ≤ length words
   long = omega (arith, opened-tells words places limit o .long)
 
-  counted : Counting (unlinkCounts words a) words (countUnlinked a (countsAt words))
-  unfolding unlinkCounts
-  counted = counting words (countUnlinked a (countsAt words)) (omega (arith, long))
+  counted : Counting (unlinkCounts words s a) words (countUnlinked a (countsAt words)) s
+  counted = unlink-counted words s a (opened-station words places limit o s l)
 
-  moves : Moved (trackAfter a) (stationsMoved a stations (unlinkCounts words a)) (unlinkCounts words a) stations
-  moves = stations-moved a stations (unlinkCounts words a) (omega arith) (omega (arith, counted .only .lengths, long))
+  moves : Moved (trackAfter a) (stationsMoved a stations (unlinkCounts words s a)) (unlinkCounts words s a) stations
+  moves = stations-moved a stations (unlinkCounts words s a) (omega arith) (omega (arith, counted .only .lengths, long))
 
-  pub unlink-written : Written words (stationsMoved a stations (unlinkCounts words a))
+  pub unlink-written : Written words (stationsMoved a stations (unlinkCounts words s a))
       (record {
         changes = more (countsAt words .changes);
         held = countsAt words .held - 1;
@@ -56,11 +58,12 @@ module _ (words : List ℕ) (places limit : ℕ) (o : openedIn words ≡ Opened 
         tail = unlinkTail a;
         removals = more (countsAt words .removals);
       })
-      (λ s. movedSeat a (seatAt words s))
+      (put (counterAt words) s (more (counterAt words s)))
+      (λ u. movedSeat a (seatAt words u))
   unfolding countUnlinked trackAfter cursorAfter phaseAfter missedAfter
   unlink-written =
-      moved-written (trackAfter a) (stationsMoved a stations (unlinkCounts words a)) (unlinkCounts words a) words (countUnlinked a (countsAt words)) counted moves
+      moved-written (trackAfter a) (stationsMoved a stations (unlinkCounts words s a)) (unlinkCounts words s a) words (countUnlinked a (countsAt words)) s counted moves
 
-  pub unlink-same-rows : SameRows words (stationsMoved a stations (unlinkCounts words a)) (2 * places)
+  pub unlink-same-rows : SameRows words (stationsMoved a stations (unlinkCounts words s a)) (2 * places)
   unlink-same-rows =
-      moved-rows (trackAfter a) (stationsMoved a stations (unlinkCounts words a)) (unlinkCounts words a) words (countUnlinked a (countsAt words)) counted moves (2 * places)
+      moved-rows (trackAfter a) (stationsMoved a stations (unlinkCounts words s a)) (unlinkCounts words s a) words (countUnlinked a (countsAt words)) s counted moves (2 * places)

@@ -8,6 +8,7 @@ use mathlib.Core.List.{List}
 use mathlib.Core.Option.{Option}
 use native.Mathlib.Omega.{arith}
 use native.Mathlib.Decide.{ℕ-discrete}
+use Rattle.stations.specs.Counter.{counterAt}
 use Rattle.stations.specs.Counts.{countsAt}
 use Rattle.points.specs.Word.{NONE}
 use Rattle.words.specs.Range.{linkIn}
@@ -39,7 +40,7 @@ use Rattle.history.proofs.UnlinkAround.{linkedRow, linked-here, aroundO
 -- the words with an unlink's rows written: they read as the heap that the unlink leaves, and nothing but rows has changed
 pub record RowsUnlinked (words words′ : List ℕ) (places : ℕ) (h : Heap) (tail number : ℕ) (l : Leaf) : Type 0 where
   pub heap : Heap
-  pub written : Written words words′ (countsAt words) (λ s. seatAt words s)
+  pub written : Written words words′ (countsAt words) (counterAt words) (λ s. seatAt words s)
   pub reads : Reads words′ (2 * places) heap
   pub writes : UnlinkWrites h heap tail number l (siblingRow h l) (grandRow h l)
 

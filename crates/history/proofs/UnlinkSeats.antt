@@ -6,7 +6,6 @@ use mathlib.Core.Bool.{Bool, true, false, cond, _&&_, _||_, not, true≢false}
 use mathlib.Core.List.{List, _∷_}
 use mathlib.Core.Option.{Option, none, some}
 use native.Mathlib.Omega.{arith}
-use native.Mathlib.Numerals.{add-one}
 use lib.Dec.{eqb}
 use lib.ListN.{length}
 use borrow.Author.Tests.{eqb-true, eq-eqb, ne-eqb}
@@ -18,7 +17,7 @@ use Rattle.points.specs.Word.{NONE}
 use Rattle.rows.specs.declared.row.Row.{Row as WordRow}
 use Rattle.rows.specs.declared.row.Row.the-variants.{Bad, Spare, Removed, Leaf as WordLeaf, Cut}
 use Rattle.table.specs.Call.{Call, add, remove, contains, nearest, Answer}
-use Rattle.table.specs.Table.{Station, idle, unfinished, waiting, Table, eight, searches}
+use Rattle.table.specs.Table.{Station, idle, unfinished, waiting, Table, eight, searches, allChanges}
 use Rattle.table.proofs.Stations.{eight-mem, searches-in}
 use Rattle.table.proofs.Removals.{sinceOf, since-le, since-removal}
 use Rattle.table.proofs.Eager.{unsettled}
@@ -42,7 +41,7 @@ use Rattle.history.specs.View.{Seat, wordRow, phaseOf, progressOf}
 use Rattle.history.specs.Related.{Quiet, Searching, Walks, Works, Busy, Says, Marking}
 use Rattle.history.proofs.BusyLaws.{busy-on}
 use Rattle.history.proofs.Effects.{movedSeat}
-use Rattle.history.proofs.Readings.{nearest-search, nearest-unsettled, removedTable, unlink-stand, unlink-missed}
+use Rattle.history.proofs.Readings.{nearest-search, nearest-unsettled, removedTable, unlink-stand, unlink-missed, one-more}
 use Rattle.history.proofs.UnlinkAround.{linkedRow, aroundOf}
 use Rattle.history.proofs.Outcome.{leftAt, left-target}
 
@@ -102,9 +101,9 @@ lands-word target h cut leaf = go (eqb cut NONE) (h cut)
 
 -- ---- the seats
 
-module _ (t : Table) (p : Point) (f : ℕ → Station) (h h′ : Heap) (tree : Option Tree) (queue : List Free) (released tail : ℕ) (l : Leaf)
-    (st : Store (t .places) h tree queue (t .changes) (length (t .removals)) released) (m : Has tree (l .row))
-    (w : Unlinked (t .places) h h′ tree queue (t .changes) (length (t .removals)) released l (siblingRow h l) (grandRow h l)) (few : length (t .removals) < NONE) where
+module _ (t : Table) (own : ℕ) (mine : own < stations) (p : Point) (f : ℕ → Station) (h h′ : Heap) (tree : Option Tree) (queue : List Free) (released tail : ℕ) (l : Leaf)
+    (st : Store (t .places) h tree queue (allChanges t) (length (t .removals)) released) (m : Has tree (l .row))
+    (w : Unlinked (t .places) h h′ tree queue (allChanges t) (length (t .removals)) released l (siblingRow h l) (grandRow h l)) (few : length (t .removals) < NONE) where
   abbrev moved : Seat → Seat
   moved seat = movedSeat (aroundOf h tail l) seat
 
@@ -162,7 +161,7 @@ module _ (t : Table) (p : Point) (f : ℕ → Station) (h h′ : Heap) (tree : O
 
   -- a nearest whose answer is set down
   search-moved : (seat : Seat) (u i : ℕ) (target : Point) (a : Answer) → u < stations → t .stations u ≡ unfinished i (nearest target) (some a)
-      → Searching t tree queue seat i target (some a) → Searching (removedTable t p f) (w .tree) (w .queue) (moved seat) i target (some a)
+      → Searching t tree queue seat i target (some a) → Searching (removedTable t own p f) (w .tree) (w .queue) (moved seat) i target (some a)
   search-moved seat u i target a k e v =
       let there : seat .track .since ≢ NONE = λ z. omega (arith, v .since, since-le i (t .removals)) in
       record {
@@ -171,20 +170,20 @@ module _ (t : Table) (p : Point) (f : ℕ → Station) (h h′ : Heap) (tree : O
         entries = v .entries;
         once = v .once;
         ranged = v .ranged;
-        search = rw (progress-moved seat there, v .aimed, add-one (t .changes)) (search-unlink st w (v .search));
+        search = rw (progress-moved seat there, v .aimed, one-more t own mine) (search-unlink st w (v .search));
         answer = v .answer;
       }
 
   -- an unfinished call, whose work is kept
   busy-moved : (seat : Seat) (i : ℕ) (call : Call) (set : Option Answer) (v : Busy t tree queue seat i call set)
-      → Works (removedTable t p f) (w .tree) (w .queue) (moved seat) i call set → Busy (removedTable t p f) (w .tree) (w .queue) (moved seat) i call set
+      → Works (removedTable t own p f) (w .tree) (w .queue) (moved seat) i call set → Busy (removedTable t own p f) (w .tree) (w .queue) (moved seat) i call set
   busy-moved seat i call set v works =
-      busy-on v (moved seat .track) (omega (arith, v .asof))
+      busy-on v (moved seat .track) (omega (arith, v .asof, one-more t own mine))
       (phase-in (eqb (seat .track .cursor) (l .row)) (landsAt seat) (seat .track .phase) (lands-in (seat .target) (l .row) (linkedRow h (l .parent))) (v .phase)) works
 
   -- Each other station's seat, moved, says what its station says after the removal.
   pub says-moved : (seat : Seat) (u : ℕ) (x : Station) → u < stations → unsettled x ≡ false → t .stations u ≡ x → Says t tree queue seat x
-      → Says (removedTable t p f) (w .tree) (w .queue) (moved seat) x
+      → Says (removedTable t own p f) (w .tree) (w .queue) (moved seat) x
   says-moved seat u idle k s e v = record { state = v .state; quiet = quiet-moved seat (v .quiet) }
   says-moved seat u (waiting a) k s e v = record { state = v .state; sound = v .sound; answer = v .answer; quiet = quiet-moved seat (v .quiet) }
   says-moved seat u (unfinished i (add d c) set) k s e v = busy-moved seat i (add d c) set v (walks-moved seat d set (v .works))

@@ -37,8 +37,8 @@ pub record RunsAlone (words : List ℕ) (t : Table) (most s kind : ℕ) (p : Poi
   pub before : ℕ
   pub few : before < most
   pub answered : AnsweredAfter before (submitOf words s kind p c .words) s
-  pub given : givenBy (takeOf (ranWords words s kind p c (suc before)) s) ≡ some (answerOf t (callOf kind p c))
-  pub left : Agree wordIndex (takeWords (ranWords words s kind p c (suc before)) s) (changedIf (isChange (answerOf t (callOf kind p c))) t (callOf kind p c))
+  pub given : givenBy (takeOf (ranWords words s kind p c (suc before)) s) ≡ some (answerOf t s (callOf kind p c))
+  pub left : Agree wordIndex (takeWords (ranWords words s kind p c (suc before)) s) (changedIf (isChange (answerOf t s (callOf kind p c))) t s (callOf kind p c))
 
 -- Demand 2 (Rules 12.2): there are moments as demand 3 wants them, and `table` is the plain table fed the
 -- events with these moments; submission refuses what this table refuses, and whatever call it accepts, run alone, answers as this table does.

@@ -9,6 +9,7 @@ use lib.ListN.{length}
 use Rattle.words.specs.Layout.{stations}
 use Rattle.stations.specs.Track.{nowhere}
 use Rattle.stations.specs.Counts.{countsAt}
+use Rattle.stations.specs.Counter.{counterAt}
 use Rattle.stations.specs.declared.track.Track.{Track}
 use Rattle.stations.specs.declared.counts.Counts.{Counts}
 use Rattle.points.specs.declared.point.Point.{Point}
@@ -19,7 +20,7 @@ use Rattle.stations.specs.Common.{openedIn, leastSince, Opened}
 use Rattle.stations.specs.Answer.{answerSound}
 use Rattle.table.specs.Record.{Record, Once, Same, nearestOf}
 use Rattle.table.specs.Call.{Call, add, remove, contains, nearest, pointOf, Answer, nearestAnswer}
-use Rattle.table.specs.Table.{Station, idle, unfinished, waiting, Table}
+use Rattle.table.specs.Table.{Station, idle, unfinished, waiting, Table, allChanges}
 use Rattle.table.proofs.Removals.{sinceOf}
 use Rattle.trees.specs.Row.{Entry, Heap}
 use Rattle.trees.specs.Tree.{Tree, topOf, Holds, countOf, entriesOf}
@@ -75,7 +76,7 @@ pub record Searching (t : Table) (tree : Option Tree) (queue : List Free) (seat 
   pub entries : List Entry
   pub once : Once (map recordOf entries)
   pub ranged : (e : Entry) → List·Memᴰ e entries → (inRange (e .point) ≡ true) × (curveIn (e .curve) ≡ true)
-  pub search : Search (choiceOf target) (seat .call .asof) (seat .track .since) (λ e. List·Memᴰ e entries) tree queue (t .changes) (length (t .removals)) (progressOf seat)
+  pub search : Search (choiceOf target) (seat .call .asof) (seat .track .since) (λ e. List·Memᴰ e entries) tree queue (allChanges t) (length (t .removals)) (progressOf seat)
   pub answer : Set target entries tree set
 
 -- an unfinished add, remove or contains
@@ -100,7 +101,7 @@ pub record Busy (t : Table) (tree : Option Tree) (queue : List Free) (seat : Sea
   pub curve : seat .call .curve ≡ curveOf call
   pub ranged : inRange (pointOf call) ≡ true
   pub fits : CurveFits call
-  pub asof : seat .call .asof ≤ t .changes
+  pub asof : seat .call .asof ≤ allChanges t
   pub kept : inRange (seat .call .best .point) ≡ true
   pub phase : seat .track .phase ≤ 1
   pub works : Works t tree queue seat i call set
@@ -132,7 +133,7 @@ Marking marks tree cursor (unfinished i (nearest p) set) = Unit {0}
 
 -- the counts are those of the table, the tree and the queue
 pub record Counted (t : Table) (tree : Option Tree) (queue : List Free) (counts : Counts) : Type 0 where
-  pub changes : counts .changes ≡ t .changes
+  pub changes : counts .changes ≡ allChanges t
   pub held : counts .held ≡ countOf tree
   pub root : counts .root ≡ topOf tree
   pub head : counts .head ≡ headOf queue
@@ -145,8 +146,9 @@ pub record Related (words : List ℕ) (t : Table) : Type 0 where
   pub tree : Option Tree
   pub queue : List Free
   pub reads : Reads words (2 * t .places) heap
-  pub store : Store (t .places) heap tree queue (t .changes) (length (t .removals)) (leastSince words)
+  pub store : Store (t .places) heap tree queue (allChanges t) (length (t .removals)) (leastSince words)
   pub counted : Counted t tree queue (countsAt words)
+  pub counters : (s : ℕ) → s < stations → counterAt words s ≡ t .counters s
   pub records : Same (map recordOf (entriesOf tree)) (t .held)
   pub number : countOf tree ≡ length (t .held)
   pub seats : (s : ℕ) → s < stations → Says t tree queue (seatAt words s) (t .stations s)

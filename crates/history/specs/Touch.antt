@@ -62,15 +62,15 @@ pickRows true x y = x
 pickRows false x y = y
 
 -- of a walk that ends
-abbrev pub endRows : List ℕ → ℕ → Call → ℕ → Row → List ℕ
-endRows words rows call at row =
-    pickRows (eqb (codeAt words call row) 1) (siteRows (siteAt words rows at))
-    (pickRows (eqb (codeAt words call row) 5) (aroundRows (aroundAt words rows at)) (at ∷ []))
+abbrev pub endRows : List ℕ → ℕ → ℕ → Call → ℕ → Row → List ℕ
+endRows words rows s call at row =
+    pickRows (eqb (codeAt words s call row) 1) (siteRows (siteAt words rows at))
+    (pickRows (eqb (codeAt words s call row) 5) (aroundRows (aroundAt words rows at)) (at ∷ []))
 
 abbrev pub walkRows : List ℕ → ℕ → ℕ → Call → List ℕ
 walkRows words rows s call =
     pickRows (isCut (rowAt words rows (standsAt words s))) (wayRows (wayOf words rows (call .point) (standsAt words s)))
-    (endRows words rows call (standsAt words s) (rowAt words rows (standsAt words s)))
+    (endRows words rows s call (standsAt words s) (rowAt words rows (standsAt words s)))
 
 -- of a look, and of a tour
 abbrev pub lookRows : List ℕ → ℕ → Progress → List ℕ → List ℕ

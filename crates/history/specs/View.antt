@@ -19,6 +19,7 @@ use Rattle.rows.specs.Row.{rowAt}
 use Rattle.rows.specs.Grades.{slotOf, admits}
 use Rattle.stations.specs.Common.{openedIn}
 use Rattle.stations.specs.Counts.{countsAt}
+use Rattle.stations.specs.Counter.{counterAt}
 use Rattle.stations.specs.Station.{stateAt}
 use Rattle.stations.specs.Track.{nowhere, trackAt}
 use Rattle.stations.specs.Target.{targetAt}
@@ -92,8 +93,9 @@ pub record SameRows (words words′ : List ℕ) (rows : ℕ) : Type 0 where
   pub row : (r : ℕ) → r < rows → rowAt words′ rows r ≡ rowAt words rows r
   pub marks : (x : ℕ) (side : Bool) (p : Point) → marksIn words′ x side p ≡ marksIn words x side p
 
--- what a call leaves of the common record and the stations
-pub record Written (words words′ : List ℕ) (counts : Counts) (seats : ℕ → Seat) : Type 0 where
+-- what a call leaves of the common record and the stations; `made` are the changes of each station
+pub record Written (words words′ : List ℕ) (counts : Counts) (made : ℕ → ℕ) (seats : ℕ → Seat) : Type 0 where
   pub opened : openedIn words′ ≡ openedIn words
   pub counted : countsAt words′ ≡ counts
+  pub counters : (s : ℕ) → counterAt words′ s ≡ made s
   pub seated : (s : ℕ) → s < stations → seatAt words′ s ≡ seats s
