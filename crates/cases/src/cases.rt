@@ -14,8 +14,8 @@ pub fn calls(to: &mut [u8], at: usize) -> usize {
         O 131680 0 10 0 0 1; O 131680 1 10 0 0 0; O 131680 4096 10 0 0 0; O 131680 4097 10 0 0 1;
         =607 + 32 and 608 + 32 words for one place|openings|
         O 0 1 10 0 0 3; O 639 1 10 0 0 3; O 640 1 10 0 0 0; O 131679 4096 10 0 0 3; O 131680 4096 10 0 0 0;
-        =change limits 0, 1, 4,000,000,000 and one more|openings|
-        O 131680 1 0 0 0 2; O 131680 1 1 0 0 0; O 131680 1 4000000000 0 0 0; O 131680 1 4000000001 0 0 2;
+        =change limits 0, 1, 500,000,000 and one more|openings|
+        O 131680 1 0 0 0 2; O 131680 1 1 0 0 0; O 131680 1 500000000 0 0 0; O 131680 1 500000001 0 0 2;
         # Submissions at the ends of their ranges.
         =every axis at its ends, draw -2,001 refused|submissions|y;
         =curves 0, 1, 999,999 and 1,000,000|calls|
@@ -39,7 +39,7 @@ pub fn refusals(to: &mut [u8], at: usize) -> usize {
         O 672 2 10 0 0 0; W 672 1 4097 0 0 0; S 672 8 0 200000 0 4; T 672 8 0 0 0 4; R 672 8 0 0 0 4; K 672 8 0 0 0 4; P 672 0 0 0 0 4; A 672 0 0 0 0 4;
         O 672 2 10 0 0 0; W 672 1 3 0 0 0; S 672 8 0 200000 0 4; T 672 8 0 0 0 4; R 672 8 0 0 0 4; K 672 8 0 0 0 4; P 672 0 0 0 0 4; A 672 0 0 0 0 4;
         O 672 2 10 0 0 0; W 672 2 0 0 0 0; S 672 8 0 200000 0 4; T 672 8 0 0 0 4; R 672 8 0 0 0 4; K 672 8 0 0 0 4; P 672 0 0 0 0 4; A 672 0 0 0 0 4;
-        O 672 2 10 0 0 0; W 672 2 4000000001 0 0 0; S 672 8 0 200000 0 4; T 672 8 0 0 0 4; R 672 8 0 0 0 4; K 672 8 0 0 0 4; P 672 0 0 0 0 4; A 672 0 0 0 0 4;
+        O 672 2 10 0 0 0; W 672 2 500000001 0 0 0; S 672 8 0 200000 0 4; T 672 8 0 0 0 4; R 672 8 0 0 0 4; K 672 8 0 0 0 4; P 672 0 0 0 0 4; A 672 0 0 0 0 4;
         O 672 2 10 0 0 0; S 671 8 0 200000 0 4; T 671 8 0 0 0 4; R 671 8 0 0 0 4; K 671 8 0 0 0 4; P 671 0 0 0 0 4; A 671 0 0 0 0 4;
         S 0 8 0 200000 0 4; T 0 8 0 0 0 4; R 0 8 0 0 0 4; K 0 8 0 0 0 4; P 0 0 0 0 0 4; A 0 0 0 0 0 4;
         # A station that there is not; kind, point and curve are wrong as well.
@@ -179,18 +179,18 @@ pub fn histories(to: &mut [u8], at: usize) -> usize {
         =eight searches in turn on a stair of 4,096 records|steps without an answer, of 65536 at most|
         x 0; e 0 4 139 500 10; a 66000; l;
         # Short random histories, audited after every event.
-        =random histories, one place, full at times|events|h 1 4000000000 2 3 200 600 1 40;
-        =random histories, 5 places, full at times|events|h 5 4000000000 9 3 200 600 1 40;
-        =random histories, 6 places, 12 changes, spent|events|h 6 12 9 4 200 600 1 40;
-        =random histories, 30 places|events|h 30 4000000000 60 8 200 600 1 40;
+        =random histories, one place, full at times|events|h 1 500000000 2 3 200 600 1 40;
+        =random histories, 5 places, full at times|events|h 5 500000000 9 3 200 600 1 40;
+        =random histories, 6 places, 2 changes of each station, spent at times|events|h 6 2 9 4 200 600 1 40;
+        =random histories, 30 places|events|h 30 500000000 60 8 200 600 1 40;
         # Long random histories, and the deepest trees with calls and a random history on them.
-        =long random histories, 60 places, near points|events|h 60 4000000000 50 3 5 100000 0 400;
-        =long random histories, 500 places, all weights|events|h 500 4000000000 99999 8 5 100000 0 400;
+        =long random histories, 60 places, near points|events|h 60 500000000 50 3 5 100000 0 400;
+        =long random histories, 500 places, all weights|events|h 500 500000000 99999 8 5 100000 0 400;
         =a stair of 4,096 records, lightest first|events|
         x 0; n 4096; c 0 4 12 1; c 1 4 12 100000; c 2 4 12 40011; c 3 4 13 40011; c 4 1 12 100000 7; n 4096;
-        c 5 2 12 40021; n 4095; c 6 1 12 100000 8; c 7 3 12 40021; n 4096; b 4096 4000000000 81920 3 1 6000 0 250;
+        c 5 2 12 40021; n 4095; c 6 1 12 100000 8; c 7 3 12 40021; n 4096; b 4096 500000000 81920 3 1 6000 0 250;
         =a stair of 4,096 records, heaviest first|events|
         x 1; n 4096; c 0 4 12 1; c 1 4 12 100000; c 2 4 12 40011; c 3 4 13 40011; c 4 1 12 100000 7; n 4096;
-        c 5 2 12 40021; n 4095; c 6 1 12 100000 8; c 7 3 12 40021; n 4096; b 4096 4000000000 81920 3 1 6000 0 250;",
+        c 5 2 12 40021; n 4095; c 6 1 12 100000 8; c 7 3 12 40021; n 4096; b 4096 500000000 81920 3 1 6000 0 250;",
     )
 }

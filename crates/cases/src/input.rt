@@ -1,5 +1,6 @@
 // The text of the cases that are run: what stands on standard input, or the program's own, which are put together in its place.
 use crate::cases;
+use crate::counters;
 use crate::grades;
 use crate::hold_up;
 use crate::tally::refuse;
@@ -32,16 +33,28 @@ fn random(to: &mut [u8], at: usize) -> usize {
     hold_up::held_up(to, end)
 }
 
-// All the cases of the program.
-fn all(to: &mut [u8]) -> usize {
-    let mut end = cases::calls(to, 0);
+// Calls on the index alone, at the ends of their ranges and refused.
+fn lone(to: &mut [u8], at: usize) -> usize {
+    let mut end = cases::calls(to, at);
     end = cases::refusals(to, end);
     end = cases::step_refusals(to, end);
-    end = cases::frame_refusals(to, end);
+    cases::frame_refusals(to, end)
+}
+
+// Changes that are counted by station, and the words that count them.
+fn counted(to: &mut [u8], at: usize) -> usize {
+    let end = counters::counted(to, at);
+    counters::stored(to, end)
+}
+
+// All the cases of the program.
+fn all(to: &mut [u8]) -> usize {
+    let mut end = lone(to, 0);
     end = cases::stations(to, end);
     end = cases::one_point(to, end);
     end = withdrawals::withdrawn(to, end);
     end = grades::shared(to, end);
+    end = counted(to, end);
     random(to, end)
 }
 

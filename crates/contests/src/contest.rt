@@ -231,7 +231,7 @@ fn turns(words: &mut [u32], book: &mut [u64], contest: Contest, count: u32) {
 
 // The opening, and as many records as there are places.
 fn begin(words: &mut [u32], book: &mut [u64], contest: Contest, places: u32) {
-    drive::open(words, book, places, 4000000000);
+    drive::open(words, book, places, 500000000);
     fill(words, book, contest, places);
 }
 

@@ -2,6 +2,7 @@
 // a capital letter for the call, how many words it is lent, four arguments and the number.
 use crate::framed::framed;
 use audits::audit::audit;
+use calls::take::Taking;
 use openings::open::open;
 use plain_list::book::at_weight;
 use plain_list::book::point_of;
@@ -14,7 +15,6 @@ use runs::run::run;
 use steps::step::step;
 use steps::withdraw::withdraw;
 use submissions::submit::submit;
-use takings::take::number_of;
 use takings::take::take;
 use trial::cells::copy;
 use trial::cells::put_word;
@@ -44,8 +44,23 @@ fn audited(words: &[u32]) -> u32 {
     }
 }
 
+// The number of a taking. Where its item says a code, an answer of another one is wrong.
+fn taken(words: &mut [u32], s: u32, code: u32) -> u32 {
+    match take(words, s) {
+        Taking::Refused(number) => number,
+        Taking::Given(answer) => {
+            if (code == 0) | (answer.code == code) {
+                0
+            } else {
+                NEVER
+            }
+        }
+    }
+}
+
 // The call of an item, and its number. Places and limit of an opening; station, kind, weight of a point of grade 12 and curve of a submission;
-// the station of a step, a run, a taking and a withdrawal (D); the bytes there, the length and the kind of a frame; an offset and the word that is written there.
+// the station of a step, a run, a taking and a withdrawal (D), and of a taking the code that its answer may have, 0 where it may be any; the bytes there, the
+// length and the kind of a frame; an offset and the word that is written there.
 fn perform(words: &mut [u32], item: Item) -> u32 {
     let n = item.n;
     let letter = item.letter;
@@ -54,7 +69,7 @@ fn perform(words: &mut [u32], item: Item) -> u32 {
         b'S' => submit(words, n[1], n[2], point_of(at_weight(12, n[3])), n[4]),
         b'T' => step(words, n[1]),
         b'R' => run(words, n[1]),
-        b'K' => number_of(take(words, n[1])),
+        b'K' => taken(words, n[1], n[2]),
         b'D' => withdraw(words, n[1]),
         b'P' => report(words),
         b'A' => audited(words),

@@ -1,5 +1,5 @@
 // Events on the index and on the plain table, from the items of a text. An item has a letter for the event, station, kind, grade, weight, curve,
-// and the one curve that the answer may have, 0 where it may be any.
+// and the one curve and the one code that the answer may have, 0 where it may be any.
 use crate::drive;
 use plain_list::book::at_weight;
 use plain_list::reference;
@@ -15,18 +15,21 @@ pub fn submit(words: &mut [u32], book: &mut [u64], n: [u32; 9]) {
     drive::submit(words, book, n[0], n[1], p, n[4]);
 }
 
-// Whether the answer that waits at a station has this curve, or no record; any curve where 0 is given.
-fn may_answer(words: &[u32], s: u32, curve: u32) -> bool {
+// Whether the answer that waits at a station has this curve, or no record, and this code; any curve and any code where 0 is given.
+fn may_answer(words: &[u32], s: u32, curve: u32, code: u32) -> bool {
     match read_waiting(words, s) {
         Waiting::Nothing => false,
-        Waiting::Given(answer) => { (curve == 0) | (answer.curve == curve) | (answer.code == 9) }
+        Waiting::Given(answer) => {
+            ((curve == 0) | (answer.curve == curve) | (answer.code == 9))
+                & ((code == 0) | (answer.code == code))
+        }
     }
 }
 
-// The taking of an item, with the curve that it may have.
+// The taking of an item, with the curve and the code that it may have.
 pub fn take(words: &mut [u32], book: &mut [u64], n: [u32; 9]) {
     let s = n[0];
-    judge(book, may_answer(words, s, n[5]));
+    judge(book, may_answer(words, s, n[5], n[6]));
     drive::take(words, book, s);
 }
 

@@ -28,7 +28,7 @@ fn add(words: &mut [u32], book: &mut [u64], s: u32, weight: u32, curve: u32) {
 
 // Records are added one after the other, by the eight stations in turn.
 pub fn build(words: &mut [u32], book: &mut [u64], falling: bool) {
-    drive::open(words, book, PLACES, 4000000000);
+    drive::open(words, book, PLACES, 500000000);
     for n in 0..PLACES {
         add(words, book, n % 8, weight_at(n, falling), 1 + n);
     }

@@ -11,12 +11,10 @@ use trial::cells::put;
 // The places of the largest index: as many records are held and removals awaited at most.
 pub const MOST_PLACES: u64 = 4096;
 
-// Places and change limit of the opening, changes, records held, removals awaited.
+// Places and change limit of the opening, records held, removals awaited.
 pub const AT_PLACES: usize = 1;
 
 pub const AT_LIMIT: usize = 2;
-
-pub const AT_CHANGES: usize = 3;
 
 pub const AT_HELD: usize = 4;
 
@@ -96,6 +94,11 @@ pub fn at_station(s: u32, field: usize) -> usize {
         return NOWHERE;
     }
     40 + 16 * (s as usize) + field
+}
+
+// The changes that a station has made since the opening.
+pub fn at_changes(s: u32) -> usize {
+    if s < 8 { 168 + (s as usize) } else { NOWHERE }
 }
 
 // The six cells of a record: its point and its curve.

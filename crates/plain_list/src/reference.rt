@@ -1,12 +1,12 @@
 // The plain table: a list of the records held, a linear scan, and a call at each station. It has no tree and no steps, and never looks at the
 // words of the index.
 use crate::book::AT_AWAITED;
-use crate::book::AT_CHANGES;
 use crate::book::AT_HELD;
 use crate::book::AT_LIMIT;
 use crate::book::AT_PLACES;
 use crate::book::Due;
 use crate::book::PlainPoint;
+use crate::book::at_changes;
 use crate::book::at_station;
 use crate::book::put_point;
 use crate::book::read_point;
@@ -28,15 +28,20 @@ pub const UNFINISHED: u64 = 1;
 
 pub const WAITING: u64 = 2;
 
+// A station is idle, and has made no change.
+fn begin_station(book: &mut [u64], s: u32) {
+    put(book, at_station(s, 0), IDLE);
+    put(book, at_changes(s), 0);
+}
+
 // Nothing is held or counted, and every station is idle.
 pub fn begin(book: &mut [u64], places: u32, limit: u32) {
     put(book, AT_PLACES, places as u64);
     put(book, AT_LIMIT, limit as u64);
-    put(book, AT_CHANGES, 0);
     put(book, AT_HELD, 0);
     put(book, AT_AWAITED, 0);
     for s in 0..8u32 {
-        put(book, at_station(s, 0), IDLE);
+        begin_station(book, s);
     }
 }
 
@@ -88,13 +93,18 @@ fn plain(code: u64, p: PlainPoint, curve: u64) -> Due {
     }
 }
 
-// The answer of an add at this moment.
-fn add_due(book: &[u64], p: PlainPoint, curve: u64) -> Due {
+// Whether a station has made as many changes as the limit lets each station make.
+fn is_spent(book: &[u64], s: u32) -> bool {
+    get(book, at_changes(s)) == get(book, AT_LIMIT)
+}
+
+// The answer of a station's add at this moment.
+fn add_due(book: &[u64], s: u32, p: PlainPoint, curve: u64) -> Due {
     let i = find(book, p);
     if i < get(book, AT_HELD) {
         return plain(2, p, curve_at(book, i));
     }
-    if get(book, AT_CHANGES) == get(book, AT_LIMIT) {
+    if is_spent(book, s) {
         return plain(4, p, 0);
     }
     if taken(book) == get(book, AT_PLACES) {
@@ -103,13 +113,13 @@ fn add_due(book: &[u64], p: PlainPoint, curve: u64) -> Due {
     plain(1, p, curve)
 }
 
-// The answer of a remove at this moment.
-fn remove_due(book: &[u64], p: PlainPoint) -> Due {
+// The answer of a station's remove at this moment.
+fn remove_due(book: &[u64], s: u32, p: PlainPoint) -> Due {
     let i = find(book, p);
     if get(book, AT_HELD) <= i {
         return plain(6, p, 0);
     }
-    if get(book, AT_CHANGES) == get(book, AT_LIMIT) {
+    if is_spent(book, s) {
         return plain(4, p, 0);
     }
     plain(5, p, curve_at(book, i))
@@ -147,24 +157,24 @@ fn put_due(book: &mut [u64], s: u32, due: Due) {
 pub fn due_now(book: &[u64], s: u32) -> Due {
     let p = read_point(book, at_station(s, 2));
     match kind(book, s) {
-        1 => add_due(book, p, get(book, at_station(s, 7))),
-        2 => remove_due(book, p),
+        1 => add_due(book, s, p, get(book, at_station(s, 7))),
+        2 => remove_due(book, s, p),
         3 => contains_due(book, p),
         _ => read_due(book, s),
     }
 }
 
-// A change takes effect.
-fn apply(book: &mut [u64], due: Due) {
+// A change takes effect, and its station counts it. Any other answer changes nothing.
+fn apply(book: &mut [u64], s: u32, due: Due) {
     if due.code == 1 {
         hold(book, due.point, due.curve);
-        count(book, AT_CHANGES);
+        count(book, at_changes(s));
         return;
     }
     if due.code == 5 {
         drop_record(book, due.point);
         set_down(book);
-        count(book, AT_CHANGES);
+        count(book, at_changes(s));
     }
 }
 
@@ -179,7 +189,7 @@ fn wait(book: &mut [u64], s: u32, due: Due) {
 fn answer(book: &mut [u64], s: u32) {
     let due = due_now(book, s);
     wait(book, s, due);
-    apply(book, due);
+    apply(book, s, due);
 }
 
 // The call is written at its station. The answer of a nearest is for the records held now.

@@ -23,17 +23,11 @@ put-requires-3 c κs = search needs
 put-requires-4 : tie.Need-put-requires-4 Inv-loop μ-loop
 put-requires-4 c κs = search needs
 
-put-requires-5 : tie.Need-put-requires-5 Inv-loop μ-loop
-put-requires-5 c κs = search needs
-
 loop-holds : tie.Need-loop-holds Inv-loop μ-loop
 loop-holds c = search needs
 
-at-station-requires : tie.Need-at-station-requires Inv-loop μ-loop
-at-station-requires c κs = search needs
-
-put-requires-6 : tie.Need-put-requires-6 Inv-loop μ-loop
-put-requires-6 c κs = search needs
+begin-station-requires : tie.Need-begin-station-requires Inv-loop μ-loop
+begin-station-requires c κs = search needs
 
 add-s : tie.Need-add-s Inv-loop μ-loop
 add-s c = search needs
@@ -60,10 +54,8 @@ begin-spec =
     put-requires-2
     put-requires-3
     put-requires-4
-    put-requires-5
     loop-holds
-    at-station-requires
-    put-requires-6
+    begin-station-requires
     add-s
     loop-less
     loop-again
