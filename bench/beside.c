@@ -10,7 +10,7 @@
 // The places left free: a removal under a search holds its place until the search is answered.
 #define FREE 256
 
-#define LIMIT 4000000000u
+#define LIMIT 500000000u
 #define HEAVIEST 100000
 
 // The codes of answers.

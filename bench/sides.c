@@ -2,7 +2,7 @@
 #include <stdio.h>
 #include <stdlib.h>
 
-#define LIMIT 4000000000u
+#define LIMIT 500000000u
 
 // So many pairs of a remove and an add for each place make a churn.
 #define CHURN 100

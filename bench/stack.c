@@ -5,7 +5,7 @@
 
 #define SIZE (2u << 20)
 #define PAINT 0xA5
-#define LIMIT 4000000000u
+#define LIMIT 500000000u
 
 static unsigned char stacks[ENTRIES][SIZE];
 

@@ -11,7 +11,7 @@
 // The words changed one after another before the index is audited and built anew.
 #define AT_ONCE 20
 
-// Mark, places and limit: with one of these changed every call is refused with 4, so they stay.
+// Mark, places and limit: where one of these is out of range every call is refused with 4, so they stay.
 #define OPENING_WORDS 3
 #define GRADE 12
 

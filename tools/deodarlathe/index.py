@@ -45,12 +45,13 @@ class Track:
 
 @dataclass
 class Station:
-    """A station: its state, its call, its answer, and its track."""
+    """A station: its state, its call, its answer, its track, and the changes that it has made since opening."""
 
     state: str = IDLE
     call: Call | None = None
     answer: Answer | None = None
     track: Track = field(default_factory=Track)
+    changes: int = 0
 
     def answered(self, code, point, curve=0, square=0):
         """The answer waits, and the call stands nowhere any more."""
@@ -81,10 +82,10 @@ class Index:
         return self.held + self.awaiting
 
     def open(self, places, limit):
-        """Questions 1 to 3; then no record is held, every row is spare and every station idle."""
+        """Questions 1 to 3; then no record is held, every row is spare, and every station idle with no change made."""
         if not 1 <= places <= 4_096:
             return 1
-        if not 1 <= limit <= 4_000_000_000:
+        if not 1 <= limit <= 500_000_000:
             return 2
         if self.words < 32 * places + 608:
             return 3

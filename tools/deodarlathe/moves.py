@@ -26,17 +26,18 @@ def walk(index, station):
     track.cursor = at
 
 
-def code_of(index, call, held):
-    """The code of a call that has come to its leaf."""
-    if call.kind == ADD and held:
+def code_of(index, station, held):
+    """The code of a call that has come to its leaf. The limit is for the changes of its own station."""
+    kind = station.call.kind
+    if kind == ADD and held:
         return HELD_ALREADY
-    if call.kind != ADD and not held:
+    if kind != ADD and not held:
         return NOT_HELD
-    if call.kind == CONTAINS:
+    if kind == CONTAINS:
         return HELD
-    if index.changes == index.limit:
+    if station.changes == index.limit:
         return USED_UP
-    if call.kind == REMOVE:
+    if kind == REMOVE:
         return REMOVED
     return NO_ROOM if index.taken >= index.places else ADDED
 
@@ -45,12 +46,13 @@ def conclude(index, station, at):
     """The decision at a leaf, or in the empty tree: an answer, after an insert or an unlink where it is a change."""
     call, leaf = station.call, None if at is None else index.rows[at]
     held = leaf is not None and leaf.point == call.point
-    code = code_of(index, call, held)
+    code = code_of(index, station, held)
     curve = leaf.curve if code in (HELD_ALREADY, HELD, REMOVED) else call.curve if code == ADDED else 0
     if code == ADDED:
         insert(index, call, at)
     elif code == REMOVED:
         unlink(index, at)
+    station.changes += code in (ADDED, REMOVED)
     station.answered(code, call.point, curve)
 
 

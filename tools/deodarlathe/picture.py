@@ -57,7 +57,7 @@ def station_lines(station):
 
 
 def stations(drawing, index):
-    """The eight stations in a column. Gives the box of each."""
+    """The eight stations in a column, with the changes that each has made. Gives the box of each."""
     placed, y = [], TOP
     for number, station in enumerate(index.stations):
         state, lines = station_lines(station)
@@ -66,6 +66,7 @@ def stations(drawing, index):
         drawing.rect(box, stroke=COLOURS[number] if busy else IDLE_EDGE, stroke_width=1.5 if busy else 1)
         name = boxes.tag(drawing, box.x + 8, y + 6, f"station {number}", COLOURS[number], filled=busy)
         drawing.text(name.right + 8, y + 19, state, font_weight="bold" if busy else "normal", fill=GREY)
+        drawing.text(box.right - 10, y + 19, f"changes {station.changes:,}", text_anchor="end", fill=GREY)
         for at, line in enumerate(lines, 1):
             drawing.text(box.x + 14, y + 24 + LINE * at, line)
         placed.append(box)
@@ -104,7 +105,7 @@ def heading(drawing, title, subtitle, index):
     drawing.text(MARGIN, 60, subtitle, font_size=14)
     counts = (
         f"places taken {index.taken} of {index.places}: records held {index.held}, awaited removals {index.awaiting}; "
-        f"changes {index.changes:,} of {index.limit:,}, of them removals {index.removals:,}"
+        f"changes {index.changes:,}, of them removals {index.removals:,}; change limit of each station {index.limit:,}"
     )
     drawing.text(MARGIN, 82, counts, fill=GREY)
 

@@ -7,7 +7,7 @@ from .text import line_of
 # the questions (Rules 7.1), by what is wrong where they are answered no
 REFUSALS = {
     1: "the places are not 1 to 4,096",
-    2: "the change limit is not 1 to 4,000,000,000",
+    2: "the change limit is not 1 to 500,000,000",
     3: "the slice has too few words for so many places",
     4: "nothing is opened",
     5: "the station is not 0 to 7",
@@ -26,7 +26,7 @@ CODES = {
     1: "added",
     2: "held already",
     3: "every place is taken:",
-    4: "the changes are used up:",
+    4: "the station's changes are used up:",
     5: "removed",
     6: "not held",
     7: "held",

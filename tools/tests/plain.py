@@ -5,11 +5,11 @@ from deodarlathe.points import rank, square
 
 
 class Plain:
-    """The records held, the changes, and each removal with the searches that were unfinished at its moment."""
+    """The records held, the changes of each station, and each removal with the searches that were unfinished at its moment."""
 
     def __init__(self, places, limit):
         self.places, self.limit = places, limit
-        self.held, self.changes, self.awaited, self.searches = {}, 0, [], {}
+        self.held, self.changes, self.awaited, self.searches = {}, [0] * 8, [], {}
 
     def submitted(self, station, kind, point):
         """The answer of a nearest is that of its submission."""
@@ -27,7 +27,7 @@ class Plain:
         """The answer of a call at the step that answers it."""
         if kind == NEAREST:
             return self.ended(station)
-        code = self.code(kind, point)
+        code = self.code(station, kind, point)
         given = {1: curve, 2: self.held.get(point), 5: self.held.get(point), 7: self.held.get(point)}.get(code, 0)
         if code == 1:
             self.held[point] = curve
@@ -35,16 +35,16 @@ class Plain:
             del self.held[point]
             if self.searches:
                 self.awaited.append(set(self.searches))
-        self.changes += code in (1, 5)
+        self.changes[station] += code in (1, 5)
         return code, point, given, 0
 
-    def code(self, kind, point):
+    def code(self, station, kind, point):
         """The code of an add, a remove or a contains (Rules 2.5 to 2.7)."""
         if kind == CONTAINS or (kind == REMOVE and point not in self.held):
             return 7 if point in self.held else 6
         if kind == ADD and point in self.held:
             return 2
-        if self.changes == self.limit:
+        if self.changes[station] == self.limit:
             return 4
         if kind == REMOVE:
             return 5

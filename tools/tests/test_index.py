@@ -3,7 +3,7 @@
 import random
 import unittest
 
-from deodarlathe.frame import NEAREST
+from deodarlathe.frame import ADD, CONTAINS, NEAREST, REMOVE
 from deodarlathe.index import IDLE, UNFINISHED, WAITING, Index
 from deodarlathe.lines import printed
 from deodarlathe.placement import queue_rows
@@ -51,7 +51,7 @@ class Runner(unittest.TestCase):
 
     def test_questions(self):
         text = "\n".join(
-            ["step 0", "run 0", "open 0 1", "open 4097 1", "open 1 0", "open 1 4000000001", "open 257 1", "open 256 1", "take 8", "take 0"]
+            ["step 0", "run 0", "open 0 1", "open 4097 1", "open 1 0", "open 1 500000001", "open 257 1", "open 256 1", "take 8", "take 0"]
             + ["submit 0 5 1 1 0 0 0", "submit 0 nearest 0 1 0 0 0", "submit 0 add 1 1 0 0 0 0", "step 0", "withdraw 0"]
             + ["submit 0 nearest 1 1 0 0 0", "submit 0 nearest 1 1 0 0 0"]
         )
@@ -61,6 +61,71 @@ class Runner(unittest.TestCase):
     def test_no_more_than_the_runner_takes(self):
         lines = lines_for("step 1\n" * 20_000).splitlines()
         self.assertEqual(lines[-1], "13108 13 - - - - - - - -")
+
+
+class Changes(unittest.TestCase):
+    """The limit holds for the changes of each station by itself."""
+
+    def codes(self, index, *calls):
+        """The codes of calls, one after the other: station, kind, weight."""
+        answers = []
+        for station, kind, weight in calls:
+            self.assertEqual(index.submit(station, kind, (1, weight, 0, 0, 0), 7), 0)
+            self.assertEqual(index.run(station), 0)
+            answers.append(index.take(station)[1].code)
+        return answers
+
+    def opened(self, places, limit):
+        """An index."""
+        index = Index()
+        self.assertEqual(index.open(places, limit), 0)
+        return index
+
+    def test_limits(self):
+        limits = (0, 1, 500_000_000, 500_000_001, 4_000_000_000)
+        self.assertEqual([Index().open(1, limit) for limit in limits], [2, 0, 0, 2, 2])
+
+    def test_one_station_has_used_up_its_changes(self):
+        index = self.opened(8, 1)
+        self.assertEqual(self.codes(index, (0, ADD, 1), (0, ADD, 2), (0, REMOVE, 1), (0, ADD, 1)), [1, 4, 4, 2])
+        self.assertEqual(self.codes(index, (0, REMOVE, 2), (0, CONTAINS, 1), (0, NEAREST, 1)), [6, 7, 8])
+        self.assertEqual(self.codes(index, (1, ADD, 2), (1, ADD, 3), (7, REMOVE, 2), (7, REMOVE, 1)), [1, 4, 5, 4])
+        self.assertEqual([station.changes for station in index.stations], [1, 1, 0, 0, 0, 0, 0, 1])
+
+    def test_two_stations_at_the_same_time(self):
+        index = self.opened(8, 1)
+        self.assertEqual(self.codes(index, (0, ADD, 1)), [1])
+        for station, weight in ((0, 2), (1, 3)):
+            index.submit(station, ADD, (1, weight, 0, 0, 0), 7)
+        for station in (0, 1):
+            index.step(station)
+        self.assertEqual([index.take(station)[1].code for station in (0, 1)], [4, 1])
+
+    def test_used_up_comes_before_no_room(self):
+        index = self.opened(1, 1)
+        self.assertEqual(self.codes(index, (0, ADD, 1), (0, ADD, 2), (1, ADD, 2)), [1, 4, 3])
+
+    def test_what_is_no_change(self):
+        index = self.opened(1, 2)
+        self.assertEqual(self.codes(index, (0, ADD, 1), (0, ADD, 1), (0, ADD, 2), (0, REMOVE, 2)), [1, 2, 3, 6])
+        index.submit(0, REMOVE, (1, 1, 0, 0, 0), 0)
+        index.withdraw(0)
+        index.take(0)
+        self.assertEqual(index.stations[0].changes, 1)
+        self.assertEqual(self.codes(index, (0, REMOVE, 1), (0, ADD, 1)), [5, 4])
+
+    def test_all_changes_number_the_records(self):
+        index = self.opened(8, 1)
+        self.assertEqual(self.codes(index, *((station, ADD, station + 1) for station in range(8))), [1] * 8)
+        self.assertEqual(self.codes(index, *((station, ADD, 9) for station in range(8))), [4] * 8)
+        self.assertEqual(index.changes, 8)
+        self.assertEqual(sorted(row.added for row in index.rows if isinstance(row, Leaf)), list(range(1, 9)))
+
+    def test_opening_clears(self):
+        index = self.opened(2, 1)
+        self.assertEqual(self.codes(index, (0, ADD, 1), (0, ADD, 2)), [1, 4])
+        self.assertEqual(index.open(2, 1), 0)
+        self.assertEqual(self.codes(index, (0, ADD, 1), (0, ADD, 2)), [1, 4])
 
 
 class Points(unittest.TestCase):
@@ -106,7 +171,7 @@ class Histories(unittest.TestCase):
     def test_random_histories(self):
         rng = random.Random(5)
         for _ in range(60):
-            places, limit = rng.choice([1, 2, 5, 12, 40]), rng.choice([9, 4_000_000_000])
+            places, limit = rng.choice([1, 2, 5, 12, 40]), rng.choice([1, 4, 500_000_000])
             index, plain = Index(), Plain(places, limit)
             self.assertEqual(index.open(places, limit), 0)
             for _ in range(400):
@@ -114,6 +179,8 @@ class Histories(unittest.TestCase):
             records, rows = leaves_below(index, index.root)
             self.assertEqual(records, plain.held)
             self.assertEqual(index.taken, len(plain.held) + len(plain.awaited))
+            self.assertEqual([station.changes for station in index.stations], plain.changes)
+            self.assertEqual(index.changes, sum(plain.changes))
             self.assertEqual(rows + len(list(queue_rows(index))), 2 * places)
 
     def test_a_station_left_to_itself_is_answered(self):

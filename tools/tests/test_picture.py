@@ -47,6 +47,12 @@ class HalfDone(unittest.TestCase):
         states = [word for word in self.words if word in ("idle", "unfinished call", "answer waits")]
         self.assertEqual(states, "idle,idle,unfinished call,answer waits,idle,unfinished call,idle,unfinished call".split(","))
 
+    def test_changes(self):
+        counts = "records held 5, awaited removals 1; changes 7, of them removals 1; change limit of each station 100"
+        self.assertEqual(self.words[2], f"places taken 6 of 6: {counts}")
+        changes = [word for word in self.words[3:] if word.startswith("changes")]
+        self.assertEqual(changes, [f"changes {number}" for number in (6, 0, 0, 1, 0, 0, 0, 0)])
+
     def test_tree_and_queue(self):
         for words in ("weight < 10,000", "row 2, sum 20,000", "speed < 8,900", "removed", "head", "tail", "root"):
             self.assertIn(words, self.words)

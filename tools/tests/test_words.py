@@ -73,6 +73,13 @@ class Explain(unittest.TestCase):
         words = list(explained(data, [played.line for played in play(data)]))
         self.assertEqual(words, ["frame 1: step 1: refused: 4, nothing is opened", "frame 2: the runner stops: 13, the frame is cut short"])
 
+    def test_changes_used_up(self):
+        call = b"submit 3 add 1 %d 0 0 0 7\nrun 3\ntake 3\n"
+        data = written(b"open 2 500000001\nopen 2 1\n" + call % 1 + call % 2)
+        words = list(explained(data, [played.line for played in play(data)]))
+        self.assertEqual(words[0], "frame 1: open 2 500000001: refused: 2, the change limit is not 1 to 500,000,000")
+        self.assertEqual(words[-1], "frame 8: station 3 took: the station's changes are used up: 1 2 0 0 0")
+
     def test_more_than_the_runner_takes(self):
         data = written(b"step 1\n" * 20_000)
         words = list(explained(data, [played.line for played in play(data)]))
