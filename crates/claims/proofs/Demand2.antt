@@ -11,7 +11,7 @@ use mathlib.Core.List.{List, _++_, List·Memᴰ}
 use lib.ListN.{length, drop, take as takeFirst}
 use mathlib.Core.Option.{Option, none, some}
 use Rattle.claims.specs.Definitions.{Point, squareOf, sameGrade, chosenOver, Chosen, Record, curveAt, Call, add, remove, contains, nearest, callOf, answer, isChange}
-use Rattle.claims.specs.Definitions.{isUnfinished, stateAt, Table, busy, taken, answerOf, changedIf, Event, submit, done, openOf, submitOf, runOf, takeOf, takeWords}
+use Rattle.claims.specs.Definitions.{counterAt, isUnfinished, stateAt, Table, busy, taken, answerOf, changedIf, Event, submit, done, openOf, submitOf, runOf, takeOf, takeWords}
 use Rattle.claims.specs.Definitions.{opened, givenBy, wordIndex, after, stepped, Frame, AllBytes, InWidth, Read, readOf, writtenOf}
 use Rattle.points.proofs.ChoiceLaws
 use Rattle.table.proofs.Answers
@@ -120,6 +120,8 @@ pub record AnswersAsTable (start : List ℕ) (places limit : ℕ) (evs : List Ev
   pub submits : (s kind : ℕ) (p : Point) (c : ℕ) → submitOf (after evs start) s kind p c .number ≡ submit (history .table evs) s kind p c .number
   -- the state word of a station says unfinished exactly if the table does, so that `solo` of Demand3.antt speaks of the table's unfinished calls
   pub unfinished : (s : ℕ) → s < 8 → isUnfinished (stateAt (after evs start) s) ≡ busy (history .table evs .stations s)
+  -- the counter of a station is the number of changes that the table has counted for it
+  pub counters : (s : ℕ) → s < 8 → counterAt (after evs start) s ≡ history .table evs .counters s
   pub alone : (s kind : ℕ) (p : Point) (c : ℕ) → submitOf (after evs start) s kind p c .number ≡ 0 → RunsAlone (after evs start) (history .table evs) places s kind p c
 
 -- "Each call run alone answers as a plain table of records does": after every history from an accepted opening.
@@ -134,6 +136,7 @@ demand-2 words places limit e evs =
       history = h;
       submits = λ s kind p c. rw same (x .submits s kind p c);
       unfinished = λ s l. rw same (x .unfinished s l);
+      counters = λ s l. rw same (x .counters s l);
       alone = λ s kind p c a.
           let y = x .alone s kind p c a in
           let b : List ℕ = begun (after evs start) s kind p c in

@@ -178,6 +178,7 @@ demand-2-opened words places limit a evs =
       agrees = alike-agree wordIndex now (alike-trim (λ s. false) t) (related-agrees (w .sound) (w .related));
       submits = λ s kind p c. related-submits s kind p c (w .sound) (w .related) .number ∙ alike-submit (alike-trim (λ s. false) t) s kind p c;
       unfinished = λ s l. unfinished-same (w .related) s l ∙ alike-busy (alike-trim (λ s. false) t) s;
+      counters = λ s l. w .related .counters s l ∙ ap (λ (f : ℕ → ℕ). f s) (alike-trim (λ s. false) t .counters);
       alone = λ s kind p c e.
           runs-alike (alike-trim (λ s. false) t) (subst (λ (m : ℕ). RunsAlone now t (16 * m + 64) s kind p c) n (related-alone now t (w .sound) (w .related) s kind p c e));
     }

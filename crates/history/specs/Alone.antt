@@ -6,6 +6,7 @@ use mathlib.Core.Option.{some}
 use Rattle.points.specs.declared.point.Point.{Point}
 use Rattle.table.specs.Call.{callOf, isChange}
 use Rattle.words.specs.Layout.{stations}
+use Rattle.stations.specs.Counter.{counterAt}
 use Rattle.stations.specs.Station.{isUnfinished, stateAt}
 use Rattle.table.specs.Table.{Table, busy, opened, answerOf, changedIf}
 use Rattle.table.specs.Event.{Event, submit}
@@ -50,4 +51,5 @@ pub record AnswersAsTable (start : List ℕ) (places limit : ℕ) (evs : List Ev
   pub agrees : Agree wordIndex (after evs start) table
   pub submits : (s kind : ℕ) (p : Point) (c : ℕ) → submitOf (after evs start) s kind p c .number ≡ submit table s kind p c .number
   pub unfinished : (s : ℕ) → s < stations → isUnfinished (stateAt (after evs start) s) ≡ busy (table .stations s)
+  pub counters : (s : ℕ) → s < stations → counterAt (after evs start) s ≡ table .counters s
   pub alone : (s kind : ℕ) (p : Point) (c : ℕ) → submitOf (after evs start) s kind p c .number ≡ 0 → RunsAlone (after evs start) table (16 * places + 64) s kind p c

@@ -1,5 +1,5 @@
 -- The counters: a change counted adds one to the counter of its station (`counter-counted`) and leaves those of the others (`counter-other`); counters are
--- a matter of the common record alone (`counter-agree`). The greatest one is above all and no greater than need be (`greatest-most`, `greatest-least`).
+-- a matter of the common record alone (`counter-agree`). The greatest is at least each of them, and at most whatever is at least all (`greatest-most`, `greatest-least`).
 -- Assumes nothing.
 use mathlib.Core.Path.{_≡_, refl, ap₂, _∙_}
 use mathlib.Core.Bool.{Bool, true, false, cond}
@@ -46,7 +46,7 @@ greatest-most w (suc n) s l = go (ℕ-discrete s n) (λ below. greatest-most w n
     go (yes e) f = rw e (omega arith)
     go (no d) f = omega (arith, f (omega arith))
 
--- and it is at most what each of them is at most
+-- and it is at most whatever is at least all
 pub greatest-least : (w : List ℕ) (n m : ℕ) → ((s : ℕ) → s < n → counterAt w s ≤ m) → greatestCounter w n ≤ m
 unfolding greatestCounter
 greatest-least w zero m f = omega arith
