@@ -1,24 +1,27 @@
--- P1 to P4 (Rules 13) and three more cases, by computation of the definitions that the contracts cite.
+-- P1 to P4 (Rules 13) and six more cases, by computation of the definitions that the contracts cite.
 -- Assumes nothing.
 use mathlib.Core.Path.{_≡_, refl}
 use mathlib.Core.Bool.{true, false}
 use Prim.Native.Nat.{ℕ}
 use lib.IntN.{ℤ, pos, negsuc}
 use Rattle.points.specs.declared.point.Point.{Point}
+use Rattle.points.specs.declared.scale.Scale.{Scale}
 use Rattle.points.specs.Point.{indexOf, rangeOf, coordinateOf, withinRange, onAxis, inRange}
 use Rattle.points.specs.Signed.{cappedOf}
-use Rattle.points.specs.Square.{gapOf, topped, squareOf}
+use Rattle.points.specs.Scale.{countOf, factorsIn, plainScale}
+use Rattle.points.specs.Square.{gapOf, topped, plainSquare, squareOf, mostSquare}
 use Rattle.points.specs.Order.{byAxis, orderOf, tieOf}
-use Rattle.points.specs.Choice.{chosenOver, farGap, excluded}
+use Rattle.points.specs.Choice.{chosenBy, chosenOver, farGap, excludedBy, excluded}
 use Rattle.points.specs.Cut.{widerOf, spreadOf, widestOf, cutOf, goesLeft}
+use Rattle.points.proofs.SquareLaws.{square-plain}
 
 -- grade 12, 80 g/m², 5.5 %, 900 m/min, with the weight, speed and draw given
 abbrev pub pointWith : ℤ → ℤ → ℤ → Point
 pointWith weight speed draw = record { grade = pos 12; weight = weight; moisture = pos 550; speed = speed; draw = draw }
 
 -- P1: draws −3 and 4, else equal: square 49
-pub p1 : squareOf (pointWith (pos 8000) (pos 9000) (negsuc 2)) (pointWith (pos 8000) (pos 9000) (pos 4)) ≡ 49
-unfolding squareOf topped gapOf coordinateOf
+pub p1 : squareOf plainScale (pointWith (pos 8000) (pos 9000) (negsuc 2)) (pointWith (pos 8000) (pos 9000) (pos 4)) ≡ 49
+unfolding squareOf plainSquare topped gapOf coordinateOf
 p1 = refl
 
 -- P2: cut of 3 and 4: 3 left, 4 right
@@ -40,17 +43,43 @@ p4 = refl
 
 -- a far side at the distance of the best may hold the record that wins the tie: target 9,000, best 8,990, and beyond the cut, from 9,010 on, the heavier
 pub tie-kept : (farGap (record { axis = 2; sum = pos 18020 }) (pointWith (pos 9000) (pos 9000) (pos 0)) ≡ 20)
-    × (excluded (record { axis = 2; sum = pos 18020 }) (pointWith (pos 9000) (pos 9000) (pos 0)) 100 ≡ false)
-    × (chosenOver (pointWith (pos 9000) (pos 9000) (pos 0)) (pointWith (pos 9010) (pos 9000) (pos 0)) (pointWith (pos 8990) (pos 9000) (pos 0)) ≡ true)
-unfolding excluded farGap goesLeft chosenOver squareOf topped gapOf tieOf orderOf byAxis coordinateOf
+    × (excluded plainScale (record { axis = 2; sum = pos 18020 }) (pointWith (pos 9000) (pos 9000) (pos 0)) 100 ≡ false)
+    × (chosenOver plainScale (pointWith (pos 9000) (pos 9000) (pos 0)) (pointWith (pos 9010) (pos 9000) (pos 0)) (pointWith (pos 8990) (pos 9000) (pos 0)) ≡ true)
+unfolding excluded excludedBy countOf farGap goesLeft chosenOver chosenBy squareOf plainSquare topped gapOf tieOf orderOf byAxis coordinateOf
 tie-kept = (refl, refl, refl)
 
 -- the same to the left: target speed 9,000, best 9,010, and beyond the cut, up to 8,990, the lower of two of one weight
 pub tie-kept-left : (farGap (record { axis = 4; sum = pos 17981 }) (pointWith (pos 8000) (pos 9000) (pos 0)) ≡ 20)
-    × (excluded (record { axis = 4; sum = pos 17981 }) (pointWith (pos 8000) (pos 9000) (pos 0)) 100 ≡ false)
-    × (chosenOver (pointWith (pos 8000) (pos 9000) (pos 0)) (pointWith (pos 8000) (pos 8990) (pos 0)) (pointWith (pos 8000) (pos 9010) (pos 0)) ≡ true)
-unfolding excluded farGap goesLeft chosenOver squareOf topped gapOf tieOf orderOf byAxis coordinateOf
+    × (excluded plainScale (record { axis = 4; sum = pos 17981 }) (pointWith (pos 8000) (pos 9000) (pos 0)) 100 ≡ false)
+    × (chosenOver plainScale (pointWith (pos 8000) (pos 9000) (pos 0)) (pointWith (pos 8000) (pos 8990) (pos 0)) (pointWith (pos 8000) (pos 9010) (pos 0)) ≡ true)
+unfolding excluded excludedBy countOf farGap goesLeft chosenOver chosenBy squareOf plainSquare topped gapOf tieOf orderOf byAxis coordinateOf
 tie-kept-left = (refl, refl, refl)
+
+-- four factors of this size
+abbrev pub factorsOf : ℕ → Scale
+factorsOf factor = record { weight = factor; moisture = factor; speed = factor; draw = factor }
+
+-- the upper and the lower ends of the ranges of axes 2 to 5
+abbrev pub highest : Point
+highest = record { grade = pos 1; weight = pos 100000; moisture = pos 10000; speed = pos 30000; draw = pos 2000 }
+
+abbrev pub lowest : Point
+lowest = record { grade = pos 1; weight = pos 1; moisture = pos 0; speed = pos 0; draw = negsuc 1999 }
+
+pub ends-in-range : (inRange highest ≡ true) × (inRange lowest ≡ true)
+unfolding inRange onAxis withinRange rangeOf indexOf coordinateOf
+ends-in-range = (refl, refl)
+
+-- they meet the bound of `square-le`, with factors of 1,000
+pub most-attained : squareOf (factorsOf 1000) highest lowest ≡ mostSquare
+unfolding plainSquare gapOf coordinateOf factorsIn
+most-attained = square-plain (factorsOf 1000) highest lowest refl (ends-in-range .0) (ends-in-range .1)
+
+-- a factor turns a choice: of a record 10 away in weight and one 20 away in speed the first is chosen, and the second once weight counts five times
+pub factors-choose : (chosenOver plainScale (pointWith (pos 9000) (pos 9000) (pos 0)) (pointWith (pos 9010) (pos 9000) (pos 0)) (pointWith (pos 9000) (pos 9020) (pos 0)) ≡ true)
+    × (chosenOver (record { weight = 5; moisture = 1; speed = 1; draw = 1 }) (pointWith (pos 9000) (pos 9000) (pos 0)) (pointWith (pos 9000) (pos 9020) (pos 0)) (pointWith (pos 9010) (pos 9000) (pos 0)) ≡ true)
+unfolding chosenOver chosenBy squareOf plainSquare topped gapOf coordinateOf
+factors-choose = (refl, refl)
 
 -- the ends of the ranges: a draw of −2,000 is in, one of −2,001 is not
 pub least-draw : (inRange (pointWith (pos 1) (pos 0) (negsuc 1999)) ≡ true) × (inRange (pointWith (pos 1) (pos 0) (negsuc 2000)) ≡ false)

@@ -8,5 +8,6 @@ pub mod TieLaws
 pub mod SquareLaws
 pub mod CutLaws
 pub mod ChoiceLaws
+pub mod ScaleLaws
 pub mod WordLaws
 pub mod Cases

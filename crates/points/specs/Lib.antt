@@ -1,6 +1,7 @@
 pub mod Signed
 pub mod Point
 pub mod Order
+pub mod Scale
 pub mod Square
 pub mod Cut
 pub mod Choice

@@ -3,13 +3,17 @@ use crate::cut::Cut;
 use crate::order::by_axis;
 use crate::order::tie;
 use crate::point::Point;
+use crate::scale::Scale;
+use crate::scale::count_on;
 use crate::signed::extended;
+use crate::signed::long;
 use crate::signed::twice;
+use crate::square::counted_square;
 use crate::square::square;
 ghost use mathlib.Core.Path.{_≡_};
 ghost use Prim.Native.Nat.{_*_};
 ghost use Rattle.points.specs.Square.{topped};
-ghost use Rattle.points.specs.Choice.{sameGrade, chosenOver, farGap, excluded};
+ghost use Rattle.points.specs.Choice.{sameGrade, chosenAt, chosenOver, farGap, excluded};
 
 // Whether two points have one grade.
 pub fn same_grade(a: Point, b: Point) -> bool
@@ -18,12 +22,10 @@ pub fn same_grade(a: Point, b: Point) -> bool
     by_axis(a, b, 1).is_equal()
 }
 
-// Whether a target chooses a over b: the smaller square, then the heavier, then the lower point.
-pub fn chosen_over(target: Point, a: Point, b: Point) -> bool
-    ensures { λ r. ⌜ r ≡ chosenOver target a b ⌝ }
+// Whether a, whose square is x, is chosen over b, whose square is y: the smaller square, then the heavier, then the lower point.
+pub fn chosen_at(x: u64, y: u64, a: Point, b: Point) -> bool
+    ensures { λ r. ⌜ r ≡ chosenAt x y a b ⌝ }
 {
-    let x = square(target, a);
-    let y = square(target, b);
     if x < y {
         return true;
     }
@@ -31,6 +33,13 @@ pub fn chosen_over(target: Point, a: Point, b: Point) -> bool
         return false;
     }
     tie(a, b).is_less()
+}
+
+// Whether a target chooses a over b.
+pub fn chosen_over(scale: Scale, target: Point, a: Point, b: Point) -> bool
+    ensures { λ r. ⌜ r ≡ chosenOver scale target a b ⌝ }
+{
+    chosen_at(square(scale, target, a), square(scale, target, b), a, b)
 }
 
 // Twice the least distance of a target from the far side of a cut, on the cut's axis.
@@ -57,23 +66,13 @@ fn topped_four(x: u64) -> u64
     }
 }
 
-// The square of a number, which stops at the greatest number.
-fn topped_square(x: u64) -> u64
-    ensures { λ r. ⌜ r ≡ topped (x * x) ⌝ }
-{
-    if x <= 4294967295 {
-        x * x
-    } else {
-        18446744073709551615
-    }
-}
-
 // Whether no record beyond a cut can be chosen over one at the best square.
-pub fn far_side_excluded(cut: Cut, target: Point, best: u64) -> bool
-    ensures { λ r. ⌜ r ≡ excluded cut target best ⌝ }
+pub fn far_side_excluded(scale: Scale, cut: Cut, target: Point, best: u64) -> bool
+    ensures { λ r. ⌜ r ≡ excluded scale cut target best ⌝ }
 {
     if cut.axis == 1 {
         return true;
     }
-    topped_four(best) < topped_square(far_gap(cut, target))
+    let count = long(count_on(scale, cut.axis));
+    topped_four(best) < counted_square(count, far_gap(cut, target))
 }

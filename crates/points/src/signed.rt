@@ -11,6 +11,13 @@ pub fn extended(x: i32) -> i64
     x as i64
 }
 
+// The same number in 64 bits, of one that is not negative.
+pub(crate) fn long(x: u32) -> u64
+    ensures { λ r. ⌜ r ≡ x ⌝ }
+{
+    x as u64
+}
+
 // Twice a number.
 pub fn twice(x: i32) -> i64
     ensures { λ r. ⌜ r ≡ x +ℤ x ⌝ }

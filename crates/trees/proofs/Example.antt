@@ -11,6 +11,7 @@ use native.Mathlib.Omega.{arith}
 use lib.IntN.{ℤ, pos}
 use Rattle.points.specs.declared.point.Point.{Point}
 use Rattle.points.specs.Point.{coordinateOf, withinRange, onAxis, inRange, rangeOf, indexOf}
+use Rattle.points.specs.Scale.{plainScale}
 use Rattle.points.specs.Square.{gapOf}
 use Rattle.points.specs.Order.{byAxis}
 use Rattle.points.specs.Signed.{cappedOf}
@@ -67,7 +68,7 @@ last = write (write (write (write two 3 (setNext 0 (two 3))) 0 (removedRow 2 1 o
 
 -- the search for weight 12,000, submitted after the first insert, as the changes of the others leave it
 abbrev left : Progress
-left = searchAfterUnlink 0 2 1 (landing (choiceOf target .side) two 2 0) (searchAfterInsert 0 2 (begun (some (leaf 0 old))))
+left = searchAfterUnlink 0 2 1 (landing (choiceOf plainScale target .side) two 2 0) (searchAfterInsert 0 2 (begun (some (leaf 0 old))))
 
 old-in-range : inRange (old .point) ≡ true
 unfolding inRange onAxis withinRange rangeOf indexOf coordinateOf
@@ -184,20 +185,20 @@ unfolding moveCursor afterUnlink missedAfter
 moved = refl
 
 -- a search that stood on the removed record, the far child, would have landed on its way up; one on the other, which is near, going down
-lands-up : landing (choiceOf target .side) two 2 0 ≡ Up
+lands-up : landing (choiceOf plainScale target .side) two 2 0 ≡ Up
 unfolding landing write cutOf widestOf widerOf spreadOf gapOf coordinateOf cappedOf goesLeft
 lands-up = refl
 
-lands-down : landing (choiceOf target .side) two 2 1 ≡ Down
+lands-down : landing (choiceOf plainScale target .side) two 2 1 ≡ Down
 unfolding landing write cutOf widestOf widerOf spreadOf gapOf coordinateOf cappedOf goesLeft
 lands-down = refl
 
 -- what holds of the search after all this
-searching : Search (choiceOf target) 1 0 (Holds (some (leaf 0 old))) (third .tree) (third .queue) 3 1 left
-searching = search-unlink (second .store) third (search-insert second (omega arith) (search-begin (choiceOf target) (some (leaf 0 old)) store-one (λ e. (λ m. m, λ m. m))))
+searching : Search (choiceOf plainScale target) 1 0 (Holds (some (leaf 0 old))) (third .tree) (third .queue) 3 1 left
+searching = search-unlink (second .store) third (search-insert second (omega arith) (search-begin (choiceOf plainScale target) (some (leaf 0 old)) store-one (λ e. (λ m. m, λ m. m))))
 
 -- one step looks at the removed record, passes over the one that is younger than the search, and has nothing left
-answers : seek (choiceOf target) (λ x side. true) 1 last left ≡ some (record {
+answers : seek (choiceOf plainScale target) (λ x side. true) 1 last left ≡ some (record {
   stand = record { cursor = NONE; phase = Up };
   missed = NONE;
   best = some
@@ -207,7 +208,7 @@ unfolding seek look tour toured considered write moveCursor afterUnlink missedAf
 answers = refl
 
 -- so the answer is the nearest of the records held at submission
-right : Nearest (choiceOf target) (Holds (some (leaf 0 old))) (some (record { point = old .point; curve = 41 }))
+right : Nearest (choiceOf plainScale target) (Holds (some (leaf 0 old))) (some (record { point = old .point; curve = 41 }))
 right =
     let w = search-seek (third .tree) (third .store) (λ x side. true) (λ x side e f. absurd (true≢false f)) left searching in
     let e : w .to ≡ record { stand = record { cursor = NONE; phase = Up }; missed = NONE; best = some (record { point = old .point; curve = 41 }) } =
@@ -238,17 +239,17 @@ unfolding sameGrade byAxis coordinateOf
 same-marks p g true e = e ∙ sym (grade-trans (old .point) p other e (grade-turn other p g))
 same-marks p g false e = e
 
-closed : Closed opens (choiceOf other) (some both)
-closed = closed-covered marked (choiceOf other) other (some both) (λ x side p g. same-marks p g (sameGrade (old .point) p) refl) covered-two
+closed : Closed opens (choiceOf plainScale other) (some both)
+closed = closed-covered marked (choiceOf plainScale other) other (some both) (λ x side p g. same-marks p g (sameGrade (old .point) p) refl) covered-two
 
 -- one step comes to the cut, turns there and is at its end
-passes-over : seek (choiceOf other) opens 2 two (begun (some both)) ≡ some (record { stand = record { cursor = NONE; phase = Up }; missed = NONE; best = none })
+passes-over : seek (choiceOf plainScale other) opens 2 two (begun (some both)) ≡ some (record { stand = record { cursor = NONE; phase = Up }; missed = NONE; best = none })
 unfolding seek look tour toured write sameGrade byAxis coordinateOf cutOf widestOf widerOf spreadOf gapOf cappedOf goesLeft
 passes-over = refl
 
 -- and that no record has the grade is right
-none-right : Nearest (choiceOf other) (Holds (some both)) none
+none-right : Nearest (choiceOf plainScale other) (Holds (some both)) none
 none-right =
-    let w = search-seek (some both) store-two opens closed (begun (some both)) (search-begin (choiceOf other) (some both) store-two (λ e. (λ m. m, λ m. m))) in
+    let w = search-seek (some both) store-two opens closed (begun (some both)) (search-begin (choiceOf plainScale other) (some both) store-two (λ e. (λ m. m, λ m. m))) in
     let e : w .to ≡ record { stand = record { cursor = NONE; phase = Up }; missed = NONE; best = none } = cc (w .is, passes-over) in
     search-finish (some both) store-two (rw e at (w .search)) refl

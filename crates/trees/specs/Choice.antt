@@ -6,6 +6,7 @@ use mathlib.Core.Bool.{Bool, true, false, not}
 use mathlib.Core.Option.{Option, none, some}
 use Rattle.points.specs.declared.point.Point.{Point}
 use Rattle.points.specs.declared.cut.Cut.{Cut}
+use Rattle.points.specs.declared.scale.Scale.{Scale}
 use Rattle.points.specs.Cut.{goesLeft}
 use Rattle.points.specs.Square.{squareOf}
 use Rattle.points.specs.Choice.{noSquare}
@@ -30,7 +31,11 @@ pub record Choice : Type 0 where
   pub total : (a b : Point) → ¬ (a ≡ b) → over a b ≡ false → over b a ≡ true
   pub sound : (k : Cut) (best : Option Point) (p : Point) → excludes k best ≡ true → goesLeft k p ≡ not (side k) → candidate p ≡ true → Loses over p best
 
+-- the side of a cut that a target is on
+abbrev pub sideOf : Point → Cut → Bool
+sideOf target k = goesLeft k target
+
 -- the square that a record must not exceed to be chosen: that of the best, or a number above every square while there is none
-abbrev pub bestSquare : Point → Option Point → ℕ
-bestSquare target none = noSquare
-bestSquare target (some b) = squareOf target b
+abbrev pub bestSquare : Scale → Point → Option Point → ℕ
+bestSquare scale target none = noSquare
+bestSquare scale target (some b) = squareOf scale target b
