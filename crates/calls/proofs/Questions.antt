@@ -7,8 +7,10 @@ use lib.Dec.{eqb, leb, ltb}
 use lib.ListN.{length}
 use native.Mathlib.Omega.{arith}
 use Rattle.words.specs.Layout.{stations, wordsFor}
-use Rattle.words.specs.Refusal.{badPlaces, badLimit, shortSlice, notOpened, noStation, notIdle, noKind, badPoint, badCurve, notUnfinished, unsound}
+use Rattle.words.specs.Refusal.{badPlaces, badLimit, shortSlice, badFactor, notOpened, noStation, notIdle, noKind, badPoint, badCurve, notUnfinished, unsound}
 use Rattle.points.specs.declared.point.Point.{Point}
+use Rattle.points.specs.declared.scale.Scale.{Scale}
+use Rattle.points.specs.Scale.{factorsIn}
 use Rattle.points.specs.Point.{inRange}
 use Rattle.stations.specs.Common.{placesIn, limitIn, openedIn, isOpened, rowsIn}
 use Rattle.stations.specs.Station.{isIdle, isUnfinished, stateAt}
@@ -23,26 +25,28 @@ abbrev pub settled : ℕ → List ℕ → List ℕ → Reply
 settled number before after = pickReply (eqb number 0) (done after) (replied number before)
 
 -- an opening asks its questions first
-pub open-settled : (words : List ℕ) (places limit : ℕ)
-    → openOf words places limit ≡ settled (openQuestion words places limit) words (openedWords words places limit)
+pub open-settled : (words : List ℕ) (places limit : ℕ) (scale : Scale)
+    → openOf words places limit scale ≡ settled (openQuestion words places limit scale) words (openedWords words places limit scale)
 unfolding openOf openQuestion
-open-settled words places limit = go (placesIn places) (limitIn limit) (leb (wordsFor places) (length words))
+open-settled words places limit scale = go (placesIn places) (limitIn limit) (factorsIn scale) (leb (wordsFor places) (length words))
   where
     after : List ℕ
-    after = openedWords words places limit
+    after = openedWords words places limit scale
 
-    go : (a b c : Bool)
-        → ask a badPlaces words (ask b badLimit words (ask c shortSlice words (done after)))
-        ≡ settled (cond a (cond b (cond c 0 shortSlice) badLimit) badPlaces) words after
-    go false b c = refl
-    go true false c = refl
-    go true true false = refl
-    go true true true = refl
+    go : (a b f c : Bool)
+        → ask a badPlaces words (ask b badLimit words (ask f badFactor words (ask c shortSlice words (done after))))
+        ≡ settled (cond a (cond b (cond f (cond c 0 shortSlice) badFactor) badLimit) badPlaces) words after
+    go false b f c = refl
+    go true false f c = refl
+    go true true false c = refl
+    go true true true false = refl
+    go true true true true = refl
 
 -- an opening that fails none has its places in range
-pub open-places : (words : List ℕ) (places limit : ℕ) → openQuestion words places limit ≡ 0 → placesIn places ≡ true
+pub open-places : (words : List ℕ) (places limit : ℕ) (scale : Scale) → openQuestion words places limit scale ≡ 0 → placesIn places ≡ true
 unfolding openQuestion
-open-places words places limit = go (placesIn places) (cond (limitIn limit) (cond (leb (wordsFor places) (length words)) 0 shortSlice) badLimit)
+open-places words places limit scale =
+    go (placesIn places) (cond (limitIn limit) (cond (factorsIn scale) (cond (leb (wordsFor places) (length words)) 0 shortSlice) badFactor) badLimit)
   where
     go : (a : Bool) (n : ℕ) → cond a n badPlaces ≡ 0 → a ≡ true
     go true n e = refl

@@ -13,13 +13,14 @@ use Rattle.rows.specs.declared.row.Row.the-variants.{Bad, Spare, Removed, Leaf,
 use Rattle.stations.specs.declared.call.Call.{Call}
 use Rattle.rows.specs.Row.{rowAt}
 use Rattle.rows.specs.Grades.{slotOf, admits}
+use Rattle.calls.specs.declared.aim.Aim.{Aim}
 use Rattle.calls.specs.declared.progress.Progress.{Progress}
 use Rattle.calls.specs.Link.{nextOf, parentOf, linksTo, isTree, isFree}
 use Rattle.calls.specs.Progress.{pickProgress, onward, strayed}
 use Rattle.calls.specs.Look.{lookAt, look}
 use Rattle.calls.specs.Tour.{farShut, downCut, tourDown, fromChild, aboveCut, tourAbove, tourUp, tour, toured}
 use Rattle.calls.specs.Reply.{done, ask}
-use Rattle.calls.specs.Search.{toursOf, seek, progressAt, searchWords, searchOf}
+use Rattle.calls.specs.Search.{toursOf, seek, aimAt, progressAt, searchWords, searchOf}
 use Rattle.calls.specs.Needs.{Need, treeAt, cutOver, freeAt, met, allMet, unless, lookNeeds, tourNeeds, toursNeeds, searchNeeds}
 use Rattle.calls.proofs.Conjunctions.{and-false, and-true, and-both}
 
@@ -29,12 +30,12 @@ unfolding allMet
 met-append words rows [] ys = refl
 met-append words rows (x ∷ xs) ys = sym (and-both (met words rows x) (allMet words rows xs) (allMet words rows ys)) ∙ ap (λ (b : Bool). met words rows x && b) (met-append words rows xs ys)
 
-module _ (words : List ℕ) (rows slot : ℕ) (call : Call) (p : Progress) where
+module _ (words : List ℕ) (rows slot : ℕ) (aim : Aim) (p : Progress) where
   -- ---- one move
 
   -- down from a cut, whichever way
-  cut-sound : (cut : PointCut) (left right : ℕ) (goes : Bool) → downCut words slot call p cut left right goes .sound ≡ p .sound
-  cut-sound cut left right goes = go (admits words (p .cursor) goes slot) (farShut words slot call (p .best) (p .cursor) cut goes)
+  cut-sound : (cut : PointCut) (left right : ℕ) (goes : Bool) → downCut words slot aim p cut left right goes .sound ≡ p .sound
+  cut-sound cut left right goes = go (admits words (p .cursor) goes slot) (farShut words slot aim (p .best) (p .cursor) cut goes)
     where
       go : (a f : Bool)
           → pickProgress a (onward p (cond goes left right) 0 (p .best)) (pickProgress f (onward p (p .cursor) 1 (p .best)) (onward p (cond goes right left) 0 (p .best))) .sound
@@ -43,12 +44,12 @@ module _ (words : List ℕ) (rows slot : ℕ) (call : Call) (p : Progress) where
       go false true = refl
       go false false = refl
 
-  down-sound : (row : Row) → tourDown words slot call p row .sound ≡ (p .sound && (isTree row && true))
+  down-sound : (row : Row) → tourDown words slot aim p row .sound ≡ (p .sound && (isTree row && true))
   down-sound Bad = sym (and-false (p .sound))
   down-sound (Spare next freed) = sym (and-false (p .sound))
   down-sound (Removed next freed added point curve) = sym (and-false (p .sound))
   down-sound (Leaf parent added point curve) = sym (and-true (p .sound))
-  down-sound (Cut parent cut left right) = cut-sound cut left right (goesLeft cut (call .point)) ∙ sym (and-true (p .sound))
+  down-sound (Cut parent cut left right) = cut-sound cut left right (goesLeft cut (aim .point)) ∙ sym (and-true (p .sound))
 
   -- up at a cut from one of its children
   child-sound : (above near far : ℕ) (shut : Bool) → fromChild p above near far shut .sound ≡ (p .sound && (eqb near (p .cursor) || eqb far (p .cursor)))
@@ -69,29 +70,29 @@ module _ (words : List ℕ) (rows slot : ℕ) (call : Call) (p : Progress) where
   either-way false false = refl
 
   sides-sound : (above : ℕ) (cut : PointCut) (left right : ℕ) (goes : Bool)
-      → aboveCut words slot call p above cut left right goes .sound ≡ (p .sound && (eqb left (p .cursor) || eqb right (p .cursor)))
-  sides-sound above cut left right true = child-sound above left right (farShut words slot call (p .best) above cut true)
+      → aboveCut words slot aim p above cut left right goes .sound ≡ (p .sound && (eqb left (p .cursor) || eqb right (p .cursor)))
+  sides-sound above cut left right true = child-sound above left right (farShut words slot aim (p .best) above cut true)
   sides-sound above cut left right false =
-      child-sound above right left (farShut words slot call (p .best) above cut false)
+      child-sound above right left (farShut words slot aim (p .best) above cut false)
       ∙ ap (λ (b : Bool). p .sound && b) (either-way (eqb right (p .cursor)) (eqb left (p .cursor)))
 
-  above-sound : (above : ℕ) (row : Row) → tourAbove words slot call p above row .sound ≡ (p .sound && linksTo (p .cursor) row)
+  above-sound : (above : ℕ) (row : Row) → tourAbove words slot aim p above row .sound ≡ (p .sound && linksTo (p .cursor) row)
   above-sound above Bad = sym (and-false (p .sound))
   above-sound above (Spare next freed) = sym (and-false (p .sound))
   above-sound above (Removed next freed added point curve) = sym (and-false (p .sound))
   above-sound above (Leaf parent added point curve) = sym (and-false (p .sound))
-  above-sound above (Cut parent cut left right) = sides-sound above cut left right (goesLeft cut (call .point))
+  above-sound above (Cut parent cut left right) = sides-sound above cut left right (goesLeft cut (aim .point))
 
   -- what is asked of the parent
   abbrev parentNeeds : ℕ → Bool → List Need
   parentNeeds parent top = unless top (cutOver parent (p .cursor) ∷ [])
 
-  up-sound : (row : Row) → tourUp words rows slot call p row .sound ≡ (p .sound && (isTree row && allMet words rows (parentNeeds (parentOf row) (eqb (parentOf row) NONE))))
+  up-sound : (row : Row) → tourUp words rows slot aim p row .sound ≡ (p .sound && (isTree row && allMet words rows (parentNeeds (parentOf row) (eqb (parentOf row) NONE))))
   unfolding allMet
   up-sound row = go (isTree row) (eqb (parentOf row) NONE)
     where
       go : (t top : Bool)
-          → pickProgress t (pickProgress top (onward p NONE 1 (p .best)) (tourAbove words slot call p (parentOf row) (rowAt words rows (parentOf row)))) (strayed p) .sound
+          → pickProgress t (pickProgress top (onward p NONE 1 (p .best)) (tourAbove words slot aim p (parentOf row) (rowAt words rows (parentOf row)))) (strayed p) .sound
           ≡ (p .sound && (t && allMet words rows (parentNeeds (parentOf row) top)))
       go true true = sym (and-true (p .sound))
       go true false =
@@ -99,7 +100,7 @@ module _ (words : List ℕ) (rows slot : ℕ) (call : Call) (p : Progress) where
           ∙ ap (λ (b : Bool). p .sound && b) (sym (and-true (linksTo (p .cursor) (rowAt words rows (parentOf row)))))
       go false top = sym (and-false (p .sound))
 
-  tour-sound : tour words rows slot call p .sound ≡ (p .sound && allMet words rows (tourNeeds words rows p))
+  tour-sound : tour words rows slot aim p .sound ≡ (p .sound && allMet words rows (tourNeeds words rows p))
   unfolding tour allMet
   tour-sound = go (eqb (p .cursor) NONE) (eqb (p .phase) 0)
     where
@@ -107,7 +108,7 @@ module _ (words : List ℕ) (rows slot : ℕ) (call : Call) (p : Progress) where
       row = rowAt words rows (p .cursor)
 
       go : (over down : Bool)
-          → pickProgress over p (pickProgress down (tourDown words slot call p row) (tourUp words rows slot call p row)) .sound
+          → pickProgress over p (pickProgress down (tourDown words slot aim p row) (tourUp words rows slot aim p row)) .sound
           ≡ (p .sound && allMet words rows (unless over (treeAt (p .cursor) ∷ unless (down || eqb (parentOf row) NONE) (cutOver (parentOf row) (p .cursor) ∷ []))))
       go true down = sym (and-true (p .sound))
       go false true = down-sound row
@@ -115,7 +116,7 @@ module _ (words : List ℕ) (rows slot : ℕ) (call : Call) (p : Progress) where
 
   -- ---- the look
 
-  look-sound : look words rows call p .sound ≡ (p .sound && allMet words rows (lookNeeds words rows p))
+  look-sound : look words rows aim p .sound ≡ (p .sound && allMet words rows (lookNeeds words rows p))
   unfolding look allMet
   look-sound = go (eqb (p .missed) NONE) (eqb (nextOf row) NONE)
     where
@@ -140,8 +141,8 @@ module _ (words : List ℕ) (rows slot : ℕ) (call : Call) (p : Progress) where
           → pickProgress none p (record {
             cursor = p .cursor;
             phase = p .phase;
-            missed = lookAt call p row after .missed;
-            best = lookAt call p row after .best;
+            missed = lookAt aim p row after .missed;
+            best = lookAt aim p row after .best;
             sound = (p .sound && isFree row) && (last || isFree after);
           }) .sound
           ≡ (p .sound && allMet words rows (unless none (freeAt (p .missed) ∷ unless last (freeAt (nextOf row) ∷ []))))
@@ -150,16 +151,16 @@ module _ (words : List ℕ) (rows slot : ℕ) (call : Call) (p : Progress) where
 
 -- ---- so many moves
 
-toured-sound : (words : List ℕ) (rows slot : ℕ) (call : Call) (n : ℕ) (p : Progress)
-    → toured words rows slot call n p .sound ≡ (p .sound && allMet words rows (toursNeeds words rows slot call n p))
+toured-sound : (words : List ℕ) (rows slot : ℕ) (aim : Aim) (n : ℕ) (p : Progress)
+    → toured words rows slot aim n p .sound ≡ (p .sound && allMet words rows (toursNeeds words rows slot aim n p))
 unfolding toured toursNeeds allMet
-toured-sound words rows slot call zero p = sym (and-true (p .sound))
-toured-sound words rows slot call (suc n) p =
-    let q = toured words rows slot call n p in
-    tour-sound words rows slot call q
-    ∙ ap (λ (b : Bool). b && allMet words rows (tourNeeds words rows q)) (toured-sound words rows slot call n p)
-    ∙ sym (and-both (p .sound) (allMet words rows (toursNeeds words rows slot call n p)) (allMet words rows (tourNeeds words rows q)))
-    ∙ ap (λ (b : Bool). p .sound && b) (met-append words rows (toursNeeds words rows slot call n p) (tourNeeds words rows q))
+toured-sound words rows slot aim zero p = sym (and-true (p .sound))
+toured-sound words rows slot aim (suc n) p =
+    let q = toured words rows slot aim n p in
+    tour-sound words rows slot aim q
+    ∙ ap (λ (b : Bool). b && allMet words rows (tourNeeds words rows q)) (toured-sound words rows slot aim n p)
+    ∙ sym (and-both (p .sound) (allMet words rows (toursNeeds words rows slot aim n p)) (allMet words rows (tourNeeds words rows q)))
+    ∙ ap (λ (b : Bool). p .sound && b) (met-append words rows (toursNeeds words rows slot aim n p) (tourNeeds words rows q))
 
 -- ---- the step of a nearest
 
@@ -167,24 +168,27 @@ pub search-needs : (words : List ℕ) (rows s : ℕ) (call : Call) → searchOf 
 unfolding searchOf seek searchNeeds progressAt
 search-needs words rows s call = number (q .sound) ∙ ap (λ (b : Bool). cond b 0 unsound) sound
   where
+    aim : Aim
+    aim = aimAt words call
+
     p : Progress
     p = progressAt words s call
 
     looked : Progress
-    looked = look words rows call p
+    looked = look words rows aim p
 
     q : Progress
-    q = toured words rows (slotOf (call .point)) call (toursOf (p .missed)) looked
+    q = toured words rows (slotOf (aim .point)) aim (toursOf (p .missed)) looked
 
     moves : List Need
-    moves = toursNeeds words rows (slotOf (call .point)) call (toursOf (p .missed)) looked
+    moves = toursNeeds words rows (slotOf (aim .point)) aim (toursOf (p .missed)) looked
 
-    number : (b : Bool) → ask b unsound words (done (searchWords words s call q)) .number ≡ cond b 0 unsound
+    number : (b : Bool) → ask b unsound words (done (searchWords words s aim q)) .number ≡ cond b 0 unsound
     number true = refl
     number false = refl
 
     sound : q .sound ≡ allMet words rows (lookNeeds words rows p ++ moves)
     sound =
-        toured-sound words rows (slotOf (call .point)) call (toursOf (p .missed)) looked
-        ∙ ap (λ (b : Bool). b && allMet words rows moves) (look-sound words rows (slotOf (call .point)) call p)
+        toured-sound words rows (slotOf (aim .point)) aim (toursOf (p .missed)) looked
+        ∙ ap (λ (b : Bool). b && allMet words rows moves) (look-sound words rows (slotOf (aim .point)) aim p)
         ∙ met-append words rows (lookNeeds words rows p) moves

@@ -7,19 +7,19 @@ use Rattle.points.specs.Word.{NONE}
 use Rattle.rows.specs.declared.row.Row.{Row}
 use Rattle.rows.specs.declared.row.Row.the-variants.{Bad, Spare, Removed, Leaf, Cut}
 use Rattle.stations.specs.declared.call.Best.{Best}
-use Rattle.stations.specs.declared.call.Call.{Call}
 use Rattle.rows.specs.Row.{rowAt}
+use Rattle.calls.specs.declared.aim.Aim.{Aim}
 use Rattle.calls.specs.declared.progress.Progress.{Progress}
 use Rattle.calls.specs.Link.{nextOf, isFree}
 use Rattle.calls.specs.Progress.{pickProgress, considered}
 
 -- the record of a removed row is considered
-abbrev pub lookBest : Call → Best → Row → Best
-lookBest call best Bad = best
-lookBest call best (Spare next freed) = best
-lookBest call best (Removed next freed added point curve) = considered call best added point curve
-lookBest call best (Leaf parent added point curve) = best
-lookBest call best (Cut parent cut left right) = best
+abbrev pub lookBest : Aim → Best → Row → Best
+lookBest aim best Bad = best
+lookBest aim best (Spare next freed) = best
+lookBest aim best (Removed next freed added point curve) = considered aim best added point curve
+lookBest aim best (Leaf parent added point curve) = best
+lookBest aim best (Cut parent cut left right) = best
 
 -- past a spare row, the cut that was freed with a removed one
 abbrev pub passSpare : ℕ → Row → ℕ
@@ -30,19 +30,19 @@ passSpare link (Leaf parent added point curve) = link
 passSpare link (Cut parent cut left right) = link
 
 -- the first missed row, and the row after it, are looked at
-abbrev pub lookAt : Call → Progress → Row → Row → Progress
-lookAt call p row after = record {
+abbrev pub lookAt : Aim → Progress → Row → Row → Progress
+lookAt aim p row after = record {
   cursor = p .cursor;
   phase = p .phase;
   missed = passSpare (nextOf row) after;
-  best = lookBest call (p .best) row;
+  best = lookBest aim (p .best) row;
   sound = (p .sound && isFree row) && (eqb (nextOf row) NONE || isFree after);
 }
 
 -- the same at a link to the first missed row
-abbrev pub lookFrom : List ℕ → ℕ → Call → Progress → Progress
-lookFrom words rows call p = lookAt call p (rowAt words rows (p .missed)) (rowAt words rows (nextOf (rowAt words rows (p .missed))))
+abbrev pub lookFrom : List ℕ → ℕ → Aim → Progress → Progress
+lookFrom words rows aim p = lookAt aim p (rowAt words rows (p .missed)) (rowAt words rows (nextOf (rowAt words rows (p .missed))))
 
 -- one missed record is looked at, if there is any
-unfoldable pub look : List ℕ → ℕ → Call → Progress → Progress
-look words rows call p = pickProgress (eqb (p .missed) NONE) p (lookFrom words rows call p)
+unfoldable pub look : List ℕ → ℕ → Aim → Progress → Progress
+look words rows aim p = pickProgress (eqb (p .missed) NONE) p (lookFrom words rows aim p)

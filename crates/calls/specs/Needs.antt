@@ -12,6 +12,7 @@ use Rattle.stations.specs.Common.{rowsIn}
 use Rattle.stations.specs.Counts.{countsAt}
 use Rattle.rows.specs.Row.{rowAt}
 use Rattle.rows.specs.Grades.{slotOf}
+use Rattle.calls.specs.declared.aim.Aim.{Aim}
 use Rattle.calls.specs.declared.insert.Site.{Site}
 use Rattle.calls.specs.declared.progress.Progress.{Progress}
 use Rattle.calls.specs.declared.unlink.Around.{Around}
@@ -21,7 +22,7 @@ use Rattle.calls.specs.Insert.{siteAt}
 use Rattle.calls.specs.Unlink.{aroundAt}
 use Rattle.calls.specs.Look.{look}
 use Rattle.calls.specs.Tour.{toured}
-use Rattle.calls.specs.Search.{toursOf, progressAt}
+use Rattle.calls.specs.Search.{toursOf, aimAt, progressAt}
 use Rattle.calls.specs.Walk.{wayOf, codeAt, standsAt}
 
 -- ---- a need
@@ -124,14 +125,15 @@ tourNeeds words rows p =
     unless (eqb (p .cursor) NONE) (treeAt (p .cursor) ∷ unless (eqb (p .phase) 0 || eqb parent NONE) (cutOver parent (p .cursor) ∷ []))
 
 -- so many moves, each from where the one before has come
-unfoldable pub toursNeeds : List ℕ → ℕ → ℕ → Call → ℕ → Progress → List Need
-toursNeeds words rows slot call zero p = []
-toursNeeds words rows slot call (suc n) p = toursNeeds words rows slot call n p ++ tourNeeds words rows (toured words rows slot call n p)
+unfoldable pub toursNeeds : List ℕ → ℕ → ℕ → Aim → ℕ → Progress → List Need
+toursNeeds words rows slot aim zero p = []
+toursNeeds words rows slot aim (suc n) p = toursNeeds words rows slot aim n p ++ tourNeeds words rows (toured words rows slot aim n p)
 
 unfoldable pub searchNeeds : List ℕ → ℕ → ℕ → Call → List Need
 searchNeeds words rows s call =
+    let aim = aimAt words call in
     let p = progressAt words s call in
-    lookNeeds words rows p ++ toursNeeds words rows (slotOf (call .point)) call (toursOf (p .missed)) (look words rows call p)
+    lookNeeds words rows p ++ toursNeeds words rows (slotOf (aim .point)) aim (toursOf (p .missed)) (look words rows aim p)
 
 -- ---- a step
 

@@ -6,7 +6,7 @@ use lib.Dec.{eqb, leb}
 use Rattle.points.specs.declared.point.Point.{Point}
 use Rattle.points.specs.Choice.{sameGrade, chosenOver}
 use Rattle.stations.specs.declared.call.Best.{Best}
-use Rattle.stations.specs.declared.call.Call.{Call}
+use Rattle.calls.specs.declared.aim.Aim.{Aim}
 use Rattle.calls.specs.declared.progress.Progress.{Progress}
 
 -- one of two bests, and one of two progresses
@@ -19,16 +19,20 @@ pickProgress true x y = x
 pickProgress false x y = y
 
 -- there is no best, or the point is chosen over it
-abbrev pub better : Point → Best → Point → Bool
-better target best point = eqb (best .curve) 0 || chosenOver target point (best .point)
+abbrev pub better : Aim → Best → Point → Bool
+better aim best point = eqb (best .curve) 0 || chosenOver (aim .scale) (aim .point) point (best .point)
 
--- a record prevails: its number is at most as-of, its grade is the target's, and there is no best or it is chosen over the best
-abbrev pub prevails : Call → Best → ℕ → Point → Bool
-prevails call best added point = (leb added (call .asof) && sameGrade (call .point) point) && better (call .point) best point
+-- a record that the search may find: its number is at most as-of, and its grade is the target's
+abbrev pub mayFind : Aim → ℕ → Point → Bool
+mayFind aim added point = leb added (aim .asof) && sameGrade (aim .point) point
+
+-- a record prevails: the search may find it, and there is no best or it is chosen over the best
+abbrev pub prevails : Aim → Best → ℕ → Point → Bool
+prevails aim best added point = mayFind aim added point && better aim best point
 
 -- a record is considered
-unfoldable pub considered : Call → Best → ℕ → Point → ℕ → Best
-considered call best added point curve = pickBest (prevails call best added point) (record { curve = curve; point = point }) best
+unfoldable pub considered : Aim → Best → ℕ → Point → ℕ → Best
+considered aim best added point curve = pickBest (prevails aim best added point) (record { curve = curve; point = point }) best
 
 -- the search goes on so
 abbrev pub onward : Progress → ℕ → ℕ → Best → Progress

@@ -13,8 +13,10 @@ use Rattle.stations.specs.declared.call.Call.{Call}
 use Rattle.stations.specs.declared.answer.Answer.{Answer}
 use Rattle.rows.specs.Grades.{slotOf}
 use Rattle.stations.specs.declared.track.Track.{Track}
+use Rattle.stations.specs.Scale.{scaleAt}
 use Rattle.stations.specs.Track.{trackAt, putTrack}
 use Rattle.stations.specs.Call.{putBest}
+use Rattle.calls.specs.declared.aim.Aim.{Aim}
 use Rattle.calls.specs.declared.progress.Progress.{Progress}
 use Rattle.calls.specs.Reply.{Reply, done, ask}
 use Rattle.calls.specs.Answer.{answer, answeredWords}
@@ -25,8 +27,12 @@ use Rattle.calls.specs.Tour.{toured}
 abbrev pub toursOf : ℕ → ℕ
 toursOf missed = cond (eqb missed NONE) 5 3
 
-unfoldable pub seek : List ℕ → ℕ → Call → Progress → Progress
-seek words rows call p = toured words rows (slotOf (call .point)) call (toursOf (p .missed)) (look words rows call p)
+unfoldable pub seek : List ℕ → ℕ → Aim → Progress → Progress
+seek words rows aim p = toured words rows (slotOf (aim .point)) aim (toursOf (p .missed)) (look words rows aim p)
+
+-- what a call looks for, by the factors of the opening
+abbrev pub aimAt : List ℕ → Call → Aim
+aimAt words call = record { point = call .point; asof = call .asof; scale = scaleAt words }
 
 -- where the search of station s stands
 unfoldable pub progressAt : List ℕ → ℕ → Call → Progress
@@ -38,8 +44,10 @@ abbrev pub isFinished : Progress → Bool
 isFinished p = eqb (p .cursor) NONE && eqb (p .missed) NONE
 
 -- 8 with the best and its square, or 9 (Rules 2.8)
-unfoldable pub foundAnswer : Call → Best → Answer
-foundAnswer call best = cond (eqb (best .curve) 0) (answer codeNone (call .point) 0 0) (answer codeNearest (best .point) (best .curve) (squareOf (call .point) (best .point)))
+unfoldable pub foundAnswer : Aim → Best → Answer
+foundAnswer aim best =
+    cond (eqb (best .curve) 0) (answer codeNone (aim .point) 0 0)
+    (answer codeNearest (best .point) (best .curve) (squareOf (aim .scale) (aim .point) (best .point)))
 
 -- the search is kept for its next step
 unfoldable pub keptTrack : Progress → Track → Track
@@ -52,11 +60,11 @@ abbrev pub pickWords : Bool → List ℕ → List ℕ → List ℕ
 pickWords true x y = x
 pickWords false x y = y
 
-unfoldable pub searchWords : List ℕ → ℕ → Call → Progress → List ℕ
-searchWords words s call p = pickWords (isFinished p) (answeredWords words s (foundAnswer call (p .best))) (keptWords words s p)
+unfoldable pub searchWords : List ℕ → ℕ → Aim → Progress → List ℕ
+searchWords words s aim p = pickWords (isFinished p) (answeredWords words s (foundAnswer aim (p .best))) (keptWords words s p)
 
-abbrev pub searchTo : List ℕ → ℕ → Call → Progress → Reply
-searchTo words s call p = ask (p .sound) unsound words (done (searchWords words s call p))
+abbrev pub searchTo : List ℕ → ℕ → Aim → Progress → Reply
+searchTo words s aim p = ask (p .sound) unsound words (done (searchWords words s aim p))
 
 unfoldable pub searchOf : List ℕ → ℕ → ℕ → Call → Reply
-searchOf words rows s call = searchTo words s call (seek words rows call (progressAt words s call))
+searchOf words rows s call = searchTo words s (aimAt words call) (seek words rows (aimAt words call) (progressAt words s call))

@@ -1,4 +1,5 @@
 // What each call does to the words: definitions alone, in `specs/`, with the structs and enums that they speak of. There is no function here; the crates above have the code.
+pub mod aim;
 pub mod audit;
 pub mod climb;
 pub mod insert;

@@ -1,4 +1,6 @@
 // Opening: no record held, every row spare, every station idle and no change counted.
+use points::scale::Scale;
+use points::scale::factors_in;
 use rows::row::Row;
 use rows::row::write_row;
 use stations::common::clear_records;
@@ -12,6 +14,7 @@ use stations::track::write_track;
 use words::layout::NONE;
 use words::layout::STATIONS;
 use words::layout::words_for;
+use words::refusal::BAD_FACTOR;
 use words::refusal::BAD_LIMIT;
 use words::refusal::BAD_PLACES;
 use words::refusal::SHORT_SLICE;
@@ -48,12 +51,12 @@ fn new_counts(places: u32) -> Counts
     }
 }
 
-// Mark, places, limit and counts.
-fn write_head(words: &mut [u32], places: u32, limit: u32)
+// Mark, places, limit, factors and counts.
+fn write_head(words: &mut [u32], places: u32, limit: u32, scale: Scale)
     requires { ⌜ (1 ≤ places) × (places ≤ mostPlaces) ⌝ }
-    ensures { λ _. ⌜ now (words .exit) ≡ headWords places limit (now (words .entry)) ⌝ }
+    ensures { λ _. ⌜ now (words .exit) ≡ headWords places limit scale (now (words .entry)) ⌝ }
 {
-    write_opening(words, places, limit);
+    write_opening(words, places, limit, scale);
     write_counts(words, new_counts(places));
 }
 
@@ -77,32 +80,33 @@ fn spare_rows(words: &mut [u32], rows: u32)
 }
 
 // The words of a new history. Words beyond its rows stay.
-fn open_words(words: &mut [u32], places: u32, limit: u32)
+fn open_words(words: &mut [u32], places: u32, limit: u32, scale: Scale)
     requires { ⌜ (1 ≤ places) × (places ≤ mostPlaces) ⌝ }
-    ensures { λ _. ⌜ now (words .exit) ≡ openedWords (now (words .entry)) places limit ⌝ }
+    ensures { λ _. ⌜ now (words .exit) ≡ openedWords (now (words .entry)) places limit scale ⌝ }
 {
     clear_records(words);
-    write_head(words, places, limit);
+    write_head(words, places, limit, scale);
     clear_tracks(words);
     spare_rows(words, 2 * places);
 }
 
-// The first of questions 1 to 3 that the opening fails, or 0.
-fn open_question(words: &[u32], places: u32, limit: u32) -> u32
-    ensures { λ r. ⌜ r ≡ openQuestion (now (words .entry)) places limit ⌝ }
+// The first of questions 1, 2, 17 and 3 that the opening fails, or 0.
+fn open_question(words: &[u32], places: u32, limit: u32, scale: Scale) -> u32
+    ensures { λ r. ⌜ r ≡ openQuestion (now (words .entry)) places limit scale ⌝ }
 {
     let third = pick(words_for(places) <= words.len(), 0, SHORT_SLICE);
-    let second = pick(limit_in(limit), third, BAD_LIMIT);
+    let factors = pick(factors_in(scale), third, BAD_FACTOR);
+    let second = pick(limit_in(limit), factors, BAD_LIMIT);
     pick(places_in(places), second, BAD_PLACES)
 }
 
-// Opens the slice, or gives the number of the first question that the call fails: 1, 2 or 3; then no word changes.
-pub fn open(words: &mut [u32], places: u32, limit: u32) -> u32
-    ensures { λ r. ⌜ replied r (now (words .exit)) ≡ openOf (now (words .entry)) places limit ⌝ }
+// Opens the slice, or gives the number of the first question that the call fails: 1, 2, 17 or 3; then no word changes.
+pub fn open(words: &mut [u32], places: u32, limit: u32, scale: Scale) -> u32
+    ensures { λ r. ⌜ replied r (now (words .exit)) ≡ openOf (now (words .entry)) places limit scale ⌝ }
 {
-    let number = open_question(words, places, limit);
+    let number = open_question(words, places, limit, scale);
     if number == 0 {
-        open_words(words, places, limit);
+        open_words(words, places, limit, scale);
     }
     number
 }

@@ -3,6 +3,7 @@
 use crate::look::look;
 use crate::tour::reached_at;
 use crate::tour::tour;
+use calls::aim::Aim;
 use calls::progress::Progress;
 use links::answer::write_answered;
 use points::square::square;
@@ -13,6 +14,7 @@ use stations::answer::CODE_NONE;
 use stations::call::Best;
 use stations::call::Call;
 use stations::call::write_best;
+use stations::scale::read_scale;
 use stations::track::Track;
 use stations::track::read_track;
 use stations::track::write_track;
@@ -21,21 +23,33 @@ use words::refusal::UNSOUND;
 use words::word::pick;
 ghost use mathlib.Core.Path.{_≡_};
 ghost use Rattle.calls.specs.Reply.{replied};
-ghost use Rattle.calls.specs.Search.{seek, progressAt, isFinished, foundAnswer, keptTrack, keptWords, searchWords, searchOf};
+ghost use Rattle.calls.specs.Search.{seek, aimAt, progressAt, isFinished, foundAnswer, keptTrack, keptWords, searchWords, searchOf};
 
 // Five tours, or a look and three where a row was missed.
-fn seek(words: &[u32], rows: u32, call: Call, p: Progress) -> Progress
-    ensures { λ r. ⌜ r ≡ seek (now (words .entry)) rows call p ⌝ }
+fn seek(words: &[u32], rows: u32, aim: Aim, p: Progress) -> Progress
+    ensures { λ r. ⌜ r ≡ seek (now (words .entry)) rows aim p ⌝ }
 {
-    let slot = slot_of(call.point);
+    let slot = slot_of(aim.point);
     let most = pick(p.missed == NONE, 5, 3);
-    let mut reached = reached_at(words, rows, look(words, rows, call, p));
+    let mut reached = reached_at(words, rows, aim, look(words, rows, aim, p));
     let mut tours: u32 = 0;
     while tours < most {
-        reached = tour(words, rows, slot, call, reached);
+        reached = tour(words, rows, slot, aim, reached);
         tours += 1;
     }
     reached.progress
+}
+
+// What a call looks for, by the factors of the opening.
+fn aim_at(words: &[u32], call: Call) -> Aim
+    ensures { λ r. ⌜ r ≡ aimAt (now (words .entry)) call ⌝ }
+{
+    let point = call.point;
+    Aim {
+        point: point,
+        asof: call.asof,
+        scale: read_scale(words),
+    }
 }
 
 // Where the search of station s stands.
@@ -61,11 +75,11 @@ fn is_finished(p: Progress) -> bool
 }
 
 // The answer of a finished search: 8 with the best and its square, or 9.
-fn found_answer(call: Call, best: Best) -> Answer
-    ensures { λ r. ⌜ r ≡ foundAnswer call best ⌝ }
+fn found_answer(aim: Aim, best: Best) -> Answer
+    ensures { λ r. ⌜ r ≡ foundAnswer aim best ⌝ }
 {
     if best.curve == 0 {
-        let target = call.point;
+        let target = aim.point;
         Answer {
             code: CODE_NONE,
             point: target,
@@ -78,7 +92,7 @@ fn found_answer(call: Call, best: Best) -> Answer
             code: CODE_NEAREST,
             point: point,
             curve: best.curve,
-            square: square(call.point, best.point),
+            square: square(aim.scale, aim.point, best.point),
         }
     }
 }
@@ -105,11 +119,11 @@ fn keep(words: &mut [u32], s: u32, p: Progress)
 }
 
 // A finished search is answered, any other kept.
-fn write_search(words: &mut [u32], s: u32, call: Call, p: Progress)
-    ensures { λ _. ⌜ now (words .exit) ≡ searchWords (now (words .entry)) s call p ⌝ }
+fn write_search(words: &mut [u32], s: u32, aim: Aim, p: Progress)
+    ensures { λ _. ⌜ now (words .exit) ≡ searchWords (now (words .entry)) s aim p ⌝ }
 {
     if is_finished(p) {
-        write_answered(words, s, found_answer(call, p.best));
+        write_answered(words, s, found_answer(aim, p.best));
     } else {
         keep(words, s, p);
     }
@@ -119,9 +133,10 @@ fn write_search(words: &mut [u32], s: u32, call: Call, p: Progress)
 pub fn search(words: &mut [u32], rows: u32, s: u32, call: Call) -> u32
     ensures { λ r. ⌜ replied r (now (words .exit)) ≡ searchOf (now (words .entry)) rows s call ⌝ }
 {
-    let p = seek(words, rows, call, progress_at(words, s, call));
+    let aim = aim_at(words, call);
+    let p = seek(words, rows, aim, progress_at(words, s, call));
     if p.sound {
-        write_search(words, s, call, p);
+        write_search(words, s, aim, p);
         0
     } else {
         UNSOUND

@@ -1,13 +1,16 @@
 // A search goes around the tree: down to the near child of each cut, and up again, over to the far child where that side may hold a record
 // that is chosen over the best. It goes to no side whose grades do not admit the target's slot. On the way up it keeps the parent link of the row where it
-// stands, so that each move reads one row. Each question is asked in one place, so that a step's moves are compiled in line.
-use crate::progress::consider;
+// stands, so that each move reads one row, and everywhere the square of the best. Each question is asked in one place, so that a step's moves are compiled
+// in line.
+use crate::progress::may_find;
 use crate::progress::onward;
 use crate::progress::strayed;
+use calls::aim::Aim;
 use calls::progress::Progress;
 use calls::reached::Reached;
 use links::link::is_tree;
 use links::link::parent_of;
+use points::choice::chosen_at;
 use points::choice::far_side_excluded;
 use points::cut::Cut;
 use points::cut::goes_left;
@@ -19,64 +22,65 @@ use rows::row::read_row;
 use rows::tree::child_at;
 use rows::tree::read_tree;
 use stations::call::Best;
-use stations::call::Call;
 use words::layout::NONE;
 use words::word::pick;
 ghost use mathlib.Core.Path.{_≡_};
-ghost use Rattle.calls.specs.Tour.{bestSquare, farShut};
-ghost use Rattle.calls.specs.Progress.{considered, onward};
-ghost use Rattle.calls.specs.Reached.{aboveOf, reaching, reachedAt, goTo, goUp, refused, pastNear, pastFar, pastSide, visitSides, visitCut, visitLeaf, visitRow, atTop, moveTo, moved};
+ghost use Rattle.calls.specs.Tour.{bestSquare, shutAt};
+ghost use Rattle.calls.specs.Reached.{aboveOf, reachedAt, goTo, goUp, refused, pastNear, pastFar, pastSide, visitSides, visitCut, prevailsAt, downLeaf, visitLeaf, visitRow, atTop, moveTo, moved};
 
 // The best square while there is no best: only a cut on axis 1 excludes its far side then.
 const NO_SQUARE: u64 = 18446744073709551615;
 
 // Down to a child.
-fn go_to(p: Progress, child: u32) -> Reached
-    ensures { λ r. ⌜ r ≡ goTo p child ⌝ }
+fn go_to(p: Progress, square: u64, child: u32) -> Reached
+    ensures { λ r. ⌜ r ≡ goTo p square child ⌝ }
 {
     Reached {
         above: NONE,
+        square: square,
         progress: onward(p, child, 0, p.best),
     }
 }
 
 // Up from a row of that parent.
-fn go_up(p: Progress, x: u32, parent: u32) -> Reached
-    ensures { λ r. ⌜ r ≡ goUp p x parent ⌝ }
+fn go_up(p: Progress, square: u64, x: u32, parent: u32) -> Reached
+    ensures { λ r. ⌜ r ≡ goUp p square x parent ⌝ }
 {
     Reached {
         above: parent,
+        square: square,
         progress: onward(p, x, 1, p.best),
     }
 }
 
 // No further.
-fn refused(p: Progress, above: u32) -> Reached
-    ensures { λ r. ⌜ r ≡ refused p above ⌝ }
+fn refused(p: Progress, square: u64, above: u32) -> Reached
+    ensures { λ r. ⌜ r ≡ refused p square above ⌝ }
 {
     Reached {
         above: above,
+        square: square,
         progress: strayed(p),
     }
 }
 
 // The best square.
-fn best_square(target: Point, best: Best) -> u64
-    ensures { λ r. ⌜ r ≡ bestSquare target best ⌝ }
+fn best_square(aim: Aim, best: Best) -> u64
+    ensures { λ r. ⌜ r ≡ bestSquare aim best ⌝ }
 {
     if best.curve == 0 {
         NO_SQUARE
     } else {
-        square(target, best.point)
+        square(aim.scale, aim.point, best.point)
     }
 }
 
 // Whether the far side of the cut in row x is shut: the target's slot is not among its grades, or it is excluded.
-fn far_shut(words: &[u32], slot: u32, call: Call, best: Best, x: u32, cut: Cut, goes: bool) -> bool
-    ensures { λ r. ⌜ r ≡ farShut (now (words .entry)) slot call best x cut goes ⌝ }
+fn shut_at(words: &[u32], slot: u32, aim: Aim, square: u64, x: u32, cut: Cut, goes: bool) -> bool
+    ensures { λ r. ⌜ r ≡ shutAt (now (words .entry)) slot aim square x cut goes ⌝ }
 {
     if admits(words, x, !goes, slot) {
-        far_side_excluded(cut, call.point, best_square(call.point, best))
+        far_side_excluded(aim.scale, cut, aim.point, square)
     } else {
         true
     }
@@ -86,31 +90,32 @@ fn far_shut(words: &[u32], slot: u32, call: Call, best: Best, x: u32, cut: Cut, 
 fn past_near(
     words: &[u32],
     slot: u32,
-    call: Call,
+    aim: Aim,
     p: Progress,
+    square: u64,
     x: u32,
     parent: u32,
     far: u32,
     cut: Cut,
     goes: bool,
 ) -> Reached
-    ensures { λ r. ⌜ r ≡ pastNear (now (words .entry)) slot call p x parent far cut goes ⌝ }
+    ensures { λ r. ⌜ r ≡ pastNear (now (words .entry)) slot aim p square x parent far cut goes ⌝ }
 {
-    if far_shut(words, slot, call, p.best, x, cut, goes) {
-        go_up(p, x, parent)
+    if shut_at(words, slot, aim, square, x, cut, goes) {
+        go_up(p, square, x, parent)
     } else {
-        go_to(p, far)
+        go_to(p, square, far)
     }
 }
 
 // Past its far side: further up. A row that is no child of it is not sound.
-fn past_far(p: Progress, above: u32, x: u32, parent: u32, far: u32) -> Reached
-    ensures { λ r. ⌜ r ≡ pastFar p above x parent far ⌝ }
+fn past_far(p: Progress, square: u64, above: u32, x: u32, parent: u32, far: u32) -> Reached
+    ensures { λ r. ⌜ r ≡ pastFar p square above x parent far ⌝ }
 {
     if far == p.cursor {
-        go_up(p, x, parent)
+        go_up(p, square, x, parent)
     } else {
-        refused(p, above)
+        refused(p, square, above)
     }
 }
 
@@ -119,9 +124,8 @@ fn past_far(p: Progress, above: u32, x: u32, parent: u32, far: u32) -> Reached
 fn past_side(
     words: &[u32],
     slot: u32,
-    call: Call,
-    p: Progress,
-    above: u32,
+    aim: Aim,
+    reached: Reached,
     x: u32,
     parent: u32,
     near: u32,
@@ -129,12 +133,24 @@ fn past_side(
     cut: Cut,
     goes: bool,
 ) -> Reached
-    ensures { λ r. ⌜ r ≡ pastSide (now (words .entry)) slot call p above x parent near far cut goes ⌝ }
+    ensures { λ r. ⌜ r ≡ pastSide (now (words .entry)) slot aim reached x parent near far cut goes ⌝ }
 {
+    let p = reached.progress;
     if (p.phase == 0) | (near == p.cursor) {
-        past_near(words, slot, call, p, x, parent, far, cut, goes)
+        past_near(
+            words,
+            slot,
+            aim,
+            p,
+            reached.square,
+            x,
+            parent,
+            far,
+            cut,
+            goes,
+        )
     } else {
-        past_far(p, above, x, parent, far)
+        past_far(p, reached.square, reached.above, x, parent, far)
     }
 }
 
@@ -142,22 +158,22 @@ fn past_side(
 fn visit_sides(
     words: &[u32],
     slot: u32,
-    call: Call,
-    p: Progress,
-    above: u32,
+    aim: Aim,
+    reached: Reached,
     x: u32,
     parent: u32,
     cut: Cut,
     goes: bool,
 ) -> Reached
-    ensures { λ r. ⌜ r ≡ visitSides (now (words .entry)) slot call p above x parent cut goes ⌝ }
+    ensures { λ r. ⌜ r ≡ visitSides (now (words .entry)) slot aim reached x parent cut goes ⌝ }
 {
+    let p = reached.progress;
     let near = child_at(words, x, goes);
     let far = child_at(words, x, !goes);
     if (p.phase == 0) & admits(words, x, goes, slot) {
-        go_to(p, near)
+        go_to(p, reached.square, near)
     } else {
-        past_side(words, slot, call, p, above, x, parent, near, far, cut, goes)
+        past_side(words, slot, aim, reached, x, parent, near, far, cut, goes)
     }
 }
 
@@ -165,115 +181,128 @@ fn visit_sides(
 fn visit_cut(
     words: &[u32],
     slot: u32,
-    call: Call,
-    p: Progress,
-    above: u32,
+    aim: Aim,
+    reached: Reached,
     x: u32,
     parent: u32,
     cut: Cut,
 ) -> Reached
-    ensures { λ r. ⌜ r ≡ visitCut (now (words .entry)) slot call p above x parent cut ⌝ }
+    ensures { λ r. ⌜ r ≡ visitCut (now (words .entry)) slot aim reached x parent cut ⌝ }
 {
-    let goes = goes_left(cut, call.point);
-    visit_sides(words, slot, call, p, above, x, parent, cut, goes)
+    let goes = goes_left(cut, aim.point);
+    visit_sides(words, slot, aim, reached, x, parent, cut, goes)
 }
 
-// Down at a leaf: it is considered, and the way leads up.
-fn down_leaf(call: Call, p: Progress, parent: u32, added: u32, point: Point, curve: u32) -> Reached
-    ensures { λ r. ⌜ r ≡ reaching (onward p (p .cursor) 1 (considered call (p .best) added point curve)) parent ⌝ }
+// Whether a record at its own square prevails over the best at that square.
+fn prevails_at(aim: Aim, best: Best, square: u64, added: u32, point: Point, own: u64) -> bool
+    ensures { λ r. ⌜ r ≡ prevailsAt aim best square added point own ⌝ }
 {
-    Reached {
-        above: parent,
-        progress: onward(p, p.cursor, 1, consider(call, p.best, added, point, curve)),
+    if may_find(aim, added, point) {
+        (best.curve == 0) | chosen_at(own, square, point, best.point)
+    } else {
+        false
+    }
+}
+
+// Down at a leaf with its own square: it is considered, and the way leads up.
+fn down_leaf(
+    aim: Aim,
+    p: Progress,
+    square: u64,
+    parent: u32,
+    added: u32,
+    point: Point,
+    curve: u32,
+    own: u64,
+) -> Reached
+    ensures { λ r. ⌜ r ≡ downLeaf aim p square parent added point curve own ⌝ }
+{
+    if prevails_at(aim, p.best, square, added, point, own) {
+        let best = Best {
+            curve: curve,
+            point: point,
+        };
+        Reached {
+            above: parent,
+            square: if curve == 0 { NO_SQUARE } else { own },
+            progress: onward(p, p.cursor, 1, best),
+        }
+    } else {
+        go_up(p, square, p.cursor, parent)
     }
 }
 
 // At a leaf, which no way up leads to.
 fn visit_leaf(
-    call: Call,
-    p: Progress,
-    above: u32,
+    aim: Aim,
+    reached: Reached,
     parent: u32,
     added: u32,
     point: Point,
     curve: u32,
 ) -> Reached
-    ensures { λ r. ⌜ r ≡ visitLeaf call p above parent added point curve ⌝ }
+    ensures { λ r. ⌜ r ≡ visitLeaf aim reached parent added point curve ⌝ }
 {
+    let p = reached.progress;
     if p.phase == 0 {
-        down_leaf(call, p, parent, added, point, curve)
+        let own = square(aim.scale, aim.point, point);
+        down_leaf(aim, p, reached.square, parent, added, point, curve, own)
     } else {
-        refused(p, above)
+        refused(p, reached.square, reached.above)
     }
 }
 
 // At the row x.
-fn visit_row(
-    words: &[u32],
-    slot: u32,
-    call: Call,
-    p: Progress,
-    above: u32,
-    x: u32,
-    row: Row,
-) -> Reached
-    ensures { λ r. ⌜ r ≡ visitRow (now (words .entry)) slot call p above x row ⌝ }
+fn visit_row(words: &[u32], slot: u32, aim: Aim, reached: Reached, x: u32, row: Row) -> Reached
+    ensures { λ r. ⌜ r ≡ visitRow (now (words .entry)) slot aim reached x row ⌝ }
 {
     match row {
-        Row::Bad => refused(p, above),
-        Row::Spare { .. } => refused(p, above),
-        Row::Removed { .. } => refused(p, above),
+        Row::Bad => refused(reached.progress, reached.square, reached.above),
+        Row::Spare { .. } => refused(reached.progress, reached.square, reached.above),
+        Row::Removed { .. } => refused(reached.progress, reached.square, reached.above),
         Row::Leaf {
             parent,
             added,
             point,
             curve,
-        } => visit_leaf(call, p, above, parent, added, point, curve),
-        Row::Cut { parent, cut, .. } => visit_cut(words, slot, call, p, above, x, parent, cut),
+        } => visit_leaf(aim, reached, parent, added, point, curve),
+        Row::Cut { parent, cut, .. } => visit_cut(words, slot, aim, reached, x, parent, cut),
     }
 }
 
 // Up from a row with no parent: the tour is over, if that row is one of the tree.
-fn at_top(words: &[u32], rows: u32, p: Progress) -> Reached
-    ensures { λ r. ⌜ r ≡ atTop (now (words .entry)) rows p ⌝ }
+fn at_top(words: &[u32], rows: u32, reached: Reached) -> Reached
+    ensures { λ r. ⌜ r ≡ atTop (now (words .entry)) rows reached ⌝ }
 {
+    let p = reached.progress;
     if is_tree(read_row(words, rows, p.cursor)) {
-        go_up(p, NONE, NONE)
+        go_up(p, reached.square, NONE, NONE)
     } else {
-        refused(p, NONE)
+        refused(p, reached.square, NONE)
     }
 }
 
 // One move, by the row x.
-fn move_to(words: &[u32], rows: u32, slot: u32, call: Call, reached: Reached, x: u32) -> Reached
-    ensures { λ r. ⌜ r ≡ moveTo (now (words .entry)) rows slot call reached x ⌝ }
+fn move_to(words: &[u32], rows: u32, slot: u32, aim: Aim, reached: Reached, x: u32) -> Reached
+    ensures { λ r. ⌜ r ≡ moveTo (now (words .entry)) rows slot aim reached x ⌝ }
 {
-    let p = reached.progress;
     if x == NONE {
-        at_top(words, rows, p)
+        at_top(words, rows, reached)
     } else {
-        visit_row(
-            words,
-            slot,
-            call,
-            p,
-            reached.above,
-            x,
-            read_tree(words, rows, x),
-        )
+        visit_row(words, slot, aim, reached, x, read_tree(words, rows, x))
     }
 }
 
 // One move, unless the tour is over: by the row where the search stands, or by the one above it. Either way one row is read.
-pub(crate) fn tour(words: &[u32], rows: u32, slot: u32, call: Call, reached: Reached) -> Reached
-    ensures { λ r. ⌜ r ≡ moved (now (words .entry)) rows slot call reached ⌝ }
+pub(crate) fn tour(words: &[u32], rows: u32, slot: u32, aim: Aim, reached: Reached) -> Reached
+    ensures { λ r. ⌜ r ≡ moved (now (words .entry)) rows slot aim reached ⌝ }
 {
     let p = reached.progress;
     if p.cursor == NONE {
         reached
     } else {
         let x = pick(p.phase == 0, p.cursor, reached.above);
-        move_to(words, rows, slot, call, reached, x)
+        move_to(words, rows, slot, aim, reached, x)
     }
 }
 
@@ -289,11 +318,12 @@ fn above_of(words: &[u32], rows: u32, p: Progress) -> u32
 }
 
 // Where the moves of a step begin.
-pub(crate) fn reached_at(words: &[u32], rows: u32, p: Progress) -> Reached
-    ensures { λ r. ⌜ r ≡ reachedAt (now (words .entry)) rows p ⌝ }
+pub(crate) fn reached_at(words: &[u32], rows: u32, aim: Aim, p: Progress) -> Reached
+    ensures { λ r. ⌜ r ≡ reachedAt (now (words .entry)) rows aim p ⌝ }
 {
     Reached {
         above: above_of(words, rows, p),
+        square: best_square(aim, p.best),
         progress: p,
     }
 }

@@ -6,7 +6,8 @@ use mathlib.Core.List.{List}
 use Prim.Native.Nat.{ℕ}
 use native.Mathlib.Omega.{arith}
 use Rattle.points.specs.declared.point.Point.{Point}
-use Rattle.words.specs.Layout.{atCounts, atCursor, atCounter, atTarget}
+use Rattle.points.specs.declared.scale.Scale.{Scale}
+use Rattle.words.specs.Layout.{atCounts, atScale, atCursor, atCounter, atTarget}
 use Rattle.words.proofs.AgreeLaws.{only-apart}
 use Rattle.stations.specs.declared.counts.Counts.{Counts}
 use Rattle.stations.specs.declared.track.Track.{Track}
@@ -15,35 +16,36 @@ use Rattle.stations.specs.Track.{trackAt, putTrack}
 use Rattle.stations.specs.Counter.{counterAt, changeCounted}
 use Rattle.stations.specs.Target.{targetAt, putTarget}
 use Rattle.stations.specs.Common.{openedIn, putOpening}
-use Rattle.stations.proofs.OpeningLaws.{opened-first, putOpening-words}
+use Rattle.stations.proofs.OpeningLaws.{opened-first, opening-apart}
 use Rattle.stations.proofs.CountLaws.{counts-words, putCounts-words}
 use Rattle.stations.proofs.TrackLaws.{track-words, putTrack-words}
 use Rattle.stations.proofs.CounterLaws.{counter-words, counted-words}
 use Rattle.stations.proofs.TargetLaws.{target-words, putTarget-words}
 
 -- ---- what opening writes
-module _ (w : List ℕ) (places limit : ℕ) where
-  pub counts-putOpening : countsAt (putOpening w places limit) ≡ countsAt w
-  unfolding atCounts
-  counts-putOpening = counts-words (only-apart (putOpening-words w places limit) atCounts 6 (λ k h l h′ l′. omega arith))
+module _ (w : List ℕ) (places limit : ℕ) (scale : Scale) where
+  pub counts-putOpening : countsAt (putOpening w places limit scale) ≡ countsAt w
+  unfolding atCounts atScale
+  counts-putOpening = counts-words (opening-apart w places limit scale atCounts 6 (λ k h l h′ l′. omega arith) (λ k h l h′ l′. omega arith))
 
-  pub track-putOpening : (u : ℕ) → trackAt (putOpening w places limit) u ≡ trackAt w u
-  unfolding atCursor
-  track-putOpening u = track-words u (only-apart (putOpening-words w places limit) (atCursor 0) 32 (λ k h l h′ l′. omega arith))
+  pub track-putOpening : (u : ℕ) → trackAt (putOpening w places limit scale) u ≡ trackAt w u
+  unfolding atCursor atScale
+  track-putOpening u = track-words u (opening-apart w places limit scale (atCursor 0) 32 (λ k h l h′ l′. omega arith) (λ k h l h′ l′. omega arith))
 
-  pub counter-putOpening : (u : ℕ) → counterAt (putOpening w places limit) u ≡ counterAt w u
-  unfolding atCounter
-  counter-putOpening u = counter-words u (only-apart (putOpening-words w places limit) (atCounter 0) 8 (λ k h l h′ l′. omega arith))
+  pub counter-putOpening : (u : ℕ) → counterAt (putOpening w places limit scale) u ≡ counterAt w u
+  unfolding atCounter atScale
+  counter-putOpening u = counter-words u (opening-apart w places limit scale (atCounter 0) 8 (λ k h l h′ l′. omega arith) (λ k h l h′ l′. omega arith))
 
-  pub target-putOpening : (u : ℕ) → targetAt (putOpening w places limit) u ≡ targetAt w u
-  unfolding atTarget
-  target-putOpening u = target-words u (only-apart (putOpening-words w places limit) (atTarget 0) 32 (λ k h l h′ l′. omega arith))
+  pub target-putOpening : (u : ℕ) → targetAt (putOpening w places limit scale) u ≡ targetAt w u
+  unfolding atTarget atScale
+  target-putOpening u = target-words u (opening-apart w places limit scale (atTarget 0) 32 (λ k h l h′ l′. omega arith) (λ k h l h′ l′. omega arith))
 
 -- ---- the counts
 module _ (w : List ℕ) (counts : Counts) where
   pub opened-putCounts : openedIn (putCounts w counts) ≡ openedIn w
-  unfolding atCounts
+  unfolding atCounts atScale
   opened-putCounts = opened-first (only-apart (putCounts-words w counts) 0 3 (λ k h l h′ l′. omega arith))
+      (only-apart (putCounts-words w counts) atScale 4 (λ k h l h′ l′. omega arith))
 
   pub track-putCounts : (u : ℕ) → trackAt (putCounts w counts) u ≡ trackAt w u
   unfolding atCounts atCursor
@@ -60,8 +62,9 @@ module _ (w : List ℕ) (counts : Counts) where
 -- ---- a track
 module _ (w : List ℕ) (s : ℕ) (track : Track) where
   pub opened-putTrack : openedIn (putTrack w s track) ≡ openedIn w
-  unfolding atCursor
+  unfolding atCursor atScale
   opened-putTrack = opened-first (only-apart (putTrack-words w s track) 0 3 (λ k h l h′ l′. omega arith))
+      (only-apart (putTrack-words w s track) atScale 4 (λ k h l h′ l′. omega arith))
 
   pub counts-putTrack : countsAt (putTrack w s track) ≡ countsAt w
   unfolding atCounts atCursor
@@ -78,8 +81,9 @@ module _ (w : List ℕ) (s : ℕ) (track : Track) where
 -- ---- a counter
 module _ (w : List ℕ) (s : ℕ) where
   pub opened-counted : openedIn (changeCounted w s) ≡ openedIn w
-  unfolding atCounter
+  unfolding atCounter atScale
   opened-counted = opened-first (only-apart (counted-words w s) 0 3 (λ k h l h′ l′. omega arith))
+      (only-apart (counted-words w s) atScale 4 (λ k h l h′ l′. omega arith))
 
   pub counts-counted : countsAt (changeCounted w s) ≡ countsAt w
   unfolding atCounts atCounter
@@ -96,8 +100,9 @@ module _ (w : List ℕ) (s : ℕ) where
 -- ---- a target
 module _ (w : List ℕ) (s : ℕ) (p : Point) where
   pub opened-putTarget : openedIn (putTarget w s p) ≡ openedIn w
-  unfolding atTarget
+  unfolding atTarget atScale
   opened-putTarget = opened-first (only-apart (putTarget-words w s p) 0 3 (λ k h l h′ l′. omega arith))
+      (only-apart (putTarget-words w s p) atScale 4 (λ k h l h′ l′. omega arith))
 
   pub counts-putTarget : countsAt (putTarget w s p) ≡ countsAt w
   unfolding atCounts atTarget

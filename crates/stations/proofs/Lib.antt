@@ -8,6 +8,7 @@ pub mod AbsentLaws
 pub mod SoundLaws
 pub mod OpeningLaws
 pub mod CountLaws
+pub mod ScaleLaws
 pub mod TrackLaws
 pub mod CounterLaws
 pub mod TargetLaws

@@ -1,5 +1,5 @@
--- What opening writes of the records: zero in every word of them, so that every station is idle (`state-cleared`) and has made no change, and mark, places and limit, so that the
--- slice is opened (`opened-begun`). The words beyond the records stay.
+-- What opening writes of the records: zero in every word of them, so that every station is idle (`state-cleared`) and has made no change, and mark, places, limit and factors, so
+-- that the slice is opened (`opened-begun`). The words beyond the records stay.
 -- Assumes nothing.
 use mathlib.Core.Path.{_≡_, refl, _∙_}
 use mathlib.Core.Bool.{Bool, true, false, cond}
@@ -8,17 +8,21 @@ use Prim.Native.Nat.{ℕ, zero, suc, _≤_, _<_}
 use native.Mathlib.Omega.{arith}
 use native.Mathlib.Decide.{ℕ-discrete}
 use lib.ListN.{length}
-use Rattle.words.specs.Layout.{stations, records, wordsFor, atMark, atPlaces, atLimit, atCounter, atStation}
+use Rattle.points.specs.declared.scale.Scale.{Scale}
+use Rattle.points.specs.Scale.{factorsIn}
+use Rattle.words.specs.Layout.{stations, records, wordsFor, atMark, atPlaces, atLimit, atScale, atCounter, atStation}
 use Rattle.words.specs.Words.{get, put}
 use Rattle.words.specs.Agree.{inCommon, inStation, Beyond}
 use Rattle.words.proofs.WordLaws.{length-put, get-put-same, get-put-other}
-use Rattle.words.proofs.AgreeLaws.{elsewhere, station-common}
+use Rattle.words.proofs.AgreeLaws.{elsewhere, only-apart, station-common}
 use Rattle.words.proofs.BeyondLaws.{beyond-refl, beyond-common}
 use Rattle.stations.specs.Station.{idle, hasStation, stateAt}
 use Rattle.stations.specs.Counter.{counterAt}
+use Rattle.stations.specs.Scale.{scaleAt}
 use Rattle.stations.specs.Common.{mark, placesIn, limitIn, markAt, placesAt, limitAt, Opened, openedIn, cleared, recordsCleared, putOpening}
 use Rattle.stations.proofs.StationLaws.{There, there-of, there-tells}
-use Rattle.stations.proofs.OpeningLaws.{places-tells, limit-tells, opened-of, putOpening-only, length-putOpening}
+use Rattle.stations.proofs.OpeningLaws.{places-tells, limit-tells, opened-of, headed, headed-words, scaled-words, putOpening-only, length-putOpening}
+use Rattle.stations.proofs.ScaleLaws.{scale-back}
 use Rattle.stations.proofs.RecordLaws.{stateAt-is, stateAt-agree}
 
 -- ---- zero in the first words
@@ -64,28 +68,35 @@ module _ (w : List ℕ) where
       go true f = first-zero records w h (atCounter s) (omega (arith, f refl .station))
       go false f = refl
 
--- ---- mark, places and limit
-module _ (w : List ℕ) (places limit : ℕ) where
-  pub opening-beyond : {n : ℕ} → records ≤ n → Beyond (putOpening w places limit) w n
-  opening-beyond h = beyond-common (putOpening-only w places limit) h
+-- ---- mark, places, limit and factors
+module _ (w : List ℕ) (places limit : ℕ) (scale : Scale) where
+  pub opening-beyond : {n : ℕ} → records ≤ n → Beyond (putOpening w places limit scale) w n
+  opening-beyond h = beyond-common (putOpening-only w places limit scale) h
 
   -- the stations' records stay
-  pub state-putOpening : (s : ℕ) → stateAt (putOpening w places limit) s ≡ stateAt w s
-  state-putOpening s = stateAt-agree s (elsewhere inCommon (inStation s) (putOpening-only w places limit) (station-common s))
+  pub state-putOpening : (s : ℕ) → stateAt (putOpening w places limit scale) s ≡ stateAt w s
+  state-putOpening s = stateAt-agree s (elsewhere inCommon (inStation s) (putOpening-only w places limit scale) (station-common s))
+
+  scale-begun : records ≤ length w → scaleAt (putOpening w places limit scale) ≡ scale
+  unfolding putOpening
+  scale-begun h = scale-back (headed w places limit) scale (omega (arith, headed-words w places limit .lengths))
 
   -- and the slice is opened
-  pub opened-begun : placesIn places ≡ true → limitIn limit ≡ true → wordsFor places ≤ length w → openedIn (putOpening w places limit) ≡ Opened places limit
-  unfolding putOpening markAt placesAt limitAt atMark atPlaces atLimit
-  opened-begun p l h =
-      opened-of (putOpening w places limit) places limit (record {
-        first = get-put-other two atLimit atMark limit (λ e. omega arith) ∙ get-put-other one atPlaces atMark places (λ e. omega arith) ∙ get-put-same w atMark mark (omega arith);
-        places-word = get-put-other two atLimit atPlaces limit (λ e. omega arith) ∙ get-put-same one atPlaces places (omega (arith, length-put w atMark mark));
-        limit-word = get-put-same two atLimit limit (omega (arith, length-put one atPlaces places, length-put w atMark mark));
+  pub opened-begun : placesIn places ≡ true → limitIn limit ≡ true → factorsIn scale ≡ true → wordsFor places ≤ length w
+      → openedIn (putOpening w places limit scale) ≡ Opened places limit scale
+  unfolding markAt placesAt limitAt atMark atPlaces atLimit atScale
+  opened-begun p l f h =
+      opened-of (putOpening w places limit scale) places limit scale (record {
+        first = headed-at atMark (omega arith) ∙ get-put-other two atLimit atMark limit (λ e. omega arith) ∙ get-put-other one atPlaces atMark places (λ e. omega arith) ∙ get-put-same w atMark mark (omega arith);
+        places-word = headed-at atPlaces (omega arith) ∙ get-put-other two atLimit atPlaces limit (λ e. omega arith) ∙ get-put-same one atPlaces places (omega (arith, length-put w atMark mark));
+        limit-word = headed-at atLimit (omega arith) ∙ get-put-same two atLimit limit (omega (arith, length-put one atPlaces places, length-put w atMark mark));
+        scale-word = scale-begun (omega arith);
         places-least = places-tells places p .0;
         places-most = places-tells places p .1;
         limit-least = limit-tells limit l .0;
         limit-most = limit-tells limit l .1;
-        long = omega (arith, length-putOpening w places limit);
+        factors = f;
+        long = omega (arith, length-putOpening w places limit scale);
       })
     where
       one : List ℕ
@@ -93,3 +104,7 @@ module _ (w : List ℕ) (places limit : ℕ) where
 
       two : List ℕ
       two = put one atPlaces places
+
+      -- the first three words are not the scale's
+      headed-at : (k : ℕ) → k < 3 → get (putOpening w places limit scale) k ≡ get (headed w places limit) k
+      headed-at k l = only-apart (scaled-words w places limit scale) 0 3 (λ n h i h′ i′. omega arith) .words k (omega arith) (omega arith)

@@ -1,6 +1,6 @@
 -- Question 4: what an opened slice has (`opened-tells`, `opened-of`), that this is a matter of the common record and the length alone, and the rows that it has.
 -- Assumes nothing.
-use mathlib.Core.Path.{_≡_, refl, ap}
+use mathlib.Core.Path.{_≡_, refl, ap, _∙_}
 use mathlib.Core.Bool.{Bool, true, false, cond, _&&_}
 use mathlib.Core.List.{List}
 use Prim.Native.Nat.{ℕ, _*_, _≤_, _<_}
@@ -8,15 +8,19 @@ use native.Mathlib.Omega.{arith}
 use borrow.Author.Tests.{leb-true, eqb-true, le-leb}
 use lib.Dec.{eqb, leb}
 use lib.ListN.{length}
+use Rattle.points.specs.declared.scale.Scale.{Scale}
+use Rattle.points.specs.Scale.{factorsIn}
 use Rattle.points.proofs.Tests.{and-l, and-r, and-i}
-use Rattle.words.specs.Layout.{stations, commonSize, records, mostPlaces, mostRows, mostLimit, wordsFor, atMark, atPlaces, atLimit, Fits}
+use Rattle.words.specs.Layout.{stations, commonSize, records, mostPlaces, mostRows, mostLimit, wordsFor, atMark, atPlaces, atLimit, atScale, Fits}
 use Rattle.words.specs.Words.{put}
-use Rattle.words.specs.Agree.{Agree, Only, inCommon, startOf, sizeOf, AgreeIn, OnlyIn}
+use Rattle.words.specs.Agree.{Agree, Apart, Only, inCommon, startOf, sizeOf, AgreeIn, OnlyIn}
 use Rattle.stations.specs.Station.{hasStation}
+use Rattle.stations.specs.Scale.{scaleAt, putScale}
 use Rattle.stations.specs.Common.{mark, placesIn, limitIn, markAt, placesAt, limitAt, openIn, Refused, Opened, openedIn, isOpened, rowsIn, putOpening}
-use Rattle.words.proofs.AgreeLaws.{agree-within, only-trans, only-within, put-only}
+use Rattle.words.proofs.AgreeLaws.{agree-within, agree-trans, only-trans, only-within, only-apart, put-only}
 use Rattle.words.proofs.BeyondLaws.{fits-of, fits-records}
 use Rattle.stations.proofs.StationLaws.{there-fits}
+use Rattle.stations.proofs.ScaleLaws.{scale-words, putScale-words}
 
 -- ---- the ranges of places and limit
 pub places-tells : (places : ℕ) → placesIn places ≡ true → (1 ≤ places) × (places ≤ mostPlaces)
@@ -38,23 +42,27 @@ limit-of n h l = and-i (le-leb 1 n h) (le-leb n mostLimit l)
 -- ---- question 4
 
 -- what an opened slice has
-pub record IsOpen (w : List ℕ) (places limit : ℕ) : Type 0 where
+pub record IsOpen (w : List ℕ) (places limit : ℕ) (scale : Scale) : Type 0 where
   pub first : markAt w ≡ mark
   pub places-word : placesAt w ≡ places
   pub limit-word : limitAt w ≡ limit
+  pub scale-word : scaleAt w ≡ scale
   pub places-least : 1 ≤ places
   pub places-most : places ≤ mostPlaces
   pub limit-least : 1 ≤ limit
   pub limit-most : limit ≤ mostLimit
+  pub factors : factorsIn scale ≡ true
   pub long : wordsFor places ≤ length w
 
-open-tells : (w : List ℕ) → openIn (markAt w) (placesAt w) (limitAt w) (length w) ≡ true → IsOpen w (placesAt w) (limitAt w)
+open-tells : (w : List ℕ) → openIn (markAt w) (placesAt w) (limitAt w) (scaleAt w) (length w) ≡ true → IsOpen w (placesAt w) (limitAt w) (scaleAt w)
 unfolding openIn
 open-tells w e =
     let m = markAt w in
     let p = placesAt w in
     let l = limitAt w in
-    let three = and-l ((eqb m mark && placesIn p) && limitIn l) (leb (wordsFor p) (length w)) e in
+    let f = factorsIn (scaleAt w) in
+    let four = and-l (((eqb m mark && placesIn p) && limitIn l) && f) (leb (wordsFor p) (length w)) e in
+    let three = and-l ((eqb m mark && placesIn p) && limitIn l) f four in
     let two = and-l (eqb m mark && placesIn p) (limitIn l) three in
     let ps = places-tells p (and-r (eqb m mark) (placesIn p) two) in
     let ls = limit-tells l (and-r (eqb m mark && placesIn p) (limitIn l) three) in
@@ -62,43 +70,56 @@ open-tells w e =
       first = eqb-true m mark (and-l (eqb m mark) (placesIn p) two);
       places-word = refl;
       limit-word = refl;
+      scale-word = refl;
       places-least = ps .0;
       places-most = ps .1;
       limit-least = ls .0;
       limit-most = ls .1;
-      long = leb-true (wordsFor p) (length w) (and-r ((eqb m mark && placesIn p) && limitIn l) (leb (wordsFor p) (length w)) e);
+      factors = and-r ((eqb m mark && placesIn p) && limitIn l) f four;
+      long = leb-true (wordsFor p) (length w) (and-r (((eqb m mark && placesIn p) && limitIn l) && f) (leb (wordsFor p) (length w)) e);
     }
 
 -- question 4 passes exactly on such a slice
-pub opened-tells : (w : List ℕ) (places limit : ℕ) → openedIn w ≡ Opened places limit → IsOpen w places limit
+pub opened-tells : (w : List ℕ) (places limit : ℕ) (scale : Scale) → openedIn w ≡ Opened places limit scale → IsOpen w places limit scale
 unfolding openedIn
-opened-tells w places limit e = go (openIn (markAt w) (placesAt w) (limitAt w) (length w)) refl e
+opened-tells w places limit scale e = go (openIn (markAt w) (placesAt w) (limitAt w) (scaleAt w) (length w)) refl e
   where
-    go : (b : Bool) → openIn (markAt w) (placesAt w) (limitAt w) (length w) ≡ b → cond b (Opened (placesAt w) (limitAt w)) Refused ≡ Opened places limit → IsOpen w places limit
+    go : (b : Bool) → openIn (markAt w) (placesAt w) (limitAt w) (scaleAt w) (length w) ≡ b
+        → cond b (Opened (placesAt w) (limitAt w) (scaleAt w)) Refused ≡ Opened places limit scale → IsOpen w places limit scale
     go true f h =
         let p : placesAt w ≡ places = cc in
         let l : limitAt w ≡ limit = cc in
-        rw (← p, ← l) (open-tells w f)
+        let s : scaleAt w ≡ scale = cc in
+        rw (← p, ← l, ← s) (open-tells w f)
     go false f h = let z : _≡_ {A = ℕ} 0 1 = cc in absurd (omega arith)
 
-pub opened-of : (w : List ℕ) (places limit : ℕ) → IsOpen w places limit → openedIn w ≡ Opened places limit
+pub opened-of : (w : List ℕ) (places limit : ℕ) (scale : Scale) → IsOpen w places limit scale → openedIn w ≡ Opened places limit scale
 unfolding openedIn openIn
-opened-of w places limit o =
-    rw (o .first, o .places-word, o .limit-word, places-of places (o .places-least) (o .places-most), limit-of limit (o .limit-least) (o .limit-most), le-leb (wordsFor places) (length w) (o .long))
+opened-of w places limit scale o =
+    rw (
+      o .first,
+      o .places-word,
+      o .limit-word,
+      o .scale-word,
+      places-of places (o .places-least) (o .places-most),
+      limit-of limit (o .limit-least) (o .limit-most),
+      o .factors,
+      le-leb (wordsFor places) (length w) (o .long),
+    )
 
 -- question 4, as a test
-pub opened-is : (w : List ℕ) → isOpened (openedIn w) ≡ openIn (markAt w) (placesAt w) (limitAt w) (length w)
+pub opened-is : (w : List ℕ) → isOpened (openedIn w) ≡ openIn (markAt w) (placesAt w) (limitAt w) (scaleAt w) (length w)
 unfolding openedIn
-opened-is w = go (openIn (markAt w) (placesAt w) (limitAt w) (length w))
+opened-is w = go (openIn (markAt w) (placesAt w) (limitAt w) (scaleAt w) (length w))
   where
-    go : (b : Bool) → isOpened (cond b (Opened (placesAt w) (limitAt w)) Refused) ≡ b
+    go : (b : Bool) → isOpened (cond b (Opened (placesAt w) (limitAt w) (scaleAt w)) Refused) ≡ b
     go true = refl
     go false = refl
 
 -- ---- an opened slice
-module _ (w : List ℕ) (places limit : ℕ) (o : openedIn w ≡ Opened places limit) where
-  is-open : IsOpen w places limit
-  is-open = opened-tells w places limit o
+module _ (w : List ℕ) (places limit : ℕ) (scale : Scale) (o : openedIn w ≡ Opened places limit scale) where
+  is-open : IsOpen w places limit scale
+  is-open = opened-tells w places limit scale o
 
   -- it holds two rows for each place
   pub opened-fits : Fits w (2 * places)
@@ -127,15 +148,16 @@ rows-most w = go (leb (placesAt w) mostPlaces) refl
 
 -- ---- slices that agree
 
--- question 4 is a matter of the first three words and the length
-pub opened-first : {v w : List ℕ} → Agree v w 0 3 → openedIn v ≡ openedIn w
+-- question 4 is a matter of the first three words, the four of the scale, and the length
+pub opened-first : {v w : List ℕ} → Agree v w 0 3 → Agree v w atScale 4 → openedIn v ≡ openedIn w
 unfolding openedIn markAt placesAt limitAt atMark atPlaces atLimit
-opened-first g = rw (g .words 0 (omega arith) (omega arith), g .words 1 (omega arith) (omega arith), g .words 2 (omega arith) (omega arith), g .lengths)
+opened-first g f =
+    rw (g .words 0 (omega arith) (omega arith), g .words 1 (omega arith) (omega arith), g .words 2 (omega arith) (omega arith), scale-words f, g .lengths)
 
 module _ {v w : List ℕ} (g : AgreeIn v w inCommon) where
   pub openedIn-agree : openedIn v ≡ openedIn w
-  unfolding startOf sizeOf
-  openedIn-agree = opened-first (agree-within g 0 3 (omega arith) (omega arith))
+  unfolding startOf sizeOf atScale
+  openedIn-agree = opened-first (agree-within g 0 3 (omega arith) (omega arith)) (agree-within g atScale 4 (omega arith) (omega arith))
 
   pub places-agree : placesAt v ≡ placesAt w
   unfolding placesAt atPlaces startOf sizeOf
@@ -149,18 +171,34 @@ module _ {v w : List ℕ} (g : AgreeIn v w inCommon) where
   unfolding rowsIn
   rowsIn-agree = ap (λ x. cond (leb x mostPlaces) (2 * x) 0) places-agree
 
--- ---- mark, places and limit written
+-- ---- mark, places, limit and factors written
+
+-- the words with mark, places and limit alone
+abbrev pub headed : List ℕ → ℕ → ℕ → List ℕ
+headed w places limit = put (put (put w atMark mark) atPlaces places) atLimit limit
+
 module _ (w : List ℕ) (places limit : ℕ) where
   -- three words are
-  pub putOpening-words : Only (putOpening w places limit) w 0 3
-  unfolding putOpening atMark atPlaces atLimit
-  putOpening-words =
+  pub headed-words : Only (headed w places limit) w 0 3
+  unfolding atMark atPlaces atLimit
+  headed-words =
       only-trans (only-within (put-only (put (put w atMark mark) atPlaces places) atLimit limit) 0 3 (omega arith) (omega arith))
       (only-trans (only-within (put-only (put w atMark mark) atPlaces places) 0 3 (omega arith) (omega arith)) (only-within (put-only w atMark mark) 0 3 (omega arith) (omega arith)))
 
-  pub putOpening-only : OnlyIn (putOpening w places limit) w inCommon
-  unfolding startOf sizeOf
-  putOpening-only = only-within putOpening-words 0 commonSize (omega arith) (omega arith)
+  module _ (scale : Scale) where
+    -- and then the four of the scale
+    pub scaled-words : Only (putOpening w places limit scale) (headed w places limit) atScale 4
+    unfolding putOpening
+    scaled-words = putScale-words (headed w places limit) scale
 
-  pub length-putOpening : length (putOpening w places limit) ≡ length w
-  length-putOpening = putOpening-words .lengths
+    pub putOpening-only : OnlyIn (putOpening w places limit scale) w inCommon
+    unfolding startOf sizeOf atScale
+    putOpening-only =
+        only-trans (only-within scaled-words 0 commonSize (omega arith) (omega arith)) (only-within headed-words 0 commonSize (omega arith) (omega arith))
+
+    pub length-putOpening : length (putOpening w places limit scale) ≡ length w
+    length-putOpening = scaled-words .lengths ∙ headed-words .lengths
+
+    -- another part of the common record is not touched by either
+    pub opening-apart : (a n : ℕ) → Apart a n 0 3 → Apart a n atScale 4 → Agree (putOpening w places limit scale) w a n
+    opening-apart a n f g = agree-trans (only-apart scaled-words a n g) (only-apart headed-words a n f)

@@ -6,6 +6,7 @@ use Prim.Native.Nat.{ℕ, _≤_}
 use borrow.Author.Tests.{leb-true, le-leb, ne-eqb, eq-eqb}
 use lib.Dec.{leb, eqb, leb·zero}
 use Rattle.points.specs.Point.{inRange}
+use Rattle.points.specs.Square.{mostSquare}
 use Rattle.points.proofs.Tests.{and-l, and-r, and-i}
 use Rattle.points.proofs.WordLaws.{point-at-in-range}
 use Rattle.stations.specs.declared.call.Best.{Best}
@@ -85,7 +86,7 @@ pub record SoundAnswer (answer : Answer) : Type 0 where
   pub code : codeIn (answer .code) ≡ true
   pub point : inRange (answer .point) ≡ true
   pub curve : answer .curve ≤ mostCurve
-  pub square : answer .square ≤ 11015800001
+  pub square : answer .square ≤ mostSquare
 
 pub answer-tells : (answer : Answer) → answerSound answer ≡ true → SoundAnswer answer
 unfolding answerSound
@@ -93,15 +94,15 @@ answer-tells answer e =
     let a = codeIn (answer .code) in
     let p = inRange (answer .point) in
     let v = leb (answer .curve) mostCurve in
-    let three = and-l ((a && p) && v) (leb (answer .square) 11015800001) e in
+    let three = and-l ((a && p) && v) (leb (answer .square) mostSquare) e in
     let two = and-l (a && p) v three in
     record {
       code = and-l a p two;
       point = and-r a p two;
       curve = leb-true (answer .curve) mostCurve (and-r (a && p) v three);
-      square = leb-true (answer .square) 11015800001 (and-r ((a && p) && v) (leb (answer .square) 11015800001) e);
+      square = leb-true (answer .square) mostSquare (and-r ((a && p) && v) (leb (answer .square) mostSquare) e);
     }
 
 pub answer-of : (answer : Answer) → SoundAnswer answer → answerSound answer ≡ true
 unfolding answerSound
-answer-of answer c = and-i (and-i (and-i (c .code) (c .point)) (le-leb (answer .curve) mostCurve (c .curve))) (le-leb (answer .square) 11015800001 (c .square))
+answer-of answer c = and-i (and-i (and-i (c .code) (c .point)) (le-leb (answer .curve) mostCurve (c .curve))) (le-leb (answer .square) mostSquare (c .square))

@@ -5,6 +5,7 @@ use mathlib.Core.Bool.{Bool, cond, _&&_, _||_}
 use lib.ListN.{getD}
 use lib.Dec.{eqb, leb}
 use Rattle.points.specs.Point.{inRange}
+use Rattle.points.specs.Square.{mostSquare}
 use Rattle.points.specs.Word.{pointAt}
 use Rattle.stations.specs.declared.answer.Answer.{Answer}
 use Rattle.stations.specs.declared.answer.Waiting.{Waiting}
@@ -78,7 +79,7 @@ noAnswer = record { code = 0; point = pointAt 0 0 0 0 0; curve = 0; square = 0 }
 -- every field of an answer is in range
 unfoldable pub answerSound : Answer → Bool
 answerSound answer =
-    ((codeIn (answer .code) && inRange (answer .point)) && leb (answer .curve) mostCurve) && leb (answer .square) 11015800001
+    ((codeIn (answer .code) && inRange (answer .point)) && leb (answer .curve) mostCurve) && leb (answer .square) mostSquare
 
 -- the answer of station s; of no code where there is no such station
 unfoldable pub answerAt : List ℕ → ℕ → Answer

@@ -4,12 +4,15 @@ use mathlib.Core.List.{List}
 use mathlib.Core.Bool.{Bool, true, false, cond, _&&_, _||_}
 use lib.ListN.{length}
 use lib.Dec.{eqb, leb, ltb}
+use Rattle.points.specs.declared.scale.Scale.{Scale}
+use Rattle.points.specs.Scale.{factorsIn}
 use Rattle.points.specs.Word.{NONE}
 use Rattle.words.specs.Layout.{stations, records, mostPlaces, mostLimit, wordsFor, atMark, atPlaces, atLimit}
 use Rattle.words.specs.Words.{get, put}
 use Rattle.words.specs.Range.{linkIn}
 use Rattle.stations.specs.declared.track.Track.{Track}
 use Rattle.stations.specs.Counts.{countsAt}
+use Rattle.stations.specs.Scale.{scaleAt, putScale}
 use Rattle.stations.specs.Counter.{greatestCounter}
 use Rattle.stations.specs.Track.{trackAt}
 
@@ -17,7 +20,7 @@ use Rattle.stations.specs.Track.{trackAt}
 
 -- the mark that opening writes
 abbrev pub mark : ℕ
-mark = 1279683399
+mark = 1279683400
 
 -- places 1 to 4,096
 unfoldable pub placesIn : ℕ → Bool
@@ -37,22 +40,23 @@ placesAt words = get words atPlaces
 unfoldable pub limitAt : List ℕ → ℕ
 limitAt words = get words atLimit
 
--- Rules 7.1, question 4: "Are the mark that opening writes, places and limit in range, and length enough for them all there?"
-unfoldable pub openIn : ℕ → ℕ → ℕ → ℕ → Bool
-openIn first places limit size = ((eqb first mark && placesIn places) && limitIn limit) && leb (wordsFor places) size
+-- Rules 7.1, question 4: "Are the mark that opening writes, places, limit and factors in range, and length enough for them all there?"
+unfoldable pub openIn : ℕ → ℕ → ℕ → Scale → ℕ → Bool
+openIn first places limit scale size = (((eqb first mark && placesIn places) && limitIn limit) && factorsIn scale) && leb (wordsFor places) size
 
--- what question 4 says of a slice: the refusal, or its places and limit
+-- what question 4 says of a slice: the refusal, or its places, limit and factors
 pub data Opening : Type 0 where
   Refused : Opening
-  Opened : ℕ → ℕ → Opening
+  Opened : ℕ → ℕ → Scale → Opening
 
 unfoldable pub openedIn : List ℕ → Opening
-openedIn words = cond (openIn (markAt words) (placesAt words) (limitAt words) (length words)) (Opened (placesAt words) (limitAt words)) Refused
+openedIn words =
+    cond (openIn (markAt words) (placesAt words) (limitAt words) (scaleAt words) (length words)) (Opened (placesAt words) (limitAt words) (scaleAt words)) Refused
 
 -- question 4, as a test
 abbrev pub isOpened : Opening → Bool
 isOpened Refused = false
-isOpened (Opened places limit) = true
+isOpened (Opened places limit scale) = true
 
 -- the rows of an opened slice, twice its places; none where the places are out of range
 unfoldable pub rowsIn : List ℕ → ℕ
@@ -69,9 +73,9 @@ cleared (suc n) words = put (cleared n words) n 0
 unfoldable pub recordsCleared : List ℕ → List ℕ
 recordsCleared words = cleared records words
 
--- mark, places and limit
-unfoldable pub putOpening : List ℕ → ℕ → ℕ → List ℕ
-putOpening words places limit = put (put (put words atMark mark) atPlaces places) atLimit limit
+-- mark, places, limit and factors
+unfoldable pub putOpening : List ℕ → ℕ → ℕ → Scale → List ℕ
+putOpening words places limit scale = putScale (put (put (put words atMark mark) atPlaces places) atLimit limit) scale
 
 -- ---- the ranges of the fields (Rules 7.10)
 

@@ -1,4 +1,5 @@
 pub mod Counts
+pub mod Scale
 pub mod Station
 pub mod Track
 pub mod Counter

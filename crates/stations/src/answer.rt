@@ -3,6 +3,7 @@ use crate::station::has_station;
 use crate::station::read_state;
 use points::point::Point;
 use points::point::in_range;
+use points::square::MOST_SQUARE;
 use points::word::point_at;
 use points::word::word;
 use words::layout::MOST_CURVE;
@@ -145,7 +146,7 @@ pub fn answer_sound(answer: Answer) -> bool
     code_in(answer.code)
         & in_range(answer.point)
         & (answer.curve <= MOST_CURVE)
-        & (answer.square <= 11015800001)
+        & (answer.square <= MOST_SQUARE)
 }
 
 // Writes the answer of a station.

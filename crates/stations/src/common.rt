@@ -1,7 +1,11 @@
 // The common record: question 4, what opening writes of it, the check of its fields, and the places taken.
 use crate::counter::greatest_counter;
 use crate::counts::read_counts;
+use crate::scale::read_scale;
+use crate::scale::write_scale;
 use crate::track::read_track;
+use points::scale::Scale;
+use points::scale::factors_in;
 use words::layout::AT_LIMIT;
 use words::layout::AT_MARK;
 use words::layout::AT_PLACES;
@@ -22,7 +26,7 @@ ghost use Rattle.stations.specs.Common.{placesIn, limitIn, placesAt, lim
 ghost use Rattle.stations.specs.Common.{countsIn, countersIn, sinceIn, trackIn, tracksIn, commonSound, leastFour, leastSince, awaitingIn, takenIn};
 
 // The mark that opening writes.
-const MARK: u32 = 1279683399;
+const MARK: u32 = 1279683400;
 
 // Places are 1 to 4,096.
 pub fn places_in(places: u32) -> bool
@@ -52,11 +56,15 @@ pub fn read_limit(words: &[u32]) -> u32
     get(words, AT_LIMIT)
 }
 
-// Whether mark, places, limit and size are those of an opened slice.
-fn open_in(first: u32, places: u32, limit: u32, size: usize) -> bool
-    ensures { λ r. ⌜ r ≡ openIn first places limit size ⌝ }
+// Whether mark, places, limit, factors and size are those of an opened slice.
+fn open_in(first: u32, places: u32, limit: u32, scale: Scale, size: usize) -> bool
+    ensures { λ r. ⌜ r ≡ openIn first places limit scale size ⌝ }
 {
-    (first == MARK) & places_in(places) & limit_in(limit) & (words_for(places) <= size)
+    (first == MARK)
+        & places_in(places)
+        & limit_in(limit)
+        & factors_in(scale)
+        & (words_for(places) <= size)
 }
 
 // Whether question 4 passes.
@@ -67,6 +75,7 @@ pub fn is_opened(words: &[u32]) -> bool
         get(words, AT_MARK),
         read_places(words),
         read_limit(words),
+        read_scale(words),
         words.len(),
     )
 }
@@ -90,13 +99,14 @@ pub fn clear_records(words: &mut [u32])
     }
 }
 
-// Writes mark, places and limit.
-pub fn write_opening(words: &mut [u32], places: u32, limit: u32)
-    ensures { λ _. ⌜ now (words .exit) ≡ putOpening (now (words .entry)) places limit ⌝ }
+// Writes mark, places, limit and factors.
+pub fn write_opening(words: &mut [u32], places: u32, limit: u32, scale: Scale)
+    ensures { λ _. ⌜ now (words .exit) ≡ putOpening (now (words .entry)) places limit scale ⌝ }
 {
     put(words, AT_MARK, MARK);
     put(words, AT_PLACES, places);
     put(words, AT_LIMIT, limit);
+    write_scale(words, scale);
 }
 
 // Whether counts, root, head and tail are in range; the changes are those of eight stations.

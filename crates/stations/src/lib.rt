@@ -4,6 +4,7 @@ pub mod call;
 pub mod common;
 pub mod counter;
 pub mod counts;
+pub mod scale;
 pub mod station;
 pub mod target;
 pub mod track;

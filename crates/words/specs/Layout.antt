@@ -61,6 +61,10 @@ atLimit = 2
 unfoldable pub atCounts : ℕ
 atCounts = 3
 
+-- the four factors of the opening: weight, moisture, speed, draw
+unfoldable pub atScale : ℕ
+atScale = 48
+
 -- the row of the tree where the call of station s stands
 unfoldable pub atCursor : ℕ → ℕ
 atCursor s = 16 + s

@@ -48,3 +48,7 @@ unsound = 11
 -- no answer waits
 abbrev pub nothingWaits : ℕ
 nothingWaits = 12
+
+-- a factor is out of range
+abbrev pub badFactor : ℕ
+badFactor = 17

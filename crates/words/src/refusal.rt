@@ -35,3 +35,6 @@ pub const UNSOUND: u32 = 11;
 
 // No answer waits.
 pub const NOTHING_WAITS: u32 = 12;
+
+// A factor is out of range.
+pub const BAD_FACTOR: u32 = 17;

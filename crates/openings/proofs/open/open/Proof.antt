@@ -15,7 +15,7 @@ open-words-requires c κs =
     let t = c .before in
     let o = t .before in
     let a = o .before .before .before .args in
-    places-tells (a .places) (open-places _ (a .places) (a .limit) (sym (o .open-question .ensures) ∙ t .if1 .taken))
+    places-tells (a .places) (open-places _ (a .places) (a .limit) (a .scale) (sym (o .open-question .ensures) ∙ t .if1 .taken))
 
 same-length : tie.Need-same-length
 same-length c = search needs

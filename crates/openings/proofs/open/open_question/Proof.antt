@@ -2,6 +2,12 @@
 use borrow.Author.Needs.{needs}
 use Rattle.openings.proofs.open.open_question.Statement.{statement}
 use Rattle.openings.proofs.open.open_question.Tie as tie
+use mathlib.Core.Path.{_∙_}
+use mathlib.Core.Bool.{cond}
+use lib.ListN.{length}
+use lib.Dec.{leb}
+use denote.Ref.{now}
+use Rattle.words.specs.Refusal.{badPlaces, badLimit, badFactor, shortSlice}
 use Rattle.calls.specs.Open.{openQuestion}
 
 words-for-requires : tie.Need-words-for-requires
@@ -10,21 +16,36 @@ words-for-requires c κs = search needs
 pick-requires : tie.Need-pick-requires
 pick-requires c κs = search needs
 
-limit-in-requires : tie.Need-limit-in-requires
-limit-in-requires c κs = search needs
+factors-in-requires : tie.Need-factors-in-requires
+factors-in-requires c κs = search needs
 
 pick-requires-2 : tie.Need-pick-requires-2
 pick-requires-2 c κs = search needs
 
-places-in-requires : tie.Need-places-in-requires
-places-in-requires c κs = search needs
+limit-in-requires : tie.Need-limit-in-requires
+limit-in-requires c κs = search needs
 
 pick-requires-3 : tie.Need-pick-requires-3
 pick-requires-3 c κs = search needs
 
+places-in-requires : tie.Need-places-in-requires
+places-in-requires c κs = search needs
+
+pick-requires-4 : tie.Need-pick-requires-4
+pick-requires-4 c κs = search needs
+
 returns : tie.Need-returns
 unfolding openQuestion
-returns c = cc
+returns c =
+    let p = c .before in
+    let l = p .before .before in
+    let f = l .before .before in
+    let w = f .before .before in
+    let words = now (w .before .before .args .words) in
+    let third = f .before .pick .ensures ∙ (λ i. cond (leb (w .words-for .ensures i) (length words)) 0 shortSlice) in
+    let factors = l .before .pick2 .ensures ∙ (λ i. cond (f .factors-in .ensures i) (third i) badFactor) in
+    let second = p .before .pick3 .ensures ∙ (λ i. cond (l .limit-in .ensures i) (factors i) badLimit) in
+    c .pick4 .ensures ∙ (λ i. cond (p .places-in .ensures i) (second i) badPlaces)
 
 pub open-question-spec : {M : Type 1} → statement M
 open-question-spec =
@@ -32,8 +53,10 @@ open-question-spec =
     (tie.spec
     words-for-requires
     pick-requires
-    limit-in-requires
+    factors-in-requires
     pick-requires-2
-    places-in-requires
+    limit-in-requires
     pick-requires-3
+    places-in-requires
+    pick-requires-4
     returns)

@@ -6,8 +6,8 @@ use mathlib.Core.Path.{_≡_, sym, ap, _∙_}
 use mathlib.Core.List.{List}
 use Prim.Native.Nat.{ℕ, _≤_, _-_}
 use native.Mathlib.Omega.{arith}
-use Rattle.stations.specs.declared.call.Call.{Call}
 use Rattle.rows.specs.Grades.{slotOf}
+use Rattle.calls.specs.declared.aim.Aim.{Aim}
 use Rattle.calls.specs.declared.progress.Progress.{Progress}
 use Rattle.calls.specs.declared.reached.Reached.{Reached}
 use Rattle.calls.specs.Search.{toursOf, seek}
@@ -17,22 +17,22 @@ use Rattle.calls.specs.Reached.{reachedAt}
 use Rattle.calls.proofs.TourLaws.{moved-more}
 
 -- all the tours of a step
-seek-is : (words : List ℕ) (rows : ℕ) (call : Call) (p looked : Progress) (slot most tours : ℕ)
-    → slot ≡ slotOf (call .point) → most ≡ toursOf (p .missed) → looked ≡ look words rows call p → tours ≡ most
-    → toured words rows slot call tours looked ≡ seek words rows call p
+seek-is : (words : List ℕ) (rows : ℕ) (aim : Aim) (p looked : Progress) (slot most tours : ℕ)
+    → slot ≡ slotOf (aim .point) → most ≡ toursOf (p .missed) → looked ≡ look words rows aim p → tours ≡ most
+    → toured words rows slot aim tours looked ≡ seek words rows aim p
 unfolding seek
-seek-is words rows call p looked slot most tours a b d e = rw (e, b, a, d)
+seek-is words rows aim p looked slot most tours a b d e = rw (e, b, a, d)
 
 -- the moves begin at what the look left
-begun : (words : List ℕ) (rows : ℕ) (p : Progress) (reached : Reached) → reached ≡ reachedAt words rows p → reached ≡ reachedAt words rows (reached .progress)
-begun words rows p reached e = e ∙ ap (λ (q : Progress). reachedAt words rows q) (sym (ap (λ (r : Reached). r .progress) e))
+begun : (words : List ℕ) (rows : ℕ) (aim : Aim) (p : Progress) (reached : Reached) → reached ≡ reachedAt words rows aim p → reached ≡ reachedAt words rows aim (reached .progress)
+begun words rows aim p reached e = e ∙ ap (λ (q : Progress). reachedAt words rows aim q) (sym (ap (λ (r : Reached). r .progress) e))
 
 abbrev Inv-loop : tie.InvT-loop
-Inv-loop words rows call slot most reached₀ tours₀ reached tours =
-    (tours ≤ most) × (reached ≡ reachedAt words rows (toured words rows slot call tours (reached₀ .progress)))
+Inv-loop words rows aim slot most reached₀ tours₀ reached tours =
+    (tours ≤ most) × (reached ≡ reachedAt words rows aim (toured words rows slot aim tours (reached₀ .progress)))
 
 abbrev μ-loop : tie.MeasureT-loop
-μ-loop words rows call slot most reached₀ tours₀ reached tours = most - tours
+μ-loop words rows aim slot most reached₀ tours₀ reached tours = most - tours
 
 slot-of-requires : tie.Need-slot-of-requires Inv-loop μ-loop
 slot-of-requires c κs = search needs
@@ -48,7 +48,9 @@ reached-at-requires c κs = search needs
 
 loop-holds : tie.Need-loop-holds Inv-loop μ-loop
 unfolding toured
-loop-holds c = (omega arith, begun _ _ _ _ (c .reached-at .ensures))
+loop-holds c =
+    let s = c .before .before .before .before .before .before in
+    (omega arith, begun _ _ (s .args .aim) _ _ (c .reached-at .ensures))
 
 tour-requires : tie.Need-tour-requires Inv-loop μ-loop
 tour-requires c κs = search needs

@@ -11,7 +11,7 @@ onward-requires : tie.Need-onward-requires
 onward-requires c κs = search needs
 
 returns : tie.Need-returns
-returns c = ap (λ (q : Progress). reaching q NONE) (c .onward .ensures)
+returns c = ap (λ (q : Progress). reaching q NONE (c .before .args .square)) (c .onward .ensures)
 
 pub go-to-spec : {M : Type 1} → statement M
 go-to-spec = tie.close (tie.spec onward-requires returns)

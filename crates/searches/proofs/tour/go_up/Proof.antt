@@ -10,7 +10,7 @@ onward-requires : tie.Need-onward-requires
 onward-requires c κs = search needs
 
 returns : tie.Need-returns
-returns c = ap (λ (q : Progress). reaching q (c .before .args .parent)) (c .onward .ensures)
+returns c = ap (λ (q : Progress). reaching q (c .before .args .parent) (c .before .args .square)) (c .onward .ensures)
 
 pub go-up-spec : {M : Type 1} → statement M
 go-up-spec = tie.close (tie.spec onward-requires returns)

@@ -10,7 +10,7 @@ strayed-requires : tie.Need-strayed-requires
 strayed-requires c κs = search needs
 
 returns : tie.Need-returns
-returns c = ap (λ (q : Progress). reaching q (c .before .args .above)) (c .strayed .ensures)
+returns c = ap (λ (q : Progress). reaching q (c .before .args .above) (c .before .args .square)) (c .strayed .ensures)
 
 pub refused-spec : {M : Type 1} → statement M
 refused-spec = tie.close (tie.spec strayed-requires returns)

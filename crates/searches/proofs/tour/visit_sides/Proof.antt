@@ -27,17 +27,17 @@ returns : tie.Need-returns
 returns c =
     let t = c .before in
     let a = t .before in
-    let s = a .before .before .before .before .before .args in
-    simp (sym (ap (λ (g : Bool). eqb (s .p .phase) 0 && g) (a .admits .ensures)) ∙ t .if1 .taken) cc
+    let s = a .before .before .before .before .before .before .args in
+    simp (sym (ap (λ (g : Bool). eqb (s .reached .progress .phase) 0 && g) (a .admits .ensures)) ∙ t .if1 .taken) cc
 
 returns-2 : tie.Need-returns-2
 returns-2 c =
     let t = c .before in
     let a = t .before in
-    let s = a .before .before .before .before .before .args in
-    simp (sym (ap (λ (g : Bool). eqb (s .p .phase) 0 && g) (a .admits .ensures)) ∙ t .if1 .left)
+    let s = a .before .before .before .before .before .before .args in
+    simp (sym (ap (λ (g : Bool). eqb (s .reached .progress .phase) 0 && g) (a .admits .ensures)) ∙ t .if1 .left)
     (c .past-side .ensures
-    ∙ (λ i. pastSide (now (s .words)) (s .slot) (s .call) (s .p) (s .above) (s .x) (s .parent) (a .before .before .before .child-at .ensures i) (a .before .before .child-at2 .ensures i) (s .cut) (s .goes)))
+    ∙ (λ i. pastSide (now (s .words)) (s .slot) (s .aim) (s .reached) (s .x) (s .parent) (a .before .before .before .child-at .ensures i) (a .before .before .child-at2 .ensures i) (s .cut) (s .goes)))
 
 pub visit-sides-spec : {M : Type 1} → statement M
 visit-sides-spec =

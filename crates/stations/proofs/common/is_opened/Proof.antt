@@ -16,14 +16,17 @@ read-places-requires c κs = search needs
 read-limit-requires : tie.Need-read-limit-requires
 read-limit-requires c κs = search needs
 
+read-scale-requires : tie.Need-read-scale-requires
+read-scale-requires c κs = search needs
+
 open-in-requires : tie.Need-open-in-requires
 open-in-requires c κs = search needs
 
 returns : tie.Need-returns
 unfolding markAt atMark
-returns c = let e = opened-is (now (c .before .before .before .before .before .args .words)) in cc
+returns c = let e = opened-is (now (c .before .before .before .before .before .before .args .words)) in cc
 
 pub is-opened-spec : {M : Type 1} → statement M
 is-opened-spec =
     tie.close
-    (tie.spec get-requires read-places-requires read-limit-requires open-in-requires returns)
+    (tie.spec get-requires read-places-requires read-limit-requires read-scale-requires open-in-requires returns)

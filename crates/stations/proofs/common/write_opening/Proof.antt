@@ -14,6 +14,9 @@ put-requires-2 c κs = search needs
 put-requires-3 : tie.Need-put-requires-3
 put-requires-3 c κs = search needs
 
+write-scale-requires : tie.Need-write-scale-requires
+write-scale-requires c κs = search needs
+
 same-length : tie.Need-same-length
 same-length c = search needs
 
@@ -23,4 +26,4 @@ returns c = cc
 
 pub write-opening-spec : {M : Type 1} → statement M
 write-opening-spec =
-    tie.close (tie.spec put-requires put-requires-2 put-requires-3 same-length returns)
+    tie.close (tie.spec put-requires put-requires-2 put-requires-3 write-scale-requires same-length returns)

@@ -1,0 +1,46 @@
+// The scale of the common record: the factors of the opening, in four words one after the other.
+use points::scale::Scale;
+use words::layout::AT_SCALE;
+use words::layout::COMMON_SIZE;
+use words::part::write_part;
+use words::word::get;
+ghost use mathlib.Core.Path.{_≡_};
+ghost use Rattle.stations.specs.Scale.{scaleAt, scaleWords, putScale};
+
+// The scale; four zeros where the slice is too short for the common record. The length is asked once, so that the four words are read without asking again.
+pub fn read_scale(words: &[u32]) -> Scale
+    ensures { λ r. ⌜ r ≡ scaleAt (now (words .entry)) ⌝ }
+{
+    if COMMON_SIZE <= words.len() {
+        Scale {
+            weight: get(words, AT_SCALE),
+            moisture: get(words, AT_SCALE + 1),
+            speed: get(words, AT_SCALE + 2),
+            draw: get(words, AT_SCALE + 3),
+        }
+    } else {
+        Scale {
+            weight: 0,
+            moisture: 0,
+            speed: 0,
+            draw: 0,
+        }
+    }
+}
+
+// Its four words.
+fn scale_words(scale: Scale) -> [u32; 4]
+    ensures { λ r. ⌜ r ≡ scaleWords scale ⌝ }
+{
+    [scale.weight, scale.moisture, scale.speed, scale.draw]
+}
+
+// Writes the scale; nothing where the slice is too short for the common record.
+pub fn write_scale(words: &mut [u32], scale: Scale)
+    ensures { λ _. ⌜ now (words .exit) ≡ putScale (now (words .entry)) scale ⌝ }
+{
+    if COMMON_SIZE <= words.len() {
+        let from = scale_words(scale);
+        write_part(words, AT_SCALE, &from[..]);
+    }
+}
