@@ -87,9 +87,9 @@ module _ {M : Type 1} (𝓤 : URA M) (H : Heap 𝓤) (A : Atoms 𝓤) (mem : Mem
   abbrev Promise : {T : Ended} {κs : Lfts (T .signature .lifetimes)} → (Res (T .signature) κs → AtExit T κs → Type 0) → ClausesAt 𝓤 T κs
   Promise says = record { ghost = Unit {0}; requires = λ g. ⊤ₛ; ensures = λ g r end. ⌜ says r end ⌝ }
 
-  -- opening: words, places, limit
+  -- opening: words, places, limit, factors
   pub open-contract : (κs : _) (args : _)
-      → open.clauses 𝓤 H A mem does κs args ≡ Promise (λ r end. replied r (now (end .0)) ≡ openOf (now (args .0)) (args .1 .0) (args .1 .1 .0))
+      → open.clauses 𝓤 H A mem does κs args ≡ Promise (λ r end. replied r (now (end .0)) ≡ openOf (now (args .0)) (args .1 .0) (args .1 .1 .0) (args .1 .1 .1 .0))
   open-contract κs args = refl
 
   -- submission: words, station, kind, point, curve

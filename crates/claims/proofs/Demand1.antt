@@ -10,11 +10,11 @@ use mathlib.Core.Bool.{Bool, true, false, cond, _&&_}
 use mathlib.Core.List.{List, [], _∷_, List·Memᴰ}
 use lib.Dec.{leb, ltb}
 use lib.ListN.{length, drop, replicate}
-use Rattle.claims.specs.Definitions.{Point, inRange, wordsFor, placesIn, limitIn, openedIn, isIdle, isUnfinished, stateAt, waitingAt}
+use Rattle.claims.specs.Definitions.{Scale, factorsIn, plainScale, Point, inRange, wordsFor, placesIn, limitIn, openedIn, isIdle, isUnfinished, stateAt, waitingAt}
 use Rattle.claims.specs.Definitions.{isOpened, rowsIn, openOf, kindIn, curveFits, submitOf, recordsSound, stepOf, isGiven, takeOf, numberOf, takeWords, withdrawOf}
 use Rattle.claims.specs.Definitions.{part, atRow, rowOf, inRows, Need, rowsOf, stepNeeds, rowsSound, reportOf, verdictOf, asked, firstNo}
-use Rattle.claims.specs.Definitions.{Frame, Open, Submit, Step, Take, Run, Withdraw, Refused as Unread, isKind, isWhole, hasKind, ownLength, frameQuestion, readOf, readingNumber}
-use Rattle.claims.specs.Definitions.{positionAfter, Fields, padded, writtenBytes, writeOf, pointOf, submissionReply, applyOf, appliedNumber, applyWords, lineWords}
+use Rattle.claims.specs.Definitions.{Frame, Open, Submit, Step, Take, Run, OpenScaled, Withdraw, Refused as Unread, isKind, isWhole, hasKind, ownLength, frameQuestion, readOf, readingNumber}
+use Rattle.claims.specs.Definitions.{positionAfter, Fields, padded, writtenBytes, writeOf, pointOf, scaleOf, submissionReply, applyOf, appliedNumber, applyWords, lineWords}
 use borrow.Author.Tests.{lt-ltb}
 use Rattle.rows.proofs.RowLaws.{row-exact}
 use Rattle.calls.proofs.Conjunctions.{and-false}
@@ -25,9 +25,9 @@ use Rattle.lines.proofs.LineLaws
 
 -- ---- the number of the first check it fails
 
--- opening: questions 1 to 3 (Rules 7.3)
-pub open-number : (words : List ℕ) (places limit : ℕ)
-    → openOf words places limit .number ≡ firstNo (asked (placesIn places) 1 ∷ asked (limitIn limit) 2 ∷ asked (leb (wordsFor places) (length words)) 3 ∷ [])
+-- opening: questions 1, 2, 17 and 3 (Rules 7.3)
+pub open-number : (words : List ℕ) (places limit : ℕ) (scale : Scale)
+    → openOf words places limit scale .number ≡ firstNo (asked (placesIn places) 1 ∷ asked (limitIn limit) 2 ∷ asked (factorsIn scale) 17 ∷ asked (leb (wordsFor places) (length words)) 3 ∷ [])
 open-number = Refused.open-number
 
 -- submission: questions 4 and 5, as every call that names a station asks them (Rules 7.5, 7.6), then 6 to 9 (Rules 7.7)
@@ -82,7 +82,7 @@ audit-number = Refused.audit-number
 -- ---- "a refused call changes no word"
 
 -- a refused opening
-pub open-refused : (words : List ℕ) (places limit : ℕ) → ¬ (openOf words places limit .number ≡ 0) → openOf words places limit .words ≡ words
+pub open-refused : (words : List ℕ) (places limit : ℕ) (scale : Scale) → ¬ (openOf words places limit scale .number ≡ 0) → openOf words places limit scale .words ≡ words
 open-refused = Refused.open-refused
 
 -- a refused submission
@@ -151,14 +151,16 @@ IsRun (Submit s) = ⊥
 IsRun (Step station) = ⊥
 IsRun (Take station) = ⊥
 IsRun (Run station) = Unit {0}
+IsRun (OpenScaled places limit factors) = ⊥
 IsRun (Withdraw station) = ⊥
 
 -- A frame whose call is refused changes no word.
 pub applied-refused : (words : List ℕ) (frame : Frame) → ¬ IsRun frame → ¬ (appliedNumber (applyOf words frame) ≡ 0) → applyWords words frame ≡ words
 unfolding applyOf applyWords submissionReply
-applied-refused words (Open places limit) r n = open-refused words places limit n
+applied-refused words (Open places limit) r n = open-refused words places limit plainScale n
 applied-refused words (Submit s) r n = submit-refused words (s .station) (s .kind) (pointOf s) (s .curve) n
 applied-refused words (Step station) r n = step-refused words station n
 applied-refused words (Take station) r n = take-refused words station (λ e. n (LineLaws.taking-number (takeOf words station) ∙ e))
 applied-refused words (Run station) r n = absurd (r tt)
+applied-refused words (OpenScaled places limit factors) r n = open-refused words places limit (scaleOf factors) n
 applied-refused words (Withdraw station) r n = withdrawal-refused words station n

@@ -1,7 +1,7 @@
 -- Demand 2: "Each call run alone answers as a plain table of records does, after Definition 1 of the LFkD-tree paper: added unless held, removed only if held,
 -- and the nearest record of the same grade by squared distance over weight, moisture, speed and draw, the [heavier] on a tie. No room and changes spent are
 -- answered exactly under document 01's counts. Frames written read back as the same call; frames read write back as the same bytes." The
--- [heavier] wins by Rules 1.7; the counts are those of Rules 3.
+-- [heavier] wins by Rules 1.7; the counts are those of Rules 3; the squared distance goes by the factors of the opening (Rules 1.5).
 -- First the plain table's answers, one by one; then `demand-2`, that a call run alone after any history gives them; then frames.
 use Prim.Native.Nat.{ℕ, suc, _+_, _-_, _*_, _<_}
 use mathlib.Core.Path.{_≡_, refl}
@@ -10,10 +10,10 @@ use mathlib.Core.Bool.{true}
 use mathlib.Core.List.{List, _++_, List·Memᴰ}
 use lib.ListN.{length, drop, take as takeFirst}
 use mathlib.Core.Option.{Option, none, some}
-use Rattle.claims.specs.Definitions.{Point, squareOf, sameGrade, chosenOver, Chosen, Record, curveAt, Call, add, remove, contains, nearest, callOf, answer, isChange}
+use Rattle.claims.specs.Definitions.{Scale, Point, squareOf, sameGrade, chosenOver, Chosen, Record, curveAt, Call, add, remove, contains, nearest, callOf, answer, isChange}
 use Rattle.claims.specs.Definitions.{counterAt, isUnfinished, stateAt, Table, busy, taken, answerOf, changedIf, Event, submit, done, openOf, submitOf, runOf, takeOf, takeWords}
 use Rattle.claims.specs.Definitions.{opened, givenBy, wordIndex, after, stepped, Frame, AllBytes, InWidth, Read, readOf, writtenOf}
-use Rattle.points.proofs.ChoiceLaws
+use Rattle.points.proofs.ScaleLaws
 use Rattle.table.proofs.Answers
 use Rattle.table.specs.Record.{nearestOf}
 use Rattle.table.specs.Call.{nearestAnswer}
@@ -66,23 +66,23 @@ module _ (t : Table) (s : ℕ) (p : Point) where
   contains-absent = Answers.contains-absent t s p
 
 -- The counter of another station has no part in an answer (Rules 3.2).
-pub own-counter : (t u : Table) (s : ℕ) (c : Call) → t .places ≡ u .places → t .limit ≡ u .limit → t .held ≡ u .held → t .counters s ≡ u .counters s → taken t ≡ taken u
+pub own-counter : (t u : Table) (s : ℕ) (c : Call) → t .places ≡ u .places → t .limit ≡ u .limit → t .scale ≡ u .scale → t .held ≡ u .held → t .counters s ≡ u .counters s → taken t ≡ taken u
     → answerOf t s c ≡ answerOf u s c
 own-counter = Answers.answer-own
 
--- the choice (Rules 1.6, 1.7): of two points the one with the smaller square is chosen; of two with the
+-- the choice (Rules 1.6, 1.7), by any factors: of two points the one with the smaller square is chosen; of two with the
 -- same square the one of the higher basis weight; of two with the same square and weight the lower, compared axis by axis
-pub chosen-exact : (target a b : Point) → (chosenOver target a b ≡ true) ↔ Chosen target a b
-chosen-exact = ChoiceLaws.chosen-exact
+pub chosen-exact : (scale : Scale) (target a b : Point) → (chosenOver scale target a b ≡ true) ↔ Chosen (squareOf scale) target a b
+chosen-exact = ScaleLaws.scale-exact
 
--- nearest (Rules 2.8), 8 with the record and the square: a held record of the grade, and "every other held record of the grade has a greater square, or the same
+-- nearest (Rules 2.8), 8 with the record and the square, by the factors of the opening: a held record of the grade, and "every other held record of the grade has a greater square, or the same
 -- and loses the tie" (Rules 4.10), so that the found one is chosen over it
 pub record Found (t : Table) (p : Point) : Type 0 where
   pub found : Record
   pub held : List·Memᴰ found (t .held)
   pub grade : sameGrade p (found .point) ≡ true
-  pub first : (q : Record) → List·Memᴰ q (t .held) → sameGrade p (q .point) ≡ true → ¬ (q .point ≡ found .point) → chosenOver p (found .point) (q .point) ≡ true
-  pub answers : (s : ℕ) → answerOf t s (nearest p) ≡ answer 8 (found .point) (found .curve) (squareOf p (found .point))
+  pub first : (q : Record) → List·Memᴰ q (t .held) → sameGrade p (q .point) ≡ true → ¬ (q .point ≡ found .point) → chosenOver (t .scale) p (found .point) (q .point) ≡ true
+  pub answers : (s : ℕ) → answerOf t s (nearest p) ≡ answer 8 (found .point) (found .curve) (squareOf (t .scale) p (found .point))
 
 -- "or 9 where the grade has no record" (Rules 2.8)
 pub record NoneFound (t : Table) (p : Point) : Type 0 where
@@ -92,11 +92,11 @@ pub record NoneFound (t : Table) (p : Point) : Type 0 where
 -- one of the two
 pub nearest-either : (t : Table) (p : Point) → Found t p ⊎ NoneFound t p
 unfolding answerOf nearestAnswer
-nearest-either t p = go (nearestOf p (t .held)) refl
+nearest-either t p = go (nearestOf (t .scale) p (t .held)) refl
   where
-    go : (x : Option Record) → nearestOf p (t .held) ≡ x → Found t p ⊎ NoneFound t p
-    go (some r) e = let n = nearest-some p (t .held) r e in inl (record { found = r; held = n .mem; grade = n .grade; first = n .first; answers = λ s. rw (e, nearestAnswer) })
-    go none e = inr (record { grade = nearest-none p (t .held) e; answers = λ s. rw (e, nearestAnswer) })
+    go : (x : Option Record) → nearestOf (t .scale) p (t .held) ≡ x → Found t p ⊎ NoneFound t p
+    go (some r) e = let n = nearest-some (t .scale) p (t .held) r e in inl (record { found = r; held = n .mem; grade = n .grade; first = n .first; answers = λ s. rw (e, nearestAnswer) })
+    go none e = inr (record { grade = nearest-none (t .scale) p (t .held) e; answers = λ s. rw (e, nearestAnswer) })
 
 -- ---- a call run alone
 
@@ -115,8 +115,8 @@ pub record RunsAlone (words : List ℕ) (t : Table) (places s kind : ℕ) (p : P
   pub left : Agrees (takeWords (runOf (begun words s kind p c) s .words) s) (changedIf (isChange (answerOf t s (callOf kind p c))) t s (callOf kind p c))
 
 -- there are moments as demand 3 wants them; submission refuses what their table at the end refuses, and a call that it accepts, run alone, answers as this table
-pub record AnswersAsTable (start : List ℕ) (places limit : ℕ) (evs : List Event) : Type 0 where
-  pub history : Moments start places limit evs
+pub record AnswersAsTable (start : List ℕ) (places limit : ℕ) (scale : Scale) (evs : List Event) : Type 0 where
+  pub history : Moments start places limit scale evs
   pub submits : (s kind : ℕ) (p : Point) (c : ℕ) → submitOf (after evs start) s kind p c .number ≡ submit (history .table evs) s kind p c .number
   -- the state word of a station says unfinished exactly if the table does, so that `solo` of Demand3.antt speaks of the table's unfinished calls
   pub unfinished : (s : ℕ) → s < 8 → isUnfinished (stateAt (after evs start) s) ≡ busy (history .table evs .stations s)
@@ -125,13 +125,13 @@ pub record AnswersAsTable (start : List ℕ) (places limit : ℕ) (evs : List Ev
   pub alone : (s kind : ℕ) (p : Point) (c : ℕ) → submitOf (after evs start) s kind p c .number ≡ 0 → RunsAlone (after evs start) (history .table evs) places s kind p c
 
 -- "Each call run alone answers as a plain table of records does": after every history from an accepted opening.
-pub demand-2 : (words : List ℕ) (places limit : ℕ) → openOf words places limit .number ≡ 0 → (evs : List Event) → AnswersAsTable (openOf words places limit .words) places limit evs
+pub demand-2 : (words : List ℕ) (places limit : ℕ) (scale : Scale) → openOf words places limit scale .number ≡ 0 → (evs : List Event) → AnswersAsTable (openOf words places limit scale .words) places limit scale evs
 unfolding moments-of
-demand-2 words places limit e evs =
-    let start = openOf words places limit .words in
-    let x = demand-2-alone words places limit e evs in
-    let h : Moments start places limit evs = moments-of start places limit evs (x .moments) (x .follows) in
-    let same : h .table evs ≡ x .table = last-at wordIndex (λ s. ⊥) start (opened places limit) evs (x .moments) (x .follows) (x .table) (x .ends) in
+demand-2 words places limit scale e evs =
+    let start = openOf words places limit scale .words in
+    let x = demand-2-alone words places limit scale e evs in
+    let h : Moments start places limit scale evs = moments-of start places limit scale evs (x .moments) (x .follows) in
+    let same : h .table evs ≡ x .table = last-at wordIndex (λ s. ⊥) start (opened places limit scale) evs (x .moments) (x .follows) (x .table) (x .ends) in
     record {
       history = h;
       submits = λ s kind p c. rw same (x .submits s kind p c);
@@ -140,7 +140,7 @@ demand-2 words places limit e evs =
       alone = λ s kind p c a.
           let y = x .alone s kind p c a in
           let b : List ℕ = begun (after evs start) s kind p c in
-          let r : runOf b s ≡ done (stepped (suc (y .before)) b s) = run-alone words places limit e evs s kind p c (y .before) (y .few) (y .answered) in
+          let r : runOf b s ≡ done (stepped (suc (y .before)) b s) = run-alone words places limit scale e evs s kind p c (y .before) (y .few) (y .answered) in
           rw same
           (record {
             steps = y .before;

@@ -9,7 +9,7 @@ use mathlib.Core.Bool.{Bool, true, false, _&&_}
 use mathlib.Core.List.{List, [], _∷_, _++_, map}
 use mathlib.Core.Option.{Option, none, some, IsSome}
 use lib.Dec.{eqb}
-use Rattle.claims.specs.Definitions.{Point, isUnfinished, stateAt, Same, Once, Call, Answer, Table, unfinished, opened, taken, Event, submission, singleStep, taking, withdrawal}
+use Rattle.claims.specs.Definitions.{Scale, Point, isUnfinished, stateAt, Same, Once, Call, Answer, Table, unfinished, opened, taken, Event, submission, singleStep, taking, withdrawal}
 use Rattle.claims.specs.Definitions.{Reply, take, feed, CanChange, reply, answered, openOf, submitOf, stepOf, takeOf, numberOf, withdrawOf, reportOf, heldIn}
 use Rattle.claims.specs.Definitions.{recordOf, givenBy, wordIndex, after, stepped}
 use Rattle.history.proofs.Demand3.{demand-3 as demand-3-follows}
@@ -71,12 +71,12 @@ pub record TookEffect (start : List ℕ) (evs : List Event) (s : ℕ) : Type 0 w
       → ¬ (submitOf (after between (stepOf (after before start) s .words)) s kind p c .number ≡ 0)
 
 -- there are moments such that the plain table says the same throughout
-pub record Moments (start : List ℕ) (places limit : ℕ) (evs : List Event) : Type 0 where
+pub record Moments (start : List ℕ) (places limit : ℕ) (scale : Scale) (evs : List Event) : Type 0 where
   -- at the event that comes after the events `before` the calls of these stations have their moment, in this order
   pub moments : List Event → List ℕ
   -- the plain table after the events `before`; "At first nothing is held or counted, and all stations are idle" (Rules 4.6)
   pub table : List Event → Table
-  pub first : table [] ≡ opened places limit
+  pub first : table [] ≡ opened places limit scale
   -- before the first event and after each
   pub agrees : (before rest : List Event) → before ++ rest ≡ evs → Agrees (after before start) (table before)
   -- at each event
@@ -98,16 +98,16 @@ fed-with (taking s) x = record { fed = x .reply-table; defined = x .defined; lea
 fed-with (withdrawal s) x = record { fed = x .reply-table; defined = x .defined; leaves = x .next; number = x .number; given = x .given }
 
 -- a history that the table follows has such moments
-unfoldable pub moments-of : (start : List ℕ) (places limit : ℕ) (evs : List Event) (mss : List (List ℕ)) → Follows wordIndex (λ s. ⊥) start (opened places limit) evs mss → Moments start places limit evs
+unfoldable pub moments-of : (start : List ℕ) (places limit : ℕ) (scale : Scale) (evs : List Event) (mss : List (List ℕ)) → Follows wordIndex (λ s. ⊥) start (opened places limit scale) evs mss → Moments start places limit scale evs
 unfolding after
-moments-of start places limit evs mss f = record {
+moments-of start places limit scale evs mss f = record {
   moments = momentsAt wordIndex mss;
-  table = tableAt wordIndex (λ s. ⊥) start (opened places limit) evs mss f;
-  first = table-first wordIndex (λ s. ⊥) start (opened places limit) evs mss f;
-  agrees = λ before rest q. agrees-with (agree-at wordIndex (λ s. ⊥) start (opened places limit) evs mss f before rest q);
-  feeds = λ before ev rest q. fed-with ev (fed-at wordIndex (λ s. ⊥) start (opened places limit) evs mss f before ev rest q);
+  table = tableAt wordIndex (λ s. ⊥) start (opened places limit scale) evs mss f;
+  first = table-first wordIndex (λ s. ⊥) start (opened places limit scale) evs mss f;
+  agrees = λ before rest q. agrees-with (agree-at wordIndex (λ s. ⊥) start (opened places limit scale) evs mss f before rest q);
+  feeds = λ before ev rest q. fed-with ev (fed-at wordIndex (λ s. ⊥) start (opened places limit scale) evs mss f before ev rest q);
   ended = λ s i c o e.
-      let x = end-at wordIndex (λ s. ⊥) start (opened places limit) evs mss f s i c o e in
+      let x = end-at wordIndex (λ s. ⊥) start (opened places limit scale) evs mss f s i c o e in
       let y = effect-told wordIndex s start evs in (
         λ h. let z = x .0 h in let w = y .0 (z .1) in (z .0, record { before = w .before; rest = w .rest; splits = w .splits; changed = w .changed; since = w .since }),
         λ h. let w = h .1 in x .1 (h .0, y .1 (record { before = w .before; rest = w .rest; splits = w .splits; changed = w .changed; since = w .since })),
@@ -118,10 +118,10 @@ moments-of start places limit evs mss f = record {
 -- answer, so that every refusal, every answer, waiting or taken, and the records held after each event are those of document 01's plain table, fed these
 -- events and moments in order." The table is that of Rules 4. A call that was withdrawn before it took effect "has no part in the order of moments" (Rules 4.2):
 -- the table is undefined where a moment was given to it, and `Fed` says that it is defined.
-pub demand-3 : (words : List ℕ) (places limit : ℕ) → openOf words places limit .number ≡ 0 → (evs : List Event) → Moments (openOf words places limit .words) places limit evs
-demand-3 words places limit e evs =
-    let m = demand-3-follows words places limit e evs in
-    moments-of (openOf words places limit .words) places limit evs (m .0) (m .1)
+pub demand-3 : (words : List ℕ) (places limit : ℕ) (scale : Scale) → openOf words places limit scale .number ≡ 0 → (evs : List Event) → Moments (openOf words places limit scale .words) places limit scale evs
+demand-3 words places limit scale e evs =
+    let m = demand-3-follows words places limit scale e evs in
+    moments-of (openOf words places limit scale .words) places limit scale evs (m .0) (m .1)
 
 -- ---- alone
 
@@ -133,10 +133,10 @@ pub record AnsweredAt (words : List ℕ) (s n : ℕ) : Type 0 where
 
 -- Demand 3: "After every history, a station with an unfinished call, stepped while the others stand still, is answered within 16 × places + 64 steps." The state word is 1 exactly
 -- where the plain table has the call unfinished (`AnswersAsTable .unfinished` of Demand2.antt).
-pub solo : (words : List ℕ) (places limit : ℕ) → openOf words places limit .number ≡ 0 → (evs : List Event) (s : ℕ)
-    → isUnfinished (stateAt (after evs (openOf words places limit .words)) s) ≡ true
-    → (n : ℕ) × (n < 16 * places + 64) × AnsweredAt (after evs (openOf words places limit .words)) s n
-solo words places limit e evs s u =
-    let w = solo-steps words places limit e evs s u in
-    let v = after evs (openOf words places limit .words) in
+pub solo : (words : List ℕ) (places limit : ℕ) (scale : Scale) → openOf words places limit scale .number ≡ 0 → (evs : List Event) (s : ℕ)
+    → isUnfinished (stateAt (after evs (openOf words places limit scale .words)) s) ≡ true
+    → (n : ℕ) × (n < 16 * places + 64) × AnsweredAt (after evs (openOf words places limit scale .words)) s n
+solo words places limit scale e evs s u =
+    let w = solo-steps words places limit scale e evs s u in
+    let v = after evs (openOf words places limit scale .words) in
     (w .0, w .1, record { accepted = steps-accepted (w .0) v s (w .2); unanswered = steps-unanswered (w .0) v s (w .2); answers = steps-answered (w .0) v s (w .2) })

@@ -1,6 +1,6 @@
--- What the rules say besides the demands: what an opening leaves (`opening-fresh`, `opening-again`, `opening-beyond`), the changes of each station (`changes-counted`), the report (`report-after`), the
+-- What the rules say besides the demands: what an opening leaves (`opening-fresh`, `opening-again`, `opening-beyond`, `opening-kept`), the changes of each station (`changes-counted`), the report (`report-after`), the
 -- audit (`audit-says`, `audit-exact`, `audit-after`), question 11 (`never-11`), runs (`run-is-steps`, `run-after`), the bytes of the frame runner (`runner-places`, `runner-prints`, `runner-ends`), ranges
--- (`point-ranges`, `square-most`) and the comparison of points (`comparison-tells`).
+-- (`point-ranges`, `factor-ranges`), squares (`square-sum`, `square-most`) and the comparison of points (`comparison-tells`).
 use Prim.Native.Nat.{ℕ, _+_, _*_, _≤_, _<_}
 use mathlib.Core.Path.{_≡_, refl, sym, ap, _∙_, subst}
 use mathlib.Core.Logic.{_⊎_, _↔_}
@@ -10,14 +10,16 @@ use lib.ListN.{length}
 use native.Mathlib.Omega.{arith}
 use lib.IntN.{pos, negsuc}
 use lib.Signed.{leZ}
+use lib.Dec.{leb}
 use Rattle.stations.specs.declared.counts.Counts.{Counts}
-use Rattle.claims.specs.Definitions.{Point, inRange, squareOf, orderOf, comparedOf, Looked}
+use Rattle.claims.specs.Definitions.{Scale, factorsIn, Point, inRange, squaredOf, squareOf, orderOf, comparedOf, Looked}
 use Rattle.claims.specs.Definitions.{get, rowAt, Spare, countsAt, counterAt, isIdle, isUnfinished, stateAt, Record, Table, opened, eight, total, taken, Event}
-use Rattle.claims.specs.Definitions.{limitIn, openOf, stepOf, runOf, takeOf, numberOf, reportOf, auditOf, verdictOf, heldIn, recordOf, after, firstNo, Audited, outputOf, begun, printed, lastOutput}
+use Rattle.claims.specs.Definitions.{limitIn, Opened, openedIn, openOf, stepOf, runOf, takeOf, numberOf, reportOf, auditOf, verdictOf, heldIn, recordOf, after, firstNo, Audited, outputOf, begun, printed, lastOutput}
 use Rattle.points.proofs.PointLaws
 use Rattle.stations.proofs.OpeningLaws.{places-of}
 use Rattle.table.proofs.Counters.{total-same}
-use Rattle.points.proofs.SquareLaws.{square-le}
+use Rattle.points.proofs.ScaleLaws
+use Rattle.points.proofs.SquareLaws
 use Rattle.points.proofs.ComparedLaws.{compared-tells}
 use Rattle.history.specs.View.{seatAt}
 use Rattle.history.proofs.OpenEffects.{OpenedAs, open-written}
@@ -44,12 +46,12 @@ pub record Fresh (words : List ℕ) (places : ℕ) : Type 0 where
   pub uncounted : (s : ℕ) → counterAt words s ≡ 0
 
 -- An accepted opening, also of an opened slice, leaves this (Rules 7.4): for all words, as `demand-3` is.
-pub opening-fresh : (words : List ℕ) (places limit : ℕ) → openOf words places limit .number ≡ 0 → Fresh (openOf words places limit .words) places
+pub opening-fresh : (words : List ℕ) (places limit : ℕ) (scale : Scale) → openOf words places limit scale .number ≡ 0 → Fresh (openOf words places limit scale .words) places
 unfolding opened seatAt
-opening-fresh words places limit e =
-    let a = accepted words places limit e in
-    let w : OpenedAs (openOf words places limit .words) places limit = rw (a .opens) (open-written words places limit (a .places-in) (a .limit-in) (a .long)) in
-    let m : Moments (openOf words places limit .words) places limit [] = demand-3 words places limit e [] in
+opening-fresh words places limit scale e =
+    let a = accepted words places limit scale e in
+    let w : OpenedAs (openOf words places limit scale .words) places limit scale = rw (a .opens) (open-written words places limit scale (a .places-in) (a .limit-in) (a .factors-in) (a .long)) in
+    let m : Moments (openOf words places limit scale .words) places limit scale [] = demand-3 words places limit scale e [] in
     record {
       held = λ r h. List·Memᴰ·not-nil (subst (λ (t : Table). List·Memᴰ r (t .held)) (m .first) (unfold after in (m .agrees [] [] refl .records r .0 h)));
       spare = λ r l. (_, w .rows r l);
@@ -59,25 +61,33 @@ opening-fresh words places limit e =
     }
 
 -- So an accepted opening of whatever a history left begins a new one, which agrees with a table of its own.
-pub opening-again : (words : List ℕ) (places limit : ℕ) (evs : List Event) (places′ limit′ : ℕ) → openOf (after evs (openOf words places limit .words)) places′ limit′ .number ≡ 0
-    → (evs′ : List Event) → Moments (openOf (after evs (openOf words places limit .words)) places′ limit′ .words) places′ limit′ evs′
-opening-again words places limit evs = demand-3 (after evs (openOf words places limit .words))
+pub opening-again : (words : List ℕ) (places limit : ℕ) (scale : Scale) (evs : List Event) (places′ limit′ : ℕ) (scale′ : Scale) → openOf (after evs (openOf words places limit scale .words)) places′ limit′ scale′ .number ≡ 0
+    → (evs′ : List Event) → Moments (openOf (after evs (openOf words places limit scale .words)) places′ limit′ scale′ .words) places′ limit′ scale′ evs′
+opening-again words places limit scale evs = demand-3 (after evs (openOf words places limit scale .words))
 
 -- words beyond the index stay (Rules 7.4)
-pub opening-beyond : (words : List ℕ) (places limit : ℕ) → openOf words places limit .number ≡ 0
-    → (length (openOf words places limit .words) ≡ length words) × ((k : ℕ) → 32 * places + 608 ≤ k → get (openOf words places limit .words) k ≡ get words k)
-opening-beyond words places limit e = let b = open-beyond words places limit e in (b .lengths, b .words)
+pub opening-beyond : (words : List ℕ) (places limit : ℕ) (scale : Scale) → openOf words places limit scale .number ≡ 0
+    → (length (openOf words places limit scale .words) ≡ length words) × ((k : ℕ) → 32 * places + 608 ≤ k → get (openOf words places limit scale .words) k ≡ get words k)
+opening-beyond words places limit scale e = let b = open-beyond words places limit scale e in (b .lengths, b .words)
+
+-- The places, the limit and the factors of an opening hold until the next: after every history question 4 finds them (Rules 3.1).
+pub opening-kept : (words : List ℕ) (places limit : ℕ) (scale : Scale) → openOf words places limit scale .number ≡ 0 → (evs : List Event)
+    → openedIn (after evs (openOf words places limit scale .words)) ≡ Opened places limit scale
+opening-kept words places limit scale e evs =
+    let a = accepted words places limit scale e in
+    let st : Stands (after evs (openOf words places limit scale .words)) places limit scale = rw (a .opens) (history-related words places limit scale a evs) in
+    st .related .opened ∙ (λ i. Opened (st .places-same i) (st .limit-same i) (st .scale-same i))
 
 -- ---- changes
 
 -- After every history no station has made more changes than the limit, and the changes that are counted are those of the eight stations (Rules 3.2).
-pub changes-counted : (words : List ℕ) (places limit : ℕ) → openOf words places limit .number ≡ 0 → (evs : List Event)
-    → (countsAt (after evs (openOf words places limit .words)) .changes ≡ total eight (counterAt (after evs (openOf words places limit .words))))
-    × ((s : ℕ) → s < 8 → counterAt (after evs (openOf words places limit .words)) s ≤ limit)
-changes-counted words places limit e evs =
-    let a = accepted words places limit e in
-    let v : List ℕ = after evs (openOf words places limit .words) in
-    let st : Stands v places limit = rw (a .opens) (history-related words places limit a evs) in (
+pub changes-counted : (words : List ℕ) (places limit : ℕ) (scale : Scale) → openOf words places limit scale .number ≡ 0 → (evs : List Event)
+    → (countsAt (after evs (openOf words places limit scale .words)) .changes ≡ total eight (counterAt (after evs (openOf words places limit scale .words))))
+    × ((s : ℕ) → s < 8 → counterAt (after evs (openOf words places limit scale .words)) s ≤ limit)
+changes-counted words places limit scale e evs =
+    let a = accepted words places limit scale e in
+    let v : List ℕ = after evs (openOf words places limit scale .words) in
+    let st : Stands v places limit scale = rw (a .opens) (history-related words places limit scale a evs) in (
       st .related .counted .changes ∙ total-same (st .table .counters) (counterAt v) (λ s l. sym (st .related .counters s l)),
       λ s l. omega (arith, st .related .counters s l, st .sound .spent s, st .limit-same),
     )
@@ -86,15 +96,15 @@ changes-counted words places limit e evs =
 
 -- After a history the number that a report gives is that of the plain table (Rules 3.6). It is not refused, and the
 -- number is that of the table of `demand-3` at the end.
-pub report-after : (words : List ℕ) (places limit : ℕ) (e : openOf words places limit .number ≡ 0) (evs : List Event)
-    → (reportOf (after evs (openOf words places limit .words)) .number ≡ 0)
-    × (reportOf (after evs (openOf words places limit .words)) .taken ≡ taken (demand-3 words places limit e evs .table evs))
+pub report-after : (words : List ℕ) (places limit : ℕ) (scale : Scale) (e : openOf words places limit scale .number ≡ 0) (evs : List Event)
+    → (reportOf (after evs (openOf words places limit scale .words)) .number ≡ 0)
+    × (reportOf (after evs (openOf words places limit scale .words)) .taken ≡ taken (demand-3 words places limit scale e evs .table evs))
 unfolding firstNo
-report-after words places limit e evs =
-    let a = accepted words places limit e in
-    let v : List ℕ = after evs (openOf words places limit .words) in
-    let st : Stands v places limit = rw (a .opens) (history-related words places limit a evs) in
-    (report-number v ∙ rw (st .related .opened), demand-3 words places limit e evs .agrees evs [] (append-nil evs) .places)
+report-after words places limit scale e evs =
+    let a = accepted words places limit scale e in
+    let v : List ℕ = after evs (openOf words places limit scale .words) in
+    let st : Stands v places limit scale = rw (a .opens) (history-related words places limit scale a evs) in
+    (report-number v ∙ rw (st .related .opened), demand-3 words places limit scale e evs .agrees evs [] (append-nil evs) .places)
 
 -- What an audit says: its verdict is `auditOf`.
 pub audit-says : (words : List ℕ) → verdictOf words .sound ≡ auditOf words
@@ -105,25 +115,25 @@ pub audit-exact : (words : List ℕ) → (auditOf words ≡ true) ↔ Audited wo
 audit-exact = Audits.audit-exact
 
 -- "After every history the audit says yes" (Rules 6.9). It is not refused.
-pub audit-after : (words : List ℕ) (places limit : ℕ) → openOf words places limit .number ≡ 0 → (evs : List Event)
-    → (verdictOf (after evs (openOf words places limit .words)) .number ≡ 0) × (auditOf (after evs (openOf words places limit .words)) ≡ true)
+pub audit-after : (words : List ℕ) (places limit : ℕ) (scale : Scale) → openOf words places limit scale .number ≡ 0 → (evs : List Event)
+    → (verdictOf (after evs (openOf words places limit scale .words)) .number ≡ 0) × (auditOf (after evs (openOf words places limit scale .words)) ≡ true)
 unfolding firstNo
-audit-after words places limit e evs =
-    let a = accepted words places limit e in
-    let v : List ℕ = after evs (openOf words places limit .words) in
-    let st : Stands v places limit = rw (a .opens) (history-related words places limit a evs) in
+audit-after words places limit scale e evs =
+    let a = accepted words places limit scale e in
+    let v : List ℕ = after evs (openOf words places limit scale .words) in
+    let st : Stands v places limit scale = rw (a .opens) (history-related words places limit scale a evs) in
     (audit-number v ∙ rw (st .related .opened), Audits.audit-complete (Audits.audit-related (st .related)))
 
 -- ---- steps and runs
 
 -- Rules 7.16: after every history a step of any station number gets 0, 5 or 10, and so never 11.
-pub step-after : (words : List ℕ) (places limit : ℕ) → openOf words places limit .number ≡ 0 → (evs : List Event) (s : ℕ)
-    → (stepOf (after evs (openOf words places limit .words)) s .number ≡ 0)
-    ⊎ ((stepOf (after evs (openOf words places limit .words)) s .number ≡ 5) ⊎ (stepOf (after evs (openOf words places limit .words)) s .number ≡ 10))
+pub step-after : (words : List ℕ) (places limit : ℕ) (scale : Scale) → openOf words places limit scale .number ≡ 0 → (evs : List Event) (s : ℕ)
+    → (stepOf (after evs (openOf words places limit scale .words)) s .number ≡ 0)
+    ⊎ ((stepOf (after evs (openOf words places limit scale .words)) s .number ≡ 5) ⊎ (stepOf (after evs (openOf words places limit scale .words)) s .number ≡ 10))
 step-after = step-numbers
 
-pub never-11 : (words : List ℕ) (places limit : ℕ) → openOf words places limit .number ≡ 0 → (evs : List Event) (s : ℕ)
-    → ¬ (stepOf (after evs (openOf words places limit .words)) s .number ≡ 11)
+pub never-11 : (words : List ℕ) (places limit : ℕ) (scale : Scale) → openOf words places limit scale .number ≡ 0 → (evs : List Event) (s : ℕ)
+    → ¬ (stepOf (after evs (openOf words places limit scale .words)) s .number ≡ 11)
 never-11 = step-never-11
 
 -- Rules 8.2: "a refused step ends the run, its number is the run's result, and the steps before it stand": for all words, what a run comes to, to its end.
@@ -131,19 +141,22 @@ pub run-is-steps : (words : List ℕ) (s : ℕ) → (n : ℕ) × IsSteps words s
 run-is-steps = run-steps
 
 -- Rules 8.2, 8.3: after every history a run of a station with an unfinished call is accepted, and its answer waits.
-pub run-after : (words : List ℕ) (places limit : ℕ) → openOf words places limit .number ≡ 0 → (evs : List Event) (s : ℕ)
-    → isUnfinished (stateAt (after evs (openOf words places limit .words)) s) ≡ true
-    → (runOf (after evs (openOf words places limit .words)) s .number ≡ 0)
-    × (numberOf (takeOf (runOf (after evs (openOf words places limit .words)) s .words) s) ≡ 0)
-run-after words places limit e evs s u = let x = run-answers words places limit e evs s u in (x .number, x .answered)
+pub run-after : (words : List ℕ) (places limit : ℕ) (scale : Scale) → openOf words places limit scale .number ≡ 0 → (evs : List Event) (s : ℕ)
+    → isUnfinished (stateAt (after evs (openOf words places limit scale .words)) s) ≡ true
+    → (runOf (after evs (openOf words places limit scale .words)) s .number ≡ 0)
+    × (numberOf (takeOf (runOf (after evs (openOf words places limit scale .words)) s .words) s) ≡ 0)
+run-after words places limit scale e evs s u = let x = run-answers words places limit scale e evs s u in (x .number, x .answered)
 
 -- ---- the frame runner
 
 -- Rules 10.1: in 8,800 words 256 places fit, and 257 get 3.
-pub runner-places : (words : List ℕ) (limit : ℕ) → length words ≡ 8800 → limitIn limit ≡ true → (openOf words 256 limit .number ≡ 0) × (openOf words 257 limit .number ≡ 3)
+pub runner-places : (words : List ℕ) (limit : ℕ) (scale : Scale) → length words ≡ 8800 → limitIn limit ≡ true → factorsIn scale ≡ true
+    → (openOf words 256 limit scale .number ≡ 0) × (openOf words 257 limit scale .number ≡ 3)
 unfolding firstNo
-runner-places words limit l e =
-    (open-number words 256 limit ∙ rw (places-of 256 (omega arith) (omega arith), e, l), open-number words 257 limit ∙ rw (places-of 257 (omega arith) (omega arith), e, l))
+runner-places words limit scale l e f = (
+  open-number words 256 limit scale ∙ rw (places-of 256 (omega arith) (omega arith), e, f, l),
+  open-number words 257 limit scale ∙ rw (places-of 257 (omega arith) (omega arith), e, f, l),
+)
 
 -- Rules 10.3, 10.4: the texts of `begin` and of `next` after it, as long as there is more, are the header and the lines of the input, for all words and bytes; a slice has no more bytes
 -- than 64 bits can count. So many times is often enough.
@@ -165,9 +178,23 @@ pub point-ranges : (p : Point)
     && (leZ (negsuc 1999) (p .draw) && leZ (p .draw) (pos 2000)))
 point-ranges = PointLaws.point-ranges
 
--- Rules 1.5: the square of two points in range is at most 11,015,800,001
-pub square-most : (a b : Point) → inRange a ≡ true → inRange b ≡ true → squareOf a b ≤ 11015800001
-square-most = square-le
+-- Rules 7.1, question 17: the range of the four factors
+pub factor-ranges : (scale : Scale)
+    → factorsIn scale
+    ≡ ((((leb 1 (scale .weight) && leb (scale .weight) 1000)
+    && (leb 1 (scale .moisture) && leb (scale .moisture) 1000))
+    && (leb 1 (scale .speed) && leb (scale .speed) 1000))
+    && (leb 1 (scale .draw) && leb (scale .draw) 1000))
+factor-ranges = ScaleLaws.factor-ranges
+
+-- Rules 1.5: of two points in range the square is the sum of the squared differences on axes 2 to 5, each multiplied by its factor, and at most 11,015,800,001,000
+pub square-sum : (scale : Scale) (a b : Point) → factorsIn scale ≡ true → inRange a ≡ true → inRange b ≡ true
+    → squareOf scale a b
+    ≡ scale .weight * squaredOf a b 2 + scale .moisture * squaredOf a b 3 + scale .speed * squaredOf a b 4 + scale .draw * squaredOf a b 5
+square-sum = SquareLaws.square-sum
+
+pub square-most : (scale : Scale) (a b : Point) → factorsIn scale ≡ true → inRange a ≡ true → inRange b ≡ true → squareOf scale a b ≤ 11015800001000
+square-most = SquareLaws.square-le
 
 -- ---- the comparison of points
 

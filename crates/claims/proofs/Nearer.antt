@@ -5,7 +5,7 @@ use mathlib.Core.Bool.{true, false, false≢true}
 use mathlib.Core.List.{List, [], _∷_, _++_, map, List·Memᴰ}
 use mathlib.Core.Option.{some}
 use borrow.Author.Tests.{eqb-true, ne-eqb}
-use Rattle.claims.specs.Definitions.{Point, sameGrade, chosenOver, Record, Answer, Event, submission, singleStep, taking, withdrawal, answered}
+use Rattle.claims.specs.Definitions.{Scale, Point, sameGrade, chosenOver, Record, Answer, Event, submission, singleStep, taking, withdrawal, answered}
 use Rattle.claims.specs.Definitions.{openOf, submitOf, takeOf, heldIn, recordOf, givenBy, wordIndex, after}
 use Rattle.table.specs.Event.{ownStep, ownWithdrawal}
 use Rattle.table.specs.History.{reply}
@@ -54,21 +54,21 @@ always-along P (ev ∷ evs) words h = (h [] (ev ∷ evs) refl, always-along P ev
 
 -- ---- the claim
 
-module _ (words : List ℕ) (places limit : ℕ) (before during : List Event) (s c : ℕ) (q : Point) where
+module _ (words : List ℕ) (places limit : ℕ) (scale : Scale) (before during : List Event) (s c : ℕ) (q : Point) where
   -- the words after the submission of the search
   abbrev pub begun : List ℕ
-  begun = submitOf (after before (openOf words places limit .words)) s 4 q c .words
+  begun = submitOf (after before (openOf words places limit scale .words)) s 4 q c .words
 
   -- After any history a search for q is accepted at station s. After any more events, in which no step of s answers it and s does not withdraw it, a step of s answers,
   -- and the answer that waits is a. If y is of the grade, chosen over x, and held whenever x is, from the submission to the answer, then a is not an 8 with x.
-  pub never-farther : (a : Answer) → openOf words places limit .number ≡ 0 → submitOf (after before (openOf words places limit .words)) s 4 q c .number ≡ 0
+  pub never-farther : (a : Answer) → openOf words places limit scale .number ≡ 0 → submitOf (after before (openOf words places limit scale .words)) s 4 q c .number ≡ 0
       → ((b r : List Event) → b ++ (singleStep s ∷ r) ≡ during → answersAt (after b begun) (singleStep s) ≡ false)
       → ((b r : List Event) → ¬ (b ++ (withdrawal s ∷ r) ≡ during))
       → answersAt (after during begun) (singleStep s) ≡ true → givenBy (takeOf (after (during ++ (singleStep s ∷ [])) begun) s) ≡ some a
-      → (x y : Point) → sameGrade q y ≡ true → chosenOver q y x ≡ true
+      → (x y : Point) → sameGrade q y ≡ true → chosenOver scale q y x ≡ true
       → ((b r : List Event) → b ++ r ≡ during ++ (singleStep s ∷ []) → Holds (after b begun) x → Holds (after b begun) y)
       → ¬ ((a .code ≡ 8) × (a .point ≡ x))
   unfolding answered
   never-farther a o e n k f g x y grade nearer held found =
-      NearerHeld.never-farther words places limit before during s c q a o e (unanswered-along s during begun n k) f g x y grade nearer
+      NearerHeld.never-farther words places limit scale before during s c q a o e (unanswered-along s during begun n k) f g x y grade nearer
       (always-along (λ v. Holds v x → Holds v y) (during ++ (singleStep s ∷ [])) begun held) (record { code = found .0; point = found .1 })

@@ -3,7 +3,7 @@ use Prim.Native.Nat.{ℕ}
 use mathlib.Core.Path.{_≡_, refl, sym, ap, subst}
 use mathlib.Core.Logic.{_↔_}
 use mathlib.Core.List.{List, [], _∷_, _++_}
-use Rattle.claims.specs.Definitions.{Table, opened, Event, submission, singleStep, taking, withdrawal, reply, answered, wordIndex, after}
+use Rattle.claims.specs.Definitions.{Scale, Table, opened, Event, submission, singleStep, taking, withdrawal, reply, answered, wordIndex, after}
 use Rattle.table.specs.History.{Index, Agree, effects, AtEnd, Follows}
 use Rattle.table.specs.History as History
 use Rattle.claims.proofs.Unrolled.{FedAt, allEffects}
@@ -40,10 +40,10 @@ index-fed (singleStep s) x = record { reply-table = x .fed; defined = x .defined
 index-fed (taking s) x = record { reply-table = x .fed; defined = x .defined; next = x .leaves; number = x .number; given = x .given }
 index-fed (withdrawal s) x = record { reply-table = x .fed; defined = x .defined; next = x .leaves; number = x .number; given = x .given }
 
-follows-of : (start : List ℕ) (places limit : ℕ) (evs : List Event) → Moments start places limit evs → (mss : List (List ℕ)) × Follows wordIndex (λ s. ⊥) start (opened places limit) evs mss
+follows-of : (start : List ℕ) (places limit : ℕ) (scale : Scale) (evs : List Event) → Moments start places limit scale evs → (mss : List (List ℕ)) × Follows wordIndex (λ s. ⊥) start (opened places limit scale) evs mss
 unfolding after
-follows-of start places limit evs m =
-    follows-from wordIndex evs (λ s. ⊥) start (opened places limit) (m .moments) (m .table) (m .first)
+follows-of start places limit scale evs m =
+    follows-from wordIndex evs (λ s. ⊥) start (opened places limit scale) (m .moments) (m .table) (m .first)
     (λ b r q. index-agrees (m .agrees b r q))
     (λ b e r q. index-fed e (m .feeds b e r q))
     (λ s i c o e.
@@ -54,6 +54,6 @@ follows-of start places limit evs m =
     ))
 
 -- "there are moments such that …", for each history.
-pub same-claim : (start : List ℕ) (places limit : ℕ) (evs : List Event)
-    → Moments start places limit evs ↔ ((mss : List (List ℕ)) × Follows wordIndex (λ s. ⊥) start (opened places limit) evs mss)
-same-claim start places limit evs = (follows-of start places limit evs, λ f. moments-of start places limit evs (f .0) (f .1))
+pub same-claim : (start : List ℕ) (places limit : ℕ) (scale : Scale) (evs : List Event)
+    → Moments start places limit scale evs ↔ ((mss : List (List ℕ)) × Follows wordIndex (λ s. ⊥) start (opened places limit scale) evs mss)
+same-claim start places limit scale evs = (follows-of start places limit scale evs, λ f. moments-of start places limit scale evs (f .0) (f .1))

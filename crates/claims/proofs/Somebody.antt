@@ -14,7 +14,7 @@ use lib.Dec.{eqb}
 use lib.ListN.{length}
 use borrow.Author.Tests.{eqb-true}
 use Rattle.points.proofs.Tests.{and-l, and-r}
-use Rattle.claims.specs.Definitions.{isUnfinished, stateAt, Event, submission, singleStep, taking, withdrawal, reply, answered, openOf, stepOf, takeOf, numberOf, wordIndex, after}
+use Rattle.claims.specs.Definitions.{Scale, isUnfinished, stateAt, Event, submission, singleStep, taking, withdrawal, reply, answered, openOf, stepOf, takeOf, numberOf, wordIndex, after}
 use Rattle.claims.specs.Definitions.{dealtSteps, NotWithdrawn, Undisturbed, NobodySubmits}
 use Rattle.history.specs.Somebody.{SomeAnswered}
 use Rattle.history.proofs.Somebody as Finishes
@@ -57,25 +57,25 @@ one-answers words (singleStep s ∷ run) (inl e) =
 -- ---- the claims
 
 -- A history from an accepted opening, and the words after it.
-module _ (words : List ℕ) (places limit : ℕ) (e : openOf words places limit .number ≡ 0) (evs : List Event) where
+module _ (words : List ℕ) (places limit : ℕ) (scale : Scale) (e : openOf words places limit scale .number ≡ 0) (evs : List Event) where
   abbrev pub reached : List ℕ
-  reached = after evs (openOf words places limit .words)
+  reached = after evs (openOf words places limit scale .words)
 
   -- `dealtSteps` counts the steps given to stations that have an unfinished call: they are the steps that are not refused (Rules 8.4)
   pub dealt-accepted : (s : ℕ) → (stepOf reached s .number ≡ 0) ↔ (isUnfinished (stateAt reached s) ≡ true)
-  dealt-accepted s = step-accepted words places limit e evs s
+  dealt-accepted s = step-accepted words places limit scale e evs s
 
   -- among more than 8 × places such steps, whatever submissions, takings and refused events fall between them, one answers
   pub somebody : (run : List Event) → Undisturbed reached run → 8 * places < dealtSteps reached run → OneAnswers reached run
-  somebody run d l = one-answers reached run (Finishes.somebody words places limit e evs run d l)
+  somebody run d l = one-answers reached run (Finishes.somebody words places limit scale e evs run d l)
 
   -- the same by the greater figure of Rules 8.4
   pub somebody-finishes : (run : List Event) → Undisturbed reached run → 8 * 32 * (16 * places + 64) ≤ dealtSteps reached run → OneAnswers reached run
-  somebody-finishes run d l = one-answers reached run (Finishes.somebody-finishes words places limit e evs run d l)
+  somebody-finishes run d l = one-answers reached run (Finishes.somebody-finishes words places limit scale e evs run d l)
 
   -- where no submission is accepted, at most 8 × (8 × places + 1) steps find a call unfinished: then every call is answered or withdrawn
   pub everybody : (run : List Event) → NobodySubmits reached run → dealtSteps reached run ≤ 8 * (8 * places + 1)
-  everybody run f = Everybody.everybody words places limit e evs run f
+  everybody run f = Everybody.everybody words places limit scale e evs run f
 
 -- ---- steps alone
 
@@ -98,11 +98,11 @@ steps-undisturbed words [] = tt
 steps-undisturbed words (s ∷ stations) = (tt, steps-undisturbed (stepOf words s .words) stations)
 
 -- Among more than 8 × places steps, each given to a station that has an unfinished call, one answers. By `everybody` no run of steps alone is as long as the greater figure of Rules 8.4.
-pub somebody-steps : (words : List ℕ) (places limit : ℕ) (e : openOf words places limit .number ≡ 0) (evs : List Event) (stations : List ℕ)
-    → EachDealt (reached words places limit e evs) stations → 8 * places < length stations → OneAnswers (reached words places limit e evs) (map singleStep stations)
-somebody-steps words places limit e evs stations f l =
-    let v = reached words places limit e evs in
-    somebody words places limit e evs (map singleStep stations) (steps-undisturbed v stations) (omega (arith, each-counts v stations f, l))
+pub somebody-steps : (words : List ℕ) (places limit : ℕ) (scale : Scale) (e : openOf words places limit scale .number ≡ 0) (evs : List Event) (stations : List ℕ)
+    → EachDealt (reached words places limit scale e evs) stations → 8 * places < length stations → OneAnswers (reached words places limit scale e evs) (map singleStep stations)
+somebody-steps words places limit scale e evs stations f l =
+    let v = reached words places limit scale e evs in
+    somebody words places limit scale e evs (map singleStep stations) (steps-undisturbed v stations) (omega (arith, each-counts v stations f, l))
 
 -- ---- the premise
 

@@ -15,7 +15,7 @@ use Rattle.history.specs.Alone.{stepped, AnsweredAfter}
 use Rattle.history.proofs.Demand3.{accepted}
 use Rattle.history.proofs.Reached.{Stands, history-stands, history-related}
 use Rattle.history.proofs.Run.{run-related}
-use Rattle.claims.specs.Definitions.{Point, openedIn, waitingAt, Event, submission, WordReply, done, isOpened, openOf, submitOf, stepOf, isGiven, goesOn, runFor, mostSteps, runOf}
+use Rattle.claims.specs.Definitions.{Scale, Point, openedIn, waitingAt, Event, submission, WordReply, done, isOpened, openOf, submitOf, stepOf, isGiven, goesOn, runFor, mostSteps, runOf}
 use Rattle.table.specs.History.{reply}
 use Rattle.history.specs.After.{after}
 
@@ -38,15 +38,15 @@ steps-answered zero words s a = a .1
 steps-answered (suc n) words s a = steps-answered n (stepOf words s .words) s (a .2)
 
 -- the run of a call that was submitted after a history
-pub run-alone : (words : List ℕ) (places limit : ℕ) → openOf words places limit .number ≡ 0 → (evs : List Event) (s kind : ℕ) (p : Point) (c n : ℕ) → n < 16 * places + 64
-    → AnsweredAfter n (submitOf (after evs (openOf words places limit .words)) s kind p c .words) s
-    → runOf (submitOf (after evs (openOf words places limit .words)) s kind p c .words) s
-    ≡ done (stepped (suc n) (submitOf (after evs (openOf words places limit .words)) s kind p c .words) s)
+pub run-alone : (words : List ℕ) (places limit : ℕ) (scale : Scale) → openOf words places limit scale .number ≡ 0 → (evs : List Event) (s kind : ℕ) (p : Point) (c n : ℕ) → n < 16 * places + 64
+    → AnsweredAfter n (submitOf (after evs (openOf words places limit scale .words)) s kind p c .words) s
+    → runOf (submitOf (after evs (openOf words places limit scale .words)) s kind p c .words) s
+    ≡ done (stepped (suc n) (submitOf (after evs (openOf words places limit scale .words)) s kind p c .words) s)
 unfolding after reply
-run-alone words places limit e evs s kind p c n l w =
-    let a = accepted words places limit e in
-    let v : Stands (after evs (openOf words places limit .words)) places limit = rw (a .opens) (history-related words places limit a evs) in
-    let x : Stands (submitOf (after evs (openOf words places limit .words)) s kind p c .words) places limit = history-stands (submission s kind p c ∷ []) v in
+run-alone words places limit scale e evs s kind p c n l w =
+    let a = accepted words places limit scale e in
+    let v : Stands (after evs (openOf words places limit scale .words)) places limit scale = rw (a .opens) (history-related words places limit scale a evs) in
+    let x : Stands (submitOf (after evs (openOf words places limit scale .words)) s kind p c .words) places limit scale = history-stands (submission s kind p c ∷ []) v in
     run-related {t = x .table} s n (x .related) (omega (arith, x .places-same)) w
 
 -- ---- every run

@@ -12,7 +12,7 @@ use native.Mathlib.Decide.{decLt}
 use lib.Dec.{eqb}
 use borrow.Author.Tests.{eqb-true}
 use Rattle.points.proofs.Tests.{and-l, and-r}
-use Rattle.claims.specs.Definitions.{Point, Event, submission, singleStep, taking, withdrawal, reply, answered, openOf, submitOf, stepOf, takeOf, numberOf, wordIndex, after}
+use Rattle.claims.specs.Definitions.{Scale, Point, Event, submission, singleStep, taking, withdrawal, reply, answered, openOf, submitOf, stepOf, takeOf, numberOf, wordIndex, after}
 use Rattle.claims.specs.Definitions.{ownSteps, CallKept, KeepsCall}
 use Rattle.history.specs.WaitFree.{OwnAnswered}
 use Rattle.history.proofs.WaitFree as Holds
@@ -52,14 +52,14 @@ own-answers s words (singleStep u ∷ run) (inl x) =
 -- ---- the claims
 
 -- After any history a nearest is accepted at a station: the words then.
-module _ (words : List ℕ) (places limit : ℕ) (e : openOf words places limit .number ≡ 0) (evs : List Event) (s : ℕ) (p : Point) (c : ℕ)
-    (f : submitOf (after evs (openOf words places limit .words)) s 4 p c .number ≡ 0) where
+module _ (words : List ℕ) (places limit : ℕ) (scale : Scale) (e : openOf words places limit scale .number ≡ 0) (evs : List Event) (s : ℕ) (p : Point) (c : ℕ)
+    (f : submitOf (after evs (openOf words places limit scale .words)) s 4 p c .number ≡ 0) where
   abbrev pub begun : List ℕ
-  begun = submitOf (after evs (openOf words places limit .words)) s 4 p c .words
+  begun = submitOf (after evs (openOf words places limit scale .words)) s 4 p c .words
 
   -- whatever the others do: of any events in which the call is not withdrawn, one answers it where more than 9 × places / 5 are steps of its own
   pub wait-free : (run : List Event) → KeepsCall s begun run → 9 * places < 5 * ownSteps s run → OwnAnswers s begun run
-  wait-free run k l = own-answers s begun run (Holds.wait-free words places limit e evs s p c f run k l)
+  wait-free run k l = own-answers s begun run (Holds.wait-free words places limit scale e evs s p c f run k l)
 
   -- where more than 3 × places are
   pub wait-free-three : (run : List Event) → KeepsCall s begun run → 3 * places < ownSteps s run → OwnAnswers s begun run

@@ -8,10 +8,13 @@ pub use Rattle.points.specs.declared.point.Point.{Point}
 pub use Rattle.points.specs.Point.{inRange}
 -- a comparison of two points: their order, and how many axes it looks at, also in words
 pub use Rattle.points.specs.Order.{orderOf, comparedOf, Looked}
--- the square of two points; the cut between two points, and the side on which it has a point
-pub use Rattle.points.specs.Square.{squareOf}
+-- the factors of an opening, their range, and four ones
+pub use Rattle.points.specs.declared.scale.Scale.{Scale}
+pub use Rattle.points.specs.Scale.{factorsIn, plainScale}
+-- the square of two points by the factors; the cut between two points, and the side on which it has a point
+pub use Rattle.points.specs.Square.{squaredOf, squareOf, mostSquare}
 pub use Rattle.points.specs.Cut.{cutOf, goesLeft}
--- one grade; which of two points a target chooses, also in words: the nearer, on a tie the heavier
+-- one grade; which of two points a target chooses by the factors, also in words: the nearer, on a tie the heavier
 pub use Rattle.points.specs.Choice.{sameGrade, chosenOver, Chosen}
 -- ---- words, stations and rows
 
@@ -20,7 +23,7 @@ pub use Rattle.words.specs.Layout.{wordsFor, atRow}
 pub use Rattle.words.specs.Words.{get, part}
 pub use Rattle.rows.specs.Row.{rowAt, rowOf, inRows}
 pub use Rattle.rows.specs.declared.row.Row.the-variants.{Spare}
-pub use Rattle.stations.specs.Common.{placesIn, limitIn, placesAt, openedIn, isOpened, rowsIn}
+pub use Rattle.stations.specs.Common.{placesIn, limitIn, placesAt, Opened, openedIn, isOpened, rowsIn}
 pub use Rattle.stations.specs.Counts.{countsAt}
 pub use Rattle.stations.specs.Counter.{counterAt}
 -- a station's record
@@ -84,7 +87,7 @@ pub use Rattle.history.specs.Audited.{Audited}
 
 -- a frame, its fields in width, and what a reading finds
 pub use Rattle.frames.specs.declared.frame.Frame.{Frame}
-pub use Rattle.frames.specs.declared.frame.Frame.the-variants.{Open, Submit, Step, Take, Run, Withdraw}
+pub use Rattle.frames.specs.declared.frame.Frame.the-variants.{Open, Submit, Step, Take, Run, OpenScaled, Withdraw}
 pub use Rattle.numbers.specs.Bytes.{AllBytes}
 pub use Rattle.frames.specs.Width.{InWidth}
 pub use Rattle.frames.specs.declared.read.Reading.the-variants.{Read, Refused}
@@ -97,7 +100,7 @@ pub use Rattle.frames.specs.declared.write.Fields.{Fields}
 unfoldable pub use Rattle.frames.specs.Write.{padded, writtenBytes, writtenOf, writeOf}
 -- a frame on the words: what it gives, the number of that, and the words after it; the words after a reading
 pub use Rattle.lines.specs.Apply.{appliedNumber}
-unfoldable pub use Rattle.lines.specs.Apply.{pointOf, submissionReply, applyOf, applyWords}
+unfoldable pub use Rattle.lines.specs.Apply.{pointOf, scaleOf, submissionReply, applyOf, applyWords}
 unfoldable pub use Rattle.lines.specs.Line.{lineOf, lineWords}
 -- ---- texts
 

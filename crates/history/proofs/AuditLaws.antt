@@ -10,6 +10,7 @@ use native.Mathlib.Omega.{arith}
 use lib.Dec.{eqb}
 use lib.ListN.{length}
 use borrow.Author.Tests.{eqb-true, eq-eqb}
+use Rattle.points.specs.declared.scale.Scale.{Scale}
 use Rattle.words.specs.Layout.{mostRows}
 use Rattle.stations.specs.Counts.{countsAt}
 use Rattle.points.specs.Word.{NONE}
@@ -156,12 +157,12 @@ free-left places none n p e = omega arith
 free-left places (some t) n p e = omega (arith, size-count t)
 
 -- a tree and a queue that together have so many rows
-audited-of : (words : List ℕ) (places limit n m : ℕ) → openedIn words ≡ Opened places limit → Planted words (2 * places) n → InLine words (2 * places) m
+audited-of : (words : List ℕ) (places limit : ℕ) (scale : Scale) (n m : ℕ) → openedIn words ≡ Opened places limit scale → Planted words (2 * places) n → InLine words (2 * places) m
     → plus n m ≡ 2 * places → Audited words
-audited-of words places limit n m o t q e =
+audited-of words places limit scale n m o t q e =
     let rows : ℕ = 2 * places in
     let h : Heap = heapOf words rows in
-    let w = opened-tells words places limit o in
+    let w = opened-tells words places limit scale o in
     let inside : (i : ℕ) → Has (t .tree) i → i < rows = λ i u. reads-inside words rows i (h i) (t .reads i u) in
     let free : (i : ℕ) → InQueue (q .queue) i → i < rows = λ i u. reads-inside words rows i (h i) (q .reads i u) in
     let apart = rows-apart h (t .tree) (q .queue) (t .shape) (q .linked) in
@@ -171,6 +172,7 @@ audited-of words places limit n m o t q e =
     record {
       places = places;
       limit = limit;
+      scale = scale;
       opened = o;
       heap = h;
       tree = t .tree;
@@ -192,13 +194,13 @@ audited-of words places limit n m o t q e =
     }
 
 -- an opened slice
-audited : (words : List ℕ) (places limit : ℕ) → openedIn words ≡ Opened places limit → allRows words (treeIn words) (queueIn words) ≡ true → Audited words
-audited words places limit o y =
-    let rows = rows-in words places limit o in
-    let few : rowsIn words ≤ mostRows = omega (arith, rows, opened-tells words places limit o .places-most) in
+audited : (words : List ℕ) (places limit : ℕ) (scale : Scale) → openedIn words ≡ Opened places limit scale → allRows words (treeIn words) (queueIn words) ≡ true → Audited words
+audited words places limit scale o y =
+    let rows = rows-in words places limit scale o in
+    let few : rowsIn words ≤ mostRows = omega (arith, rows, opened-tells words places limit scale o .places-most) in
     let a = and-eq-true-iff (treeIn words .sound && wholeQueue words (queueIn words)) (eqb (plus (treeRows (treeIn words .leaves)) (queueIn words .rows)) (rowsIn words)) .0 y in
     let b = and-eq-true-iff (treeIn words .sound) (wholeQueue words (queueIn words)) .0 (a .0) in
-    audited-of words places limit (treeRows (treeIn words .leaves)) (queueIn words .rows) o
+    audited-of words places limit scale (treeRows (treeIn words .leaves)) (queueIn words .rows) o
     (subst (λ r. Planted words r (treeRows (treeIn words .leaves))) rows (tree-tells words few (b .0)))
     (subst (λ r. InLine words r (queueIn words .rows)) rows (queue-tells words few (b .1)))
     (eqb-true (plus (treeRows (treeIn words .leaves)) (queueIn words .rows)) (rowsIn words) (a .1) ∙ rows)
@@ -210,7 +212,7 @@ audit-sound words y = go (openedIn words) refl y
   where
     go : (x : Opening) → openedIn words ≡ x → cond (isOpened x) (allRows words (treeIn words) (queueIn words)) false ≡ true → Audited words
     go Refused e y = absurd (false≢true y)
-    go (Opened places limit) e y = audited words places limit e y
+    go (Opened places limit scale) e y = audited words places limit scale e y
 
 -- ---- words of which the rule holds
 
@@ -278,11 +280,11 @@ queue-holds words h q few e t k s w l o =
 pub audit-complete : {words : List ℕ} → Audited words → auditOf words ≡ true
 unfolding auditOf
 audit-complete {words} a =
-    let rows = rows-in words (a .places) (a .limit) (a .opened) in
-    let few : rowsIn words ≤ mostRows = omega (arith, rows, opened-tells words (a .places) (a .limit) (a .opened) .places-most) in
+    let rows = rows-in words (a .places) (a .limit) (a .scale) (a .opened) in
+    let few : rowsIn words ≤ mostRows = omega (arith, rows, opened-tells words (a .places) (a .limit) (a .scale) (a .opened) .places-most) in
     let all : sizeOf (a .tree) + length (a .queue) ≡ rowsIn words =
     rows-all (2 * a .places) (a .tree) (a .queue) (a .distinct) (a .once) (a .inside) (a .free) (a .apart) (a .each) ∙ sym rows in
-    let not-empty = free-left (a .places) (a .tree) (length (a .queue)) (opened-tells words (a .places) (a .limit) (a .opened) .places-least) (all ∙ rows) in
+    let not-empty = free-left (a .places) (a .tree) (length (a .queue)) (opened-tells words (a .places) (a .limit) (a .scale) (a .opened) .places-least) (all ∙ rows) in
     let reads : Reads words (rowsIn words) (a .heap) = subst (λ n. Reads words n (a .heap)) (sym rows) (a .reads) in
     let each : (i : ℕ) → i < rowsIn words → Has (a .tree) i ⊎ (isFree (a .heap i) ≡ true) =
     λ i l. elim (a .each i (omega (arith, rows))) [ inl m ↦ inl m | inr m ↦ inr (queue-free (a .heap) (a .queue) i (a .linked) m) ] in
@@ -309,6 +311,7 @@ audit-related {words} {t} r =
     record {
       places = t .places;
       limit = t .limit;
+      scale = t .scale;
       opened = r .opened;
       heap = r .heap;
       tree = r .tree;

@@ -9,6 +9,7 @@ use native.Mathlib.Omega.{arith}
 use Rattle.words.specs.Layout.{stations}
 use Rattle.stations.specs.Track.{standing}
 use Rattle.points.specs.declared.point.Point.{Point}
+use Rattle.points.specs.declared.scale.Scale.{Scale}
 use Rattle.table.specs.Call.{Call, callOf, nearest, Answer, isChange, isSearch}
 use Rattle.table.specs.Table.{idle, unfinished, waiting, Table, eight, opened, answerOf, changedIf}
 use Rattle.table.specs.Event.{enter, submit}
@@ -61,15 +62,15 @@ pub record Standing (words : List ℕ) (u : Table) : Type 0 where
   pub alike : Alike table u
 
 -- those that an accepted opening leaves stand for the table at first
-pub standing-open : (words : List ℕ) (places limit : ℕ) → openOf words places limit .number ≡ 0 → Standing (openOf words places limit .words) (opened places limit)
-standing-open words places limit e =
-    let a = accepted words places limit e in
+pub standing-open : (words : List ℕ) (places limit : ℕ) (scale : Scale) → openOf words places limit scale .number ≡ 0 → Standing (openOf words places limit scale .words) (opened places limit scale)
+standing-open words places limit scale e =
+    let a = accepted words places limit scale e in
     rw (a .opens)
     (record {
-      table = opened places limit;
-      sound = sound-opened places limit;
-      related = related-open words places limit (a .places-in) (a .limit-in) (a .long);
-      alike = alike-refl (opened places limit);
+      table = opened places limit scale;
+      sound = sound-opened places limit scale;
+      related = related-open words places limit scale (a .places-in) (a .limit-in) (a .factors-in) (a .long);
+      alike = alike-refl (opened places limit scale);
     })
 
 -- ---- a call

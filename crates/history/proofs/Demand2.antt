@@ -8,6 +8,7 @@ use native.Mathlib.Omega.{arith}
 use borrow.Author.Tests.{lt-ltb}
 use Rattle.words.specs.Layout.{stations}
 use Rattle.points.specs.declared.point.Point.{Point}
+use Rattle.points.specs.declared.scale.Scale.{Scale}
 use Rattle.table.specs.Call.{Call, callOf, Answer, isChange}
 use Rattle.table.specs.Table.{idle, unfinished, waiting, Table, eight, answerOf, changedIf}
 use Rattle.table.specs.Event.{Event, enter, submit, takeAt, take}
@@ -161,15 +162,15 @@ runs-alike {words} {t} {u} {most} {s} {kind} {p} {c} a w =
 
 -- ---- the theorem
 
-demand-2-opened : (words : List ℕ) (places limit : ℕ) → Accepted words places limit → (evs : List Event) → AnswersAsTable (openedWords words places limit) places limit evs
+demand-2-opened : (words : List ℕ) (places limit : ℕ) (scale : Scale) → Accepted words places limit scale → (evs : List Event) → AnswersAsTable (openedWords words places limit scale) places limit scale evs
 unfolding after
-demand-2-opened words places limit a evs =
-    let w = simulation-leads wordIndex Related (openedWords words places limit) places limit (simulation words places limit a) evs in
+demand-2-opened words places limit scale a evs =
+    let w = simulation-leads wordIndex Related (openedWords words places limit scale) places limit scale (simulation words places limit scale a) evs in
     let t : Table = w .last in
     let u : Table = trim (λ s. false) t in
-    let st = history-related words places limit a evs in
+    let st = history-related words places limit scale a evs in
     let n : t .places ≡ places = same-places (w .related) (st .related) ∙ st .places-same in
-    let now : List ℕ = after evs (openedWords words places limit) in
+    let now : List ℕ = after evs (openedWords words places limit scale) in
     record {
       moments = w .moments;
       follows = w .follows;
@@ -184,7 +185,7 @@ demand-2-opened words places limit a evs =
     }
 
 -- After every history from an accepted opening.
-pub demand-2 : (words : List ℕ) (places limit : ℕ) → openOf words places limit .number ≡ 0 → (evs : List Event) → AnswersAsTable (openOf words places limit .words) places limit evs
-demand-2 words places limit e evs =
-    let a = accepted words places limit e in
-    rw (a .opens) (demand-2-opened words places limit a evs)
+pub demand-2 : (words : List ℕ) (places limit : ℕ) (scale : Scale) → openOf words places limit scale .number ≡ 0 → (evs : List Event) → AnswersAsTable (openOf words places limit scale .words) places limit scale evs
+demand-2 words places limit scale e evs =
+    let a = accepted words places limit scale e in
+    rw (a .opens) (demand-2-opened words places limit scale a evs)

@@ -10,6 +10,8 @@ use native.Mathlib.Decide.{decLt}
 use lib.Dec.{eqb, leb}
 use lib.ListN.{length}
 use borrow.Author.Tests.{ne-eqb, eqb-true, lt-ltb, le-ltb, leb-true}
+use Rattle.points.specs.declared.scale.Scale.{Scale}
+use Rattle.points.specs.Scale.{factorsIn}
 use Rattle.points.proofs.Tests.{and-l}
 use Rattle.words.specs.Layout.{wordsFor, stations}
 use Rattle.stations.specs.Common.{placesIn, limitIn}
@@ -161,26 +163,29 @@ module _ {words : List ℕ} {t : Table} (s : ℕ) (h : Sound t) (k : Settled t) 
 
 -- ---- the theorem
 
--- an accepted opening has its three questions answered
-pub record Accepted (words : List ℕ) (places limit : ℕ) : Type 0 where
+-- an accepted opening has its four questions answered
+pub record Accepted (words : List ℕ) (places limit : ℕ) (scale : Scale) : Type 0 where
   pub places-in : placesIn places ≡ true
   pub limit-in : limitIn limit ≡ true
+  pub factors-in : factorsIn scale ≡ true
   pub long : wordsFor places ≤ length words
-  pub opens : openOf words places limit ≡ record { number = 0; words = openedWords words places limit }
+  pub opens : openOf words places limit scale ≡ record { number = 0; words = openedWords words places limit scale }
 
-pub accepted : (words : List ℕ) (places limit : ℕ) → openOf words places limit .number ≡ 0 → Accepted words places limit
+pub accepted : (words : List ℕ) (places limit : ℕ) (scale : Scale) → openOf words places limit scale .number ≡ 0 → Accepted words places limit scale
 unfolding openOf
-accepted words places limit e = go (placesIn places) refl (limitIn limit) refl (leb (wordsFor places) (length words)) refl
+accepted words places limit scale e = go (placesIn places) refl (limitIn limit) refl (factorsIn scale) refl (leb (wordsFor places) (length words)) refl
   where
-    go : (a : Bool) → placesIn places ≡ a → (b : Bool) → limitIn limit ≡ b → (c : Bool) → leb (wordsFor places) (length words) ≡ c → Accepted words places limit
-    go true p true m true l = record { places-in = p; limit-in = m; long = leb-true (wordsFor places) (length words) l; opens = rw (p, m, l) }
-    go false p b m c l = let z : _≡_ {A = ℕ} 1 0 = rw p at e in absurd (omega arith)
-    go true p false m c l = let z : _≡_ {A = ℕ} 2 0 = rw (p, m) at e in absurd (omega arith)
-    go true p true m false l = let z : _≡_ {A = ℕ} 3 0 = rw (p, m, l) at e in absurd (omega arith)
+    go : (a : Bool) → placesIn places ≡ a → (b : Bool) → limitIn limit ≡ b → (f : Bool) → factorsIn scale ≡ f → (c : Bool) → leb (wordsFor places) (length words) ≡ c
+        → Accepted words places limit scale
+    go true p true m true k true l = record { places-in = p; limit-in = m; factors-in = k; long = leb-true (wordsFor places) (length words) l; opens = rw (p, m, k, l) }
+    go false p b m f k c l = let z : _≡_ {A = ℕ} 1 0 = rw p at e in absurd (omega arith)
+    go true p false m f k c l = let z : _≡_ {A = ℕ} 2 0 = rw (p, m) at e in absurd (omega arith)
+    go true p true m false k c l = let z : _≡_ {A = ℕ} 17 0 = rw (p, m, k) at e in absurd (omega arith)
+    go true p true m true k false l = let z : _≡_ {A = ℕ} 3 0 = rw (p, m, k, l) at e in absurd (omega arith)
 
-pub simulation : (words : List ℕ) (places limit : ℕ) → Accepted words places limit → Simulation wordIndex Related (openedWords words places limit) places limit
-simulation words places limit w = record {
-  begins = related-open words places limit (w .places-in) (w .limit-in) (w .long);
+pub simulation : (words : List ℕ) (places limit : ℕ) (scale : Scale) → Accepted words places limit scale → Simulation wordIndex Related (openedWords words places limit scale) places limit scale
+simulation words places limit scale w = record {
+  begins = related-open words places limit scale (w .places-in) (w .limit-in) (w .factors-in) (w .long);
   agrees = related-agrees;
   settles = related-settles;
   submits = λ s kind p c h k r. related-submits s kind p c h r;
@@ -190,7 +195,7 @@ simulation words places limit w = record {
   answers = λ s h k r a. answers s h k r a;
 }
 
-pub demand-3 : (words : List ℕ) (places limit : ℕ) → openOf words places limit .number ≡ 0 → Linear wordIndex (openOf words places limit .words) places limit
-demand-3 words places limit e =
-    let w = accepted words places limit e in
-    rw (w .opens) (simulation-linear wordIndex Related (openedWords words places limit) places limit (simulation words places limit w))
+pub demand-3 : (words : List ℕ) (places limit : ℕ) (scale : Scale) → openOf words places limit scale .number ≡ 0 → Linear wordIndex (openOf words places limit scale .words) places limit scale
+demand-3 words places limit scale e =
+    let w = accepted words places limit scale e in
+    rw (w .opens) (simulation-linear wordIndex Related (openedWords words places limit scale) places limit scale (simulation words places limit scale w))

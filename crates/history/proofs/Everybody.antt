@@ -7,6 +7,7 @@ use mathlib.Core.List.{List, [], _∷_}
 use native.Mathlib.Omega.{arith}
 use native.Mathlib.Decide.{decLt, ℕ-discrete}
 use borrow.Author.Tests.{eq-eqb, ne-eqb}
+use Rattle.points.specs.declared.scale.Scale.{Scale}
 use Rattle.words.specs.Layout.{stations}
 use Rattle.stations.specs.Station.{isUnfinished, stateAt}
 use Rattle.table.specs.Table.{Station, idle, unfinished, waiting, Table, busy}
@@ -98,7 +99,7 @@ module _ {v w : List ℕ} {t u : Table} (a : Related v t) (b : Related w u) (few
 
 -- ---- what each event does to their number
 
-module _ {words : List ℕ} {places limit : ℕ} (w : Stands words places limit) (s : ℕ) where
+module _ {words : List ℕ} {places limit : ℕ} {scale : Scale} (w : Stands words places limit scale) (s : ℕ) where
   take-count : unfinishedCount (reply wordIndex words (taking s) .next) ≤ unfinishedCount words
   unfolding reply
   take-count = count-le (w .related) (related-takes s (w .sound) (w .related) .next) (λ x. take-busy (w .table) s x)
@@ -150,17 +151,17 @@ all-drained places zero = refl
 all-drained places (suc k) = refl
 
 -- what is left to all stations together is at most the most of all eight
-most-within : {words : List ℕ} {places limit : ℕ} → Stands words places limit → Within words places limit (allMoves places)
+most-within : {words : List ℕ} {places limit : ℕ} {scale : Scale} → Stands words places limit scale → Within words places limit scale (allMoves places)
 most-within a = record { stands = a; few = omega (arith, potential-most (a .related) (a .sound), a .places-same) }
 
 -- a step that does not answer, before others
-still-few : {words : List ℕ} {places limit n : ℕ} (s k rest : ℕ) → unfinishedCount words ≤ k → (f : Fallen words places limit n s) → stepMoves * rest ≤ drainedFrom places (f .fewer) k
+still-few : {words : List ℕ} {places limit : ℕ} {scale : Scale} {n : ℕ} (s k rest : ℕ) → unfinishedCount words ≤ k → (f : Fallen words places limit scale n s) → stepMoves * rest ≤ drainedFrom places (f .fewer) k
     → stepMoves * (dealtStep words (singleStep s) + rest) ≤ drainedFrom places n k
 still-few {words} s zero rest l f h = rw (count-none words s (omega (arith, l))) (omega (arith, h))
 still-few s (suc k) rest l f h = omega (arith, h, f .counted)
 
 -- the calls of k stations
-dealt-few : (run : List Event) {words : List ℕ} {places limit n : ℕ} → Within words places limit n → NobodySubmits words run → (k : ℕ) → unfinishedCount words ≤ k
+dealt-few : (run : List Event) {words : List ℕ} {places limit : ℕ} {scale : Scale} {n : ℕ} → Within words places limit scale n → NobodySubmits words run → (k : ℕ) → unfinishedCount words ≤ k
     → stepMoves * dealtSteps words run ≤ drainedFrom places n k
 unfolding dealtSteps reply
 dealt-few [] w f k l = omega arith
@@ -170,21 +171,21 @@ dealt-few (submission s kind p c ∷ run) {words} w f k l =
     rw same (omega (arith, dealt-few run w rest k l))
 dealt-few (taking s ∷ run) {words} w f k l =
     let a = w .stands in
-    let v = reseats-within w (event-stands (taking s) a) s (take-reseats words (a .table .places) (a .table .limit) (a .related .opened) s) in
+    let v = reseats-within w (event-stands (taking s) a) s (take-reseats words (a .table .places) (a .table .limit) (a .table .scale) (a .related .opened) s) in
     omega (arith, dealt-few run v (f .1) k (omega (arith, take-count a s, l)))
-dealt-few (withdrawal s ∷ run) {words} {places} {limit} {n} w f k l = go (λ m v j. dealt-few run v (f .1) j) (ℕ-discrete (withdrawOf words s .number) 0) k l
+dealt-few (withdrawal s ∷ run) {words} {places} {limit} {scale} {n} w f k l = go (λ m v j. dealt-few run v (f .1) j) (ℕ-discrete (withdrawOf words s .number) 0) k l
   where
-    go : ((m : ℕ) → Within (withdrawOf words s .words) places limit m → (j : ℕ) → unfinishedCount (withdrawOf words s .words) ≤ j → stepMoves * dealtSteps (withdrawOf words s .words) run ≤ drainedFrom places m j)
+    go : ((m : ℕ) → Within (withdrawOf words s .words) places limit scale m → (j : ℕ) → unfinishedCount (withdrawOf words s .words) ≤ j → stepMoves * dealtSteps (withdrawOf words s .words) run ≤ drainedFrom places m j)
         → Dec (withdrawOf words s .number ≡ 0) → (k : ℕ) → unfinishedCount words ≤ k → stepMoves * (0 + dealtSteps (withdrawOf words s .words) run) ≤ drainedFrom places n k
     go rest (no z) k l =
         let same = withdraw-refused words s z in
-        omega (arith, rest n (subst (λ (x : List ℕ). Within x places limit n) (sym same) w) k (rw same l))
+        omega (arith, rest n (subst (λ (x : List ℕ). Within x places limit scale n) (sym same) w) k (rw same l))
     go rest (yes z) zero l = absurd (omega (arith, withdrawn-count (w .stands) s z, l))
     go rest (yes z) (suc k) l =
         omega (arith, rest (allMoves places) (most-within (event-stands (withdrawal s) (w .stands))) k (omega (arith, withdrawn-count (w .stands) s z, l)), all-drained places k)
-dealt-few (singleStep s ∷ run) {words} {places} {limit} {n} w f k l = go (λ m v j. dealt-few run v (f .1) j) (answered wordIndex words (singleStep s)) refl k l
+dealt-few (singleStep s ∷ run) {words} {places} {limit} {scale} {n} w f k l = go (λ m v j. dealt-few run v (f .1) j) (answered wordIndex words (singleStep s)) refl k l
   where
-    go : ((m : ℕ) → Within (stepOf words s .words) places limit m → (j : ℕ) → unfinishedCount (stepOf words s .words) ≤ j → stepMoves * dealtSteps (stepOf words s .words) run ≤ drainedFrom places m j)
+    go : ((m : ℕ) → Within (stepOf words s .words) places limit scale m → (j : ℕ) → unfinishedCount (stepOf words s .words) ≤ j → stepMoves * dealtSteps (stepOf words s .words) run ≤ drainedFrom places m j)
         → (b : Bool) → answered wordIndex words (singleStep s) ≡ b → (k : ℕ) → unfinishedCount words ≤ k
         → stepMoves * (dealtStep words (singleStep s) + dealtSteps (stepOf words s .words) run) ≤ drainedFrom places n k
     go rest false e k l =
@@ -195,10 +196,10 @@ dealt-few (singleStep s ∷ run) {words} {places} {limit} {n} w f k l = go (λ m
         omega (arith, rest (allMoves places) (most-within (event-stands (singleStep s) (w .stands))) k (omega (arith, answer-count (w .stands) s e, l)), all-drained places k, at-most-one words s)
 
 -- After every history, where nobody submits, at most 8 × (8 × places + 1) steps are dealt to stations with an unfinished call.
-pub everybody : (words : List ℕ) (places limit : ℕ) → openOf words places limit .number ≡ 0 → (evs run : List Event)
-    → NobodySubmits (after evs (openOf words places limit .words)) run → dealtSteps (after evs (openOf words places limit .words)) run ≤ 8 * (8 * places + 1)
+pub everybody : (words : List ℕ) (places limit : ℕ) (scale : Scale) → openOf words places limit scale .number ≡ 0 → (evs run : List Event)
+    → NobodySubmits (after evs (openOf words places limit scale .words)) run → dealtSteps (after evs (openOf words places limit scale .words)) run ≤ 8 * (8 * places + 1)
 unfolding drained
-everybody words places limit e evs run f =
-    let a = accepted words places limit e in
-    let v : Stands (after evs (openOf words places limit .words)) places limit = rw (a .opens) (history-related words places limit a evs) in
-    omega (arith, dealt-few run (most-within v) f 8 (count-most (after evs (openOf words places limit .words))))
+everybody words places limit scale e evs run f =
+    let a = accepted words places limit scale e in
+    let v : Stands (after evs (openOf words places limit scale .words)) places limit scale = rw (a .opens) (history-related words places limit scale a evs) in
+    omega (arith, dealt-few run (most-within v) f 8 (count-most (after evs (openOf words places limit scale .words))))

@@ -8,6 +8,8 @@ use mathlib.Core.Option.{some}
 use native.Mathlib.Omega.{arith}
 use lib.ListN.{length}
 use borrow.Author.Tests.{le-leb}
+use Rattle.points.specs.Scale.{plainScale}
+use Rattle.points.proofs.ScaleLaws.{factor-ranges}
 use Rattle.points.specs.declared.point.Point.{Point}
 use Rattle.table.specs.Call.{Call, add, remove, nearest, callOf, Answer, answer, isChange}
 use Rattle.table.specs.Table.{Station, idle, unfinished, Table, opened, usedUp, answerOf, changed, changedIf}
@@ -24,10 +26,11 @@ use Rattle.words.specs.Layout.{wordsFor}
 use Rattle.stations.proofs.OpeningLaws.{places-of, limit-of}
 use Rattle.history.proofs.Called.{RunGives, CallGives, calledWords, standing-open, Called, called, Begun, begun, set-gives}
 
--- open 2 places, limit 10
-opens : (words : List ℕ) → wordsFor 2 ≤ length words → openOf words 2 10 .number ≡ 0
+-- open 2 places, limit 10, factors of one
+opens : (words : List ℕ) → wordsFor 2 ≤ length words → openOf words 2 10 plainScale .number ≡ 0
 unfolding openOf
-opens words l = rw (places-of 2 (omega arith) (omega arith), limit-of 10 (omega arith) (omega arith), le-leb (wordsFor 2) (length words) l)
+opens words l =
+    rw (places-of 2 (omega arith) (omega arith), limit-of 10 (omega arith) (omega arith), factor-ranges plainScale, le-leb (wordsFor 2) (length words) l)
 
 -- the table after a call of station s
 abbrev effect : Table → ℕ → ℕ → Point → ℕ → Table
@@ -36,15 +39,15 @@ effect u s kind p c = changedIf (isChange (answerOf u s (callOf kind p c))) u s 
 -- ---- the frame runner
 
 pub record FrameRunner (words : List ℕ) : Type 0 where
-  pub opening : openOf words 2 10 .number ≡ 0
-  pub adds : CallGives (openOf words 2 10 .words) 0 1 (atWeight 12 8_000) 41 (answer 1 (atWeight 12 8_000) 41 0)
-  pub finds : CallGives (calledWords (openOf words 2 10 .words) 0 1 (atWeight 12 8_000) 41) 1 4 (atWeight 12 12_000) 0 (answer 8 (atWeight 12 8_000) 41 16_000_000)
+  pub opening : openOf words 2 10 plainScale .number ≡ 0
+  pub adds : CallGives (openOf words 2 10 plainScale .words) 0 1 (atWeight 12 8_000) 41 (answer 1 (atWeight 12 8_000) 41 0)
+  pub finds : CallGives (calledWords (openOf words 2 10 plainScale .words) 0 1 (atWeight 12 8_000) 41) 1 4 (atWeight 12 12_000) 0 (answer 8 (atWeight 12 8_000) 41 16_000_000)
 
 -- station 0 submits add 12, 8000, 550, 9000, 0 with curve 41; run 0; take 0; station 1 submits nearest 12, 12000, 550, 9000, 0; run 1; take 1
 pub frame-runner : (words : List ℕ) → wordsFor 2 ≤ length words → FrameRunner words
 unfolding run
 frame-runner words l =
-    let w = standing-open words 2 10 (opens words l) in
+    let w = standing-open words 2 10 plainScale (opens words l) in
     let first = called w 0 1 (atWeight 12 8_000) 41 refl in
     let second = called (first .standing) 1 4 (atWeight 12 12_000) 0 refl in
     record { opening = opens words l; adds = first .gives; finds = second .gives }
@@ -53,7 +56,7 @@ frame-runner words l =
 
 -- the words on the way: m and p held, the search submitted, m removed, p removed
 abbrev pub bothHeld : List ℕ → List ℕ
-bothHeld words = calledWords (calledWords (openOf words 2 10 .words) 0 1 m 41) 0 1 p 42
+bothHeld words = calledWords (calledWords (openOf words 2 10 plainScale .words) 0 1 m 41) 0 1 p 42
 
 abbrev pub searchBegun : List ℕ → List ℕ
 searchBegun words = submitOf (bothHeld words) 1 4 target 0 .words
@@ -65,8 +68,8 @@ abbrev pub withoutBoth : List ℕ → List ℕ
 withoutBoth words = calledWords (withoutM words) 0 2 p 0
 
 pub record CaseN (words : List ℕ) : Type 0 where
-  pub adds-m : CallGives (openOf words 2 10 .words) 0 1 m 41 (answer 1 m 41 0)
-  pub adds-p : CallGives (calledWords (openOf words 2 10 .words) 0 1 m 41) 0 1 p 42 (answer 1 p 42 0)
+  pub adds-m : CallGives (openOf words 2 10 plainScale .words) 0 1 m 41 (answer 1 m 41 0)
+  pub adds-p : CallGives (calledWords (openOf words 2 10 plainScale .words) 0 1 m 41) 0 1 p 42 (answer 1 p 42 0)
   pub submits : submitOf (bothHeld words) 1 4 target 0 .number ≡ 0
   pub removes-m : CallGives (searchBegun words) 0 2 m 0 (answer 5 m 41 0)
   pub removes-p : CallGives (withoutM words) 0 2 p 0 (answer 5 p 42 0)
@@ -109,16 +112,16 @@ submits-p t e = rw e
 module _ (words : List ℕ) (l : wordsFor 2 ≤ length words) where
   -- the tables with m, and with m and p held
   abbrev heldM : Table
-  heldM = effect (opened 2 10) 0 1 m 41
+  heldM = effect (opened 2 10 plainScale) 0 1 m 41
 
   abbrev heldBoth : Table
   heldBoth = effect heldM 0 1 p 42
 
-  first : Called (openOf words 2 10 .words) (opened 2 10) (standing-open words 2 10 (opens words l)) 0 1 m 41
+  first : Called (openOf words 2 10 plainScale .words) (opened 2 10 plainScale) (standing-open words 2 10 plainScale (opens words l)) 0 1 m 41
   unfolding run
-  first = called (standing-open words 2 10 (opens words l)) 0 1 m 41 refl
+  first = called (standing-open words 2 10 plainScale (opens words l)) 0 1 m 41 refl
 
-  second : Called (calledWords (openOf words 2 10 .words) 0 1 m 41) heldM (first .standing) 0 1 p 42
+  second : Called (calledWords (openOf words 2 10 plainScale .words) 0 1 m 41) heldM (first .standing) 0 1 p 42
   unfolding run
   second = called (first .standing) 0 1 p 42 refl
 

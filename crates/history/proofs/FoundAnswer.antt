@@ -7,12 +7,14 @@ use mathlib.Core.Option.{none, some}
 use native.Mathlib.Omega.{arith}
 use lib.Dec.{eqb}
 use Rattle.points.specs.declared.point.Point.{Point}
+use Rattle.points.specs.declared.scale.Scale.{Scale}
+use Rattle.points.specs.Scale.{factorsIn}
 use Rattle.points.specs.Point.{inRange}
 use Rattle.points.specs.Square.{squareOf}
 use Rattle.points.specs.Choice.{sameGrade, chosenOver}
 use Rattle.points.proofs.SquareLaws.{square-le}
 use Rattle.stations.specs.declared.call.Best.{Best as WordBest}
-use Rattle.stations.specs.declared.call.Call.{Call}
+use Rattle.calls.specs.declared.aim.Aim.{Aim}
 use Rattle.words.specs.Range.{curveIn}
 use Rattle.stations.specs.Answer.{answerSound}
 use Rattle.table.specs.Record.{Record, Once, nearestOf}
@@ -38,56 +40,56 @@ bestThere best = record { point = best .point; curve = best .curve }
 abbrev recordThere : WordBest → Record
 recordThere best = record { point = best .point; curve = best .curve }
 
-module _ (target : Point) (entries : List Entry) where
+module _ (scale : Scale) (target : Point) (entries : List Entry) where
   -- a record of the list is that of an entry
   grade-of : (q : Record) (m : List·Memᴰ q (map recordOf entries)) → sameGrade target (q .point) ≡ true → sameGrade target (Memᴰ·of-map recordOf entries m .0 .point) ≡ true
   grade-of q m g = ap (λ (r : Record). sameGrade target (r .point)) (Memᴰ·of-map recordOf entries m .2) ∙ g
 
   -- no record is of the grade
-  none-there : Nearest (choiceOf target) (λ e. List·Memᴰ e entries) none → NoneOfGrade target (map recordOf entries)
+  none-there : Nearest (choiceOf scale target) (λ e. List·Memᴰ e entries) none → NoneOfGrade target (map recordOf entries)
   none-there v q m g = let w = Memᴰ·of-map recordOf entries m in v .empty refl (w .0) (w .1) (grade-of q m g)
 
   -- the best is the nearest record
-  some-there : (best : WordBest) → Nearest (choiceOf target) (λ e. List·Memᴰ e entries) (some (bestThere best)) → NearestRecord target (map recordOf entries) (recordThere best)
+  some-there : (best : WordBest) → Nearest (choiceOf scale target) (λ e. List·Memᴰ e entries) (some (bestThere best)) → NearestRecord scale target (map recordOf entries) (recordThere best)
   some-there best v =
-      let f : FoundAs (choiceOf target) (λ e. List·Memᴰ e entries) (bestThere best) = v .held (bestThere best) refl in
+      let f : FoundAs (choiceOf scale target) (λ e. List·Memᴰ e entries) (bestThere best) = v .held (bestThere best) refl in
       let same : recordOf (f .entry) ≡ recordThere best = record-same (recordOf (f .entry)) (recordThere best) (sym (f .point)) (sym (f .curve)) in
       record {
         mem = subst (λ (r : Record). List·Memᴰ r (map recordOf entries)) same (Memᴰ·map recordOf (f .held));
         grade = ap (sameGrade target) (f .point) ∙ f .candidate;
         first = λ q m g d.
             let w = Memᴰ·of-map recordOf entries m in
-            ap (λ (r : Record). chosenOver target (best .point) (r .point)) (sym (w .2))
+            ap (λ (r : Record). chosenOver scale target (best .point) (r .point)) (sym (w .2))
             ∙ v .chosen (bestThere best) refl (w .0) (w .1) (grade-of q m g) (λ z. d (sym (ap (λ (r : Record). r .point) (w .2)) ∙ z));
       }
 
-module _ (call : Call) (best : WordBest) (entries : List Entry) (near : Nearest (choiceOf (call .point)) (λ e. List·Memᴰ e entries) (bestOf best)) where
+module _ (aim : Aim) (best : WordBest) (entries : List Entry) (near : Nearest (choiceOf (aim .scale) (aim .point)) (λ e. List·Memᴰ e entries) (bestOf best)) where
   -- the answer of the records
-  pub found-is : Once (map recordOf entries) → answerOf (foundAnswer call best) ≡ nearestAnswer (call .point) (nearestOf (call .point) (map recordOf entries))
+  pub found-is : Once (map recordOf entries) → answerOf (foundAnswer aim best) ≡ nearestAnswer (aim .scale) (aim .point) (nearestOf (aim .scale) (aim .point) (map recordOf entries))
   unfolding foundAnswer nearestAnswer
   found-is o = go (eqb (best .curve) 0) refl
     where
-      go : (b : Bool) → eqb (best .curve) 0 ≡ b → answerOf (foundAnswer call best) ≡ nearestAnswer (call .point) (nearestOf (call .point) (map recordOf entries))
+      go : (b : Bool) → eqb (best .curve) 0 ≡ b → answerOf (foundAnswer aim best) ≡ nearestAnswer (aim .scale) (aim .point) (nearestOf (aim .scale) (aim .point) (map recordOf entries))
       go true e =
-          let v : Nearest (choiceOf (call .point)) (λ e. List·Memᴰ e entries) none = rw (e, bestOf) at near in
-          rw (none-is (call .point) (map recordOf entries) (none-there (call .point) entries v), e, foundAnswer, nearestAnswer)
+          let v : Nearest (choiceOf (aim .scale) (aim .point)) (λ e. List·Memᴰ e entries) none = rw (e, bestOf) at near in
+          rw (none-is (aim .scale) (aim .point) (map recordOf entries) (none-there (aim .scale) (aim .point) entries v), e, foundAnswer, nearestAnswer)
       go false e =
-          let v : Nearest (choiceOf (call .point)) (λ e. List·Memᴰ e entries) (some (bestThere best)) = rw (e, bestOf) at near in
-          rw (nearest-is (call .point) (map recordOf entries) (recordThere best) o (some-there (call .point) entries best v), e, foundAnswer, nearestAnswer)
+          let v : Nearest (choiceOf (aim .scale) (aim .point)) (λ e. List·Memᴰ e entries) (some (bestThere best)) = rw (e, bestOf) at near in
+          rw (nearest-is (aim .scale) (aim .point) (map recordOf entries) (recordThere best) o (some-there (aim .scale) (aim .point) entries best v), e, foundAnswer, nearestAnswer)
 
-  -- in range, where the target, the best's point and the records are
-  pub found-sound : inRange (call .point) ≡ true → inRange (best .point) ≡ true
-      → ((e : Entry) → List·Memᴰ e entries → (inRange (e .point) ≡ true) × (curveIn (e .curve) ≡ true)) → answerSound (foundAnswer call best) ≡ true
+  -- in range, where the factors, the target, the best's point and the records are
+  pub found-sound : factorsIn (aim .scale) ≡ true → inRange (aim .point) ≡ true → inRange (best .point) ≡ true
+      → ((e : Entry) → List·Memᴰ e entries → (inRange (e .point) ≡ true) × (curveIn (e .curve) ≡ true)) → answerSound (foundAnswer aim best) ≡ true
   unfolding foundAnswer
-  found-sound t b ranged = go (eqb (best .curve) 0) refl
+  found-sound c t b ranged = go (eqb (best .curve) 0) refl
     where
-      go : (x : Bool) → eqb (best .curve) 0 ≡ x → answerSound (foundAnswer call best) ≡ true
+      go : (x : Bool) → eqb (best .curve) 0 ≡ x → answerSound (foundAnswer aim best) ≡ true
       go true e =
-          rw (e, foundAnswer) (answer-of (answer 9 (call .point) 0 0)
+          rw (e, foundAnswer) (answer-of (answer 9 (aim .point) 0 0)
           (record { code = refl; point = t; curve = omega arith; square = omega arith }))
       go false e =
-          let v : Nearest (choiceOf (call .point)) (λ e. List·Memᴰ e entries) (some (bestThere best)) = rw (e, bestOf) at near in
-          let f : FoundAs (choiceOf (call .point)) (λ e. List·Memᴰ e entries) (bestThere best) = v .held (bestThere best) refl in
-          let c = curve-tells (f .entry .curve) (ranged (f .entry) (f .held) .1) in
-          rw (e, foundAnswer) (answer-of (answer 8 (best .point) (best .curve) (squareOf (call .point) (best .point)))
-          (record { code = refl; point = b; curve = omega (arith, f .curve, c .1); square = square-le (call .point) (best .point) t b }))
+          let n : Nearest (choiceOf (aim .scale) (aim .point)) (λ e. List·Memᴰ e entries) (some (bestThere best)) = rw (e, bestOf) at near in
+          let f : FoundAs (choiceOf (aim .scale) (aim .point)) (λ e. List·Memᴰ e entries) (bestThere best) = n .held (bestThere best) refl in
+          let v = curve-tells (f .entry .curve) (ranged (f .entry) (f .held) .1) in
+          rw (e, foundAnswer) (answer-of (answer 8 (best .point) (best .curve) (squareOf (aim .scale) (aim .point) (best .point)))
+          (record { code = refl; point = b; curve = omega (arith, f .curve, v .1); square = square-le (aim .scale) (aim .point) (best .point) c t b }))

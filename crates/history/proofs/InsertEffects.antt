@@ -6,6 +6,7 @@ use mathlib.Core.List.{List}
 use native.Mathlib.Omega.{arith}
 use lib.Dec.{eqb}
 use lib.ListN.{length}
+use Rattle.points.specs.declared.scale.Scale.{Scale}
 use Rattle.words.specs.Layout.{stations, records}
 use Rattle.words.specs.Words.{more}
 use Rattle.stations.specs.Track.{standing}
@@ -33,12 +34,12 @@ cursors-moved gone to (suc n) w h long =
     let here = there-of (cursorsMoved gone to n w) n (record { station = omega arith; long = omega (arith, m .only .lengths) }) in
     moved-next (moved-at (λ target. cursorTo gone to) (cursorsMoved gone to n w) n here) m
 
-module _ (words : List ℕ) (places limit : ℕ) (o : openedIn words ≡ Opened places limit) (s : ℕ) (l : s < stations) (site : Site) where
+module _ (words : List ℕ) (places limit : ℕ) (scale : Scale) (o : openedIn words ≡ Opened places limit scale) (s : ℕ) (l : s < stations) (site : Site) where
   long : records ≤ length words
-  long = omega (arith, opened-tells words places limit o .long)
+  long = omega (arith, opened-tells words places limit scale o .long)
 
   counted : Counting (insertCounts words s site) words (countInserted site (countsAt words)) s
-  counted = insert-counted words s site (opened-station words places limit o s l)
+  counted = insert-counted words s site (opened-station words places limit scale o s l)
 
   moves : Moved (λ target. cursorTo (site .at) (site .second)) (cursorsMoved (site .at) (site .second) stations (insertCounts words s site)) (insertCounts words s site) stations
   moves = cursors-moved (site .at) (site .second) stations (insertCounts words s site) (omega arith) (omega (arith, counted .only .lengths, long))

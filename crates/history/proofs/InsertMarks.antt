@@ -6,6 +6,7 @@ use mathlib.Core.Bool.{Bool, true, not}
 use mathlib.Core.List.{List}
 use native.Mathlib.Omega.{arith}
 use lib.ListN.{length}
+use Rattle.points.specs.declared.scale.Scale.{Scale}
 use Rattle.points.specs.declared.point.Point.{Point}
 use Rattle.points.specs.Cut.{cutOf, goesLeft}
 use Rattle.points.specs.Word.{NONE}
@@ -63,7 +64,7 @@ module _ (words : List ℕ) {places : ℕ} {h : Heap} {a b : ℕ} {l : Leaf} (w 
 
   -- ---- the new cut
 
-  module _ {limit : ℕ} (o : openedIn base ≡ Opened places limit) where
+  module _ {limit : ℕ} {scale : Scale} (o : openedIn base ≡ Opened places limit scale) where
     -- the words with the new leaf and the cut
     abbrev first : List ℕ
     first = putRow base a (newLeaf site (new .added) (new .point) (new .curve))
@@ -73,9 +74,9 @@ module _ (words : List ℕ) {places : ℕ} {h : Heap} {a b : ℕ} {l : Leaf} (w 
 
     there : Fits second (2 * places)
     there =
-        let e : openedIn second ≡ Opened places limit =
+        let e : openedIn second ≡ Opened places limit scale =
         row-written first b (newCut site (new .point)) .opened ∙ row-written base a (newLeaf site (new .added) (new .point) (new .curve)) .opened ∙ o in
-        opened-fits second places limit e
+        opened-fits second places limit scale e
 
     -- what the rows written after it leave of its marks
     after : (side : Bool) (p : Point) → marksIn written b side p ≡ marksIn (putCut first site (new .point)) b side p

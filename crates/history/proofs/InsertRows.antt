@@ -9,6 +9,7 @@ use mathlib.Core.Option.{none, some}
 use native.Mathlib.Omega.{arith}
 use lib.Dec.{eqb, ltb}
 use borrow.Author.Tests.{eq-eqb, ne-eqb, lt-ltb}
+use Rattle.points.specs.declared.scale.Scale.{Scale}
 use Rattle.stations.specs.Counts.{countsAt}
 use Rattle.points.specs.declared.point.Point.{Point}
 use Rattle.points.specs.declared.cut.Cut.{Cut}
@@ -163,10 +164,10 @@ module _ (words : List ℕ) {places : ℕ} {h : Heap} {a b : ℕ} {l : Leaf} (w 
       go false = cut-of (2 * places) (l .parent) k (l .row) a (record { link-in = old .link-in; cut-in = between; left-in = row-in; right-in = first-in })
 
   -- the rows written over a slice with the same rows
-  pub beside-writes : {base : List ℕ} {limit : ℕ} (new : Entry) → inRange (new .point) ≡ true → curveIn (new .curve) ≡ true → Holding base base places limit h
-      → (h′ : Heap) × Holding base (insertRows base (besideSite words (2 * places) h a b l) (new .added) (new .point) (new .curve)) places limit h′ × InsertBeside h h′ a b new l
+  pub beside-writes : {base : List ℕ} {limit : ℕ} {scale : Scale} (new : Entry) → inRange (new .point) ≡ true → curveIn (new .curve) ≡ true → Holding base base places limit scale h
+      → (h′ : Heap) × Holding base (insertRows base (besideSite words (2 * places) h a b l) (new .added) (new .point) (new .curve)) places limit scale h′ × InsertBeside h h′ a b new l
   unfolding insertRows newLeaf putCut cutIn
-  beside-writes {base} {limit} new i c v = elim (w .above) [
+  beside-writes {base} {limit} {scale} new i c v = elim (w .above) [
     | inl e ↦ (
       h₃,
       put-nothing v₃ (l .parent) (replaced (l .row) b (rowAt words (2 * places) (l .parent))) e,
@@ -206,20 +207,20 @@ module _ (words : List ℕ) {places : ℕ} {h : Heap} {a b : ℕ} {l : Leaf} (w 
       w₂ : List ℕ
       w₂ = putCut w₁ site (new .point)
 
-      v₁ : Holding base w₁ places limit h₁
+      v₁ : Holding base w₁ places limit scale h₁
       v₁ = put-row v a (wordRow (leafRow b new)) (leafRow b new) refl (w .first-row)
           (leaf-of (2 * places) b new (record { link-in = link-row (2 * places) b (w .second-row); point-in = i; curve-in = c }))
 
-      cut-put : Holding base (putRow w₁ b (cutIn site (new .point))) places limit h₂
+      cut-put : Holding base (putRow w₁ b (cutIn site (new .point))) places limit scale h₂
       cut-put = put-row v₁ b (cutIn site (new .point)) cut (cut-word site (new .point) (l .entry .point) refl) (w .second-row) (new-cut-in new i)
 
       cut-reads : rowAt (putRow w₁ b (cutIn site (new .point))) (2 * places) b ≡ cutIn site (new .point)
       cut-reads = cut-put .reads b (w .second-row) ∙ ap wordRow (heap-wrote h₁ b cut .here) ∙ sym (cut-word site (new .point) (l .entry .point) refl)
 
-      v₂ : Holding base w₂ places limit h₂
+      v₂ : Holding base w₂ places limit scale h₂
       v₂ = put-grades cut-put b (newSide site (new .point)) (new .point) (l .entry .point) cut-reads
 
-      v₃ : Holding base (putRow w₂ (l .row) (wordRow (leafRow b (l .entry)))) places limit h₃
+      v₃ : Holding base (putRow w₂ (l .row) (wordRow (leafRow b (l .entry)))) places limit scale h₃
       v₃ = put-row v₂ (l .row) (wordRow (leafRow b (l .entry))) (leafRow b (l .entry)) refl (w .leaf-row)
           (leaf-in (2 * places) b (l .parent) (l .entry) (link-row (2 * places) b (w .second-row)) leaf-ranged)
 
@@ -248,16 +249,16 @@ module _ (words : List ℕ) (places : ℕ) (h : Heap) (a : ℕ) (first-row : a <
   sound-alone n = rw (next-word (h a), ne-eqb (nextOf (h a)) NONE n)
 
   -- no cut is written
-  cut-nothing : {base w : List ℕ} {limit : ℕ} {h′ : Heap} → Holding base w places limit h′ → (p : Point) → Holding base (putCut w (aloneSite h a) p) places limit h′
+  cut-nothing : {base w : List ℕ} {limit : ℕ} {scale : Scale} {h′ : Heap} → Holding base w places limit scale h′ → (p : Point) → Holding base (putCut w (aloneSite h a) p) places limit scale h′
   unfolding putCut
   cut-nothing {base} {w} v p =
       let same : putCut w (aloneSite h a) p ≡ w = begin-outside (putRow w NONE (cutIn (aloneSite h a) p)) NONE _ _ _ (omega arith) ∙ put-none w (cutIn (aloneSite h a) p) in
       rw same v
 
-  pub alone-writes : {base : List ℕ} {limit : ℕ} (new : Entry) → inRange (new .point) ≡ true → curveIn (new .curve) ≡ true → Holding base base places limit h
-      → (h′ : Heap) × Holding base (insertRows base (aloneSite h a) (new .added) (new .point) (new .curve)) places limit h′ × InsertAlone h h′ a new
+  pub alone-writes : {base : List ℕ} {limit : ℕ} {scale : Scale} (new : Entry) → inRange (new .point) ≡ true → curveIn (new .curve) ≡ true → Holding base base places limit scale h
+      → (h′ : Heap) × Holding base (insertRows base (aloneSite h a) (new .added) (new .point) (new .curve)) places limit scale h′ × InsertAlone h h′ a new
   unfolding insertRows newLeaf
-  alone-writes {base} {limit} new i c v =
+  alone-writes {base} {limit} {scale} new i c v =
       let v₁ = put-row v a (wordRow (leafRow NONE new)) (leafRow NONE new) refl first-row
       (leaf-of (2 * places) NONE new (record { link-in = link-none (2 * places); point-in = i; curve-in = c })) in (
         heapPut h a (leafRow NONE new),

@@ -12,7 +12,7 @@ use Rattle.points.specs.Point.{inRange}
 use Rattle.points.specs.Word.{NONE}
 use Rattle.points.proofs.Tests.{and-l, and-r}
 use Rattle.stations.specs.declared.call.Best.{Best as WordBest}
-use Rattle.stations.specs.declared.call.Call.{Call}
+use Rattle.calls.specs.declared.aim.Aim.{Aim}
 use Rattle.words.specs.Range.{linkIn, curveIn}
 use Rattle.rows.specs.Row.{rowAt, inRows}
 use Rattle.trees.specs.Row.{Entry, Row, spareRow, removedRow, leafRow, cutRow, Heap}
@@ -53,7 +53,7 @@ pass-row (removedRow after n d) next m e = (refl, Option·some-injective next m 
 pass-row (leafRow parent d) next m e = absurd (Option·none-ne-some m e)
 pass-row (cutRow parent k l r) next m e = absurd (Option·none-ne-some m e)
 
-module _ (words : List ℕ) (rows : ℕ) (h : Heap) (reads : Reads words rows h) (fits : rows ≤ NONE) (call : Call) where
+module _ (words : List ℕ) (rows : ℕ) (h : Heap) (reads : Reads words rows h) (fits : rows ≤ NONE) (aim : Aim) where
   -- the row after the missed one, if any, is free, and missed goes past it where it is spare
   pass-words : (next m : ℕ) → linkIn rows next ≡ true → missedNext h next ≡ some m
       → ((eqb next NONE || isFree (rowAt words rows next)) ≡ true) × (passWordSpare next (rowAt words rows next) ≡ m)
@@ -87,21 +87,21 @@ module _ (words : List ℕ) (rows : ℕ) (h : Heap) (reads : Reads words rows h)
           (λ j. record { stand = viewOf p .stand; missed = w .1 j; best = e j })
 
   look-row : (x : Row) (p : WordProgress) → Fit p → inRows rows (wordRow x) ≡ true
-      → Keeps (lookAt call p (wordRow x) (rowAt words rows (nextOf (wordRow x)))) (lookRow (choiceOf (call .point)) (call .asof) h x (viewOf p .stand) (bestOf (p .best)))
+      → Keeps (lookAt aim p (wordRow x) (rowAt words rows (nextOf (wordRow x)))) (lookRow (choiceOf (aim .scale) (aim .point)) (aim .asof) h x (viewOf p .stand) (bestOf (p .best)))
   look-row (spareRow next n) p f i = look-next p next (p .best) (bestOf (p .best)) f (sym (in-rows-spare rows next n) ∙ i) (f .best) refl
   look-row (removedRow next n e) p f i =
       let w = removed-in rows next n e i in
-      look-next p next (consideredWord call (p .best) (e .added) (e .point) (e .curve)) (considered (choiceOf (call .point)) (call .asof) (bestOf (p .best)) e) f
-      (w .link) (considered-ranged call (p .best) e (f .best) (w .point)) (considered-words call (p .best) e (w .curve))
-  look-row (leafRow parent e) p f i = keeps-none (lookAt call p (wordRow (leafRow parent e)) (rowAt words rows NONE))
-  look-row (cutRow parent k l r) p f i = keeps-none (lookAt call p (wordRow (cutRow parent k l r)) (rowAt words rows NONE))
+      look-next p next (consideredWord aim (p .best) (e .added) (e .point) (e .curve)) (considered (choiceOf (aim .scale) (aim .point)) (aim .asof) (bestOf (p .best)) e) f
+      (w .link) (considered-ranged aim (p .best) e (f .best) (w .point)) (considered-words aim (p .best) e (w .curve))
+  look-row (leafRow parent e) p f i = keeps-none (lookAt aim p (wordRow (leafRow parent e)) (rowAt words rows NONE))
+  look-row (cutRow parent k l r) p f i = keeps-none (lookAt aim p (wordRow (cutRow parent k l r)) (rowAt words rows NONE))
 
   -- the missed row is none or a row
   pub look-words : (p : WordProgress) → Fit p → (p .missed ≡ NONE) ⊎ (p .missed < rows)
-      → Keeps (lookWord words rows call p) (look (choiceOf (call .point)) (call .asof) h (viewOf p))
+      → Keeps (lookWord words rows aim p) (look (choiceOf (aim .scale) (aim .point)) (aim .asof) h (viewOf p))
   unfolding lookWord look
   look-words p f m =
-      keeps-pick (eqb (p .missed) NONE) p (lookAt call p (rowAt words rows (p .missed)) (rowAt words rows (nextOf (rowAt words rows (p .missed))))) (some (viewOf p))
-      (lookRow (choiceOf (call .point)) (call .asof) h (h (p .missed)) (viewOf p .stand) (bestOf (p .best)))
+      keeps-pick (eqb (p .missed) NONE) p (lookAt aim p (rowAt words rows (p .missed)) (rowAt words rows (nextOf (rowAt words rows (p .missed))))) (some (viewOf p))
+      (lookRow (choiceOf (aim .scale) (aim .point)) (aim .asof) h (h (p .missed)) (viewOf p .stand) (bestOf (p .best)))
       (λ e. keeps-some p (viewOf p) f refl)
       (λ e. elim m [ inl z ↦ absurd (eqb-false (p .missed) NONE e z) | inr l ↦ rw (reads (p .missed) l) (look-row (h (p .missed)) p f (reads-in words rows h (p .missed) l reads)) ])

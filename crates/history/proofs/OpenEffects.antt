@@ -6,6 +6,8 @@ use mathlib.Core.List.{List}
 use native.Mathlib.Omega.{arith}
 use lib.Dec.{eqb}
 use lib.ListN.{length}
+use Rattle.points.specs.declared.scale.Scale.{Scale}
+use Rattle.points.specs.Scale.{factorsIn}
 use Rattle.points.specs.Word.{NONE}
 use Rattle.words.specs.Layout.{stations, records, mostPlaces, wordsFor, Fits}
 use Rattle.words.specs.Agree.{inCommon, inStation, OnlyIn, Beyond}
@@ -32,8 +34,8 @@ use Rattle.history.proofs.TrackEffects.{Moved, moved-at, moved-none, mo
 use Rattle.history.proofs.OpenRows.{Spares, rows-spare}
 
 -- a new history: opened, nothing counted, every station idle and nowhere, every row spare and linked to the next
-pub record OpenedAs (words : List ℕ) (places limit : ℕ) : Type 0 where
-  pub opened : openedIn words ≡ Opened places limit
+pub record OpenedAs (words : List ℕ) (places limit : ℕ) (scale : Scale) : Type 0 where
+  pub opened : openedIn words ≡ Opened places limit scale
   pub counts : countsAt words ≡ record { changes = 0; held = 0; root = NONE; head = 0; tail = 2 * places - 1; removals = 0 }
   pub counters : (s : ℕ) → counterAt words s ≡ 0
   pub states : (s : ℕ) → s < stations → seatAt words s .state ≡ 0
@@ -49,10 +51,10 @@ tracks-cleared (suc n) w h long =
     let here = there-of (tracksCleared n w) n (record { station = omega arith; long = omega (arith, m .only .lengths) }) in
     moved-next (moved-at (λ target track. nowhere) (tracksCleared n w) n here) m
 
-module _ (words : List ℕ) (places limit : ℕ) (p : placesIn places ≡ true) (m : limitIn limit ≡ true) (l : wordsFor places ≤ length words) where
+module _ (words : List ℕ) (places limit : ℕ) (scale : Scale) (p : placesIn places ≡ true) (m : limitIn limit ≡ true) (f : factorsIn scale ≡ true) (l : wordsFor places ≤ length words) where
   -- the words after each of the parts of opening
   abbrev begun : List ℕ
-  begun = putOpening (recordsCleared words) places limit
+  begun = putOpening (recordsCleared words) places limit scale
 
   abbrev counted : List ℕ
   counted = putCounts begun (newCounts places)
@@ -64,7 +66,7 @@ module _ (words : List ℕ) (places limit : ℕ) (p : placesIn places ≡ true) 
   whole = rowsSpare (2 * places) (2 * places) placed
 
   length-begun : length begun ≡ length words
-  length-begun = length-putOpening (recordsCleared words) places limit ∙ length-cleared words
+  length-begun = length-putOpening (recordsCleared words) places limit scale ∙ length-cleared words
 
   counted-only : OnlyIn counted begun inCommon
   counted-only = putCounts-only begun (newCounts places)
@@ -90,25 +92,25 @@ module _ (words : List ℕ) (places limit : ℕ) (p : placesIn places ≡ true) 
       ap (λ t. t .word)
       (stateAt-agree s (agree-trans (rows-written .station s)
       (agree-trans (elsewhere inCommon (inStation s) (tracks-written .only) (station-common s)) (elsewhere inCommon (inStation s) counted-only (station-common s)))))
-      ∙ ap (λ t. t .word) (state-putOpening (recordsCleared words) places limit s ∙ state-cleared words (omega arith) s h)
+      ∙ ap (λ t. t .word) (state-putOpening (recordsCleared words) places limit scale s ∙ state-cleared words (omega arith) s h)
 
-  pub open-written : OpenedAs (openedWords words places limit) places limit
+  pub open-written : OpenedAs (openedWords words places limit scale) places limit scale
   unfolding openedWords headWords newCounts
   open-written = record {
-    opened = openedIn-agree (rows-written .common) ∙ tracks-written .opened ∙ opened-putCounts begun (newCounts places) ∙ opened-begun (recordsCleared words) places limit p m (omega (arith, length-cleared words));
+    opened = openedIn-agree (rows-written .common) ∙ tracks-written .opened ∙ opened-putCounts begun (newCounts places) ∙ opened-begun (recordsCleared words) places limit scale p m f (omega (arith, length-cleared words));
     counts = counts-agree (rows-written .common) ∙ tracks-written .counts ∙ counts-back begun (newCounts places) (omega (arith, length-begun));
     counters = λ s.
-        counter-agree (rows-written .common) s ∙ tracks-written .counters s ∙ counter-putCounts begun (newCounts places) s ∙ counter-putOpening (recordsCleared words) places limit s
+        counter-agree (rows-written .common) s ∙ tracks-written .counters s ∙ counter-putCounts begun (newCounts places) s ∙ counter-putOpening (recordsCleared words) places limit scale s
         ∙ counter-cleared words (omega arith) s;
     states = idle;
     seats = λ s h. track-agree (rows-written .common) s ∙ tracks-written .moved s h;
     rows = rows-written .spare;
   }
 
-  pub opened-beyond : Beyond (openedWords words places limit) words (wordsFor places)
+  pub opened-beyond : Beyond (openedWords words places limit scale) words (wordsFor places)
   unfolding openedWords headWords
   opened-beyond =
       beyond-trans (rw (rows-end places) at (rows-written .beyond))
       (beyond-trans (beyond-common (tracks-written .only) (omega arith))
       (beyond-trans (beyond-common counted-only (omega arith))
-      (beyond-trans (opening-beyond (recordsCleared words) places limit (omega arith)) (cleared-beyond words (omega arith)))))
+      (beyond-trans (opening-beyond (recordsCleared words) places limit scale (omega arith)) (cleared-beyond words (omega arith)))))

@@ -1,7 +1,7 @@
 -- What the seats say after an insert (`says-insert`): every cursor on the old leaf has moved to the new cut, so that walks stay on the way of
 -- their points and searches have all before them that they had.
 use Prim.Native.Nat.{ℕ, suc, _≤_, _+_}
-use mathlib.Core.Path.{_≡_, refl, sym, _∙_, ap}
+use mathlib.Core.Path.{subst, _≡_, refl, sym, _∙_, ap}
 use mathlib.Core.Logic.{_≢_}
 use mathlib.Core.Bool.{Bool, true, false, cond, true≢false}
 use mathlib.Core.List.{List}
@@ -13,10 +13,12 @@ use lib.ListN.{length}
 use borrow.Author.Tests.{ne-eqb}
 use Rattle.stations.specs.Track.{nowhere}
 use Rattle.points.specs.declared.point.Point.{Point}
+use Rattle.points.specs.declared.scale.Scale.{Scale}
 use Rattle.points.specs.Word.{NONE}
 use Rattle.table.specs.Call.{Call, add, remove, contains, nearest, Answer}
 use Rattle.table.specs.Table.{Station, idle, unfinished, waiting, Table, allChanges}
 use Rattle.table.proofs.Eager.{unsettled}
+use Rattle.trees.specs.Choice.{sideOf}
 use Rattle.trees.specs.Row.{Entry, Heap}
 use Rattle.trees.specs.Tree.{Tree}
 use Rattle.trees.specs.Queue.{Free}
@@ -30,7 +32,6 @@ use Rattle.trees.proofs.RouteLaws.{walk-insert}
 use Rattle.trees.proofs.SearchLaws.{search-insert}
 use Rattle.trees.specs.Measure.{progressLeft}
 use Rattle.trees.specs.Store.{Store}
-use Rattle.trees.proofs.ChoiceOf.{choiceOf}
 use Rattle.trees.proofs.OthersLaws.{others-insert}
 use Rattle.history.specs.View.{Seat, phaseOf, progressOf}
 use Rattle.history.specs.Related.{Quiet, Set, Walks, Works, Says, Marking, Busy}
@@ -67,10 +68,10 @@ quiet-moved gone to seat n w = record { cursor = go (ℕ-discrete gone NONE); ph
 
 -- ---- after an insert
 
--- t′ is the table with one change more and the same removals
+-- t′ is the table with one change more and the same removals and factors
 module _ {h h′ : Heap} {tree : Option Tree} {queue : List Free} {released : ℕ} {new : Entry} {place : Option Leaf} {a b : ℕ} (t t′ : Table)
     (w : Inserted (t .places) h h′ tree queue (allChanges t) (length (t .removals)) released new place a b) (changes : allChanges t′ ≡ suc (allChanges t)) (removals : t′ .removals ≡ t .removals)
-    (seat : Seat) where
+    (scale : t′ .scale ≡ t .scale) (seat : Seat) where
   abbrev moved : Seat
   moved = movedCursor (leafOf place) (cutFor place b) seat
 
@@ -83,9 +84,9 @@ module _ {h h′ : Heap} {tree : Option Tree} {queue : List Free} {released : �
     best = v .best;
   }
 
-  set-insert : (target : Point) (entries : List Entry) (set : Option Answer) → set ≢ none → Set target entries tree set → Set target entries (w .tree) set
-  set-insert target entries none n v = absurd (n refl)
-  set-insert target entries (some x) n v = v
+  set-insert : (scale : Scale) (target : Point) (entries : List Entry) (set : Option Answer) → set ≢ none → Set scale target entries tree set → Set scale target entries (w .tree) set
+  set-insert scale target entries none n v = absurd (n refl)
+  set-insert scale target entries (some x) n v = v
 
   -- no nearest call is without an answer set down
   set-there : (i : ℕ) (p : Point) (set : Option Answer) → unsettled (unfinished i (nearest p) set) ≡ false → set ≢ none
@@ -103,15 +104,15 @@ module _ {h h′ : Heap} {tree : Option Tree} {queue : List Free} {released : �
     entries = v .entries;
     once = v .once;
     ranged = v .ranged;
-    search = rw (changes, removals, ← progress-moved (leafOf place) (cutFor place b) seat) (search-insert w l (v .search));
-    answer = set-insert p (v .entries) set (set-there i p set f) (v .answer);
+    search = rw (changes, removals, scale, ← progress-moved (leafOf place) (cutFor place b) seat) (search-insert w l (v .search));
+    answer = subst (λ (c : Scale). Set c p (v .entries) (w .tree) set) (sym scale) (set-insert (t .scale) p (v .entries) set (set-there i p set f) (v .answer));
   }
 
   -- a search has at most four moves more left
   pub left-insert : Store (t .places) h tree queue (allChanges t) (length (t .removals)) released → (i : ℕ) (p : Point) (x : Answer) → released ≤ seat .track .since
       → Busy t tree queue seat i (nearest p) (some x) → leftAt (w .tree) (w .queue) moved ≤ 4 + leftAt tree queue seat
   left-insert st i p x l v =
-      let same = ap (λ (z : Progress). progressLeft (choiceOf p .side) (w .tree) (w .queue) z) (progress-moved (leafOf place) (cutFor place b) seat) in
+      let same = ap (λ (z : Progress). progressLeft (sideOf p) (w .tree) (w .queue) z) (progress-moved (leafOf place) (cutFor place b) seat) in
       omega (arith, same, left-target (w .tree) (w .queue) moved p (v .point), left-target tree queue seat p (v .point), others-insert st w l (v .works .search))
 
   -- the seat says the same of its station

@@ -12,11 +12,11 @@ use Rattle.stations.specs.declared.counts.Counts.{Counts}
 use Rattle.table.specs.Call.{Call, add, remove, contains, nearest, Answer}
 use Rattle.table.specs.Table.{Station, idle, unfinished, waiting, Table}
 use Rattle.table.proofs.Simulation.{finished}
+use Rattle.trees.specs.Choice.{sideOf}
 use Rattle.trees.specs.Tree.{Tree}
 use Rattle.trees.specs.Queue.{Free}
 use Rattle.trees.specs.Route.{standsAt}
 use Rattle.trees.specs.Measure.{walkLeft, searchLeft, stepMoves, progressLeft}
-use Rattle.trees.proofs.ChoiceOf.{choiceOf}
 use Rattle.calls.specs.Reply.{Reply as WordReply}
 use Rattle.history.specs.View.{Seat, seatAt, progressOf}
 use Rattle.history.specs.Related.{Searching, Related}
@@ -50,12 +50,12 @@ pub record Aside {words words′ : List ℕ} {t : Table} (r : Related words t) (
 
 -- the moves and looks left to the search at a seat
 abbrev pub leftAt : Option Tree → List Free → Seat → ℕ
-leftAt tree queue seat = progressLeft (choiceOf (seat .call .point) .side) tree queue (progressOf seat)
+leftAt tree queue seat = progressLeft (sideOf (seat .call .point)) tree queue (progressOf seat)
 
 -- by the target of its call
 pub left-target : (tree : Option Tree) (queue : List Free) (seat : Seat) (p : Point) → seat .call .point ≡ p
-    → leftAt tree queue seat ≡ progressLeft (choiceOf p .side) tree queue (progressOf seat)
-left-target tree queue seat p e = ap (λ (x : Point). progressLeft (choiceOf x .side) tree queue (progressOf seat)) e
+    → leftAt tree queue seat ≡ progressLeft (sideOf p) tree queue (progressOf seat)
+left-target tree queue seat p e = ap (λ (x : Point). progressLeft (sideOf x) tree queue (progressOf seat)) e
 
 -- what others have spent on a search since its submission, by the counts: four for each record held or removed since, and a look for each removed
 abbrev pub spentBy : Counts → Track → ℕ

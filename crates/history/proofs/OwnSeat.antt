@@ -86,7 +86,7 @@ module _ {words : List ℕ} {t : Table} (s : ℕ) (l : s < stations) (r : Relate
       → Related (answeredWords words s a) (withStations t (put (t .stations) s (waiting (answerOf a))))
   related-answered a n e =
       related-seat words (answeredWords words s a) t (put (t .stations) s (waiting (answerOf a))) s (answeredSeat (seatAt words s) a) r
-      (answer-written words (t .places) (t .limit) (r .opened) s l a e) (answer-rows words (t .places) (t .limit) (r .opened) s l a)
+      (answer-written words (t .places) (t .limit) (t .scale) (r .opened) s l a e) (answer-rows words (t .places) (t .limit) (t .scale) (r .opened) s l a)
       (omega (arith, least-removals words, r .counted .removals))
       (λ u d. put-other (t .stations) s u (waiting (answerOf a)) d)
       (rw (put-same (t .stations) s (waiting (answerOf a))) (record { state = refl; sound = e; answer = refl; quiet = record { cursor = refl; phase = refl; since = refl; missed = refl } }))
@@ -97,7 +97,7 @@ module _ {words : List ℕ} {t : Table} (s : ℕ) (l : s < stations) (r : Relate
       → Next r s (answeredWords words s a) (withStations t (put (t .stations) s (waiting (answerOf a))))
   unfolding related-answered related-seat related-written
   next-answered a n e =
-      let v = answer-written words (t .places) (t .limit) (r .opened) s l a e in
+      let v = answer-written words (t .places) (t .limit) (t .scale) (r .opened) s l a e in
       let next = related-answered a n e in
       record {
         related = next;
@@ -129,11 +129,11 @@ module _ {words : List ℕ} {t : Table} (s : ℕ) (l : s < stations) (r : Relate
     }
       where
         next : Related (walkedWords words s to) t
-        next = related-seat words (walkedWords words s to) t (t .stations) s walkSeat r (walk-written words (t .places) (t .limit) (r .opened) s l to) (walk-rows words (t .places) (t .limit) (r .opened) s l to)
+        next = related-seat words (walkedWords words s to) t (t .stations) s walkSeat r (walk-written words (t .places) (t .limit) (t .scale) (r .opened) s l to) (walk-rows words (t .places) (t .limit) (t .scale) (r .opened) s l to)
             walk-least (λ u d. refl) walk-busy (rw q marked)
 
         seated : seatAt (walkedWords words s to) s ≡ walkSeat
-        seated = walk-written words (t .places) (t .limit) (r .opened) s l to .seated s l ∙ seat-put-same (λ u. seatAt words u) s walkSeat
+        seated = walk-written words (t .places) (t .limit) (t .scale) (r .opened) s l to .seated s l ∙ seat-put-same (λ u. seatAt words u) s walkSeat
 
     -- and nothing else moves
     pub aside-walks : (n : ℕ) (there : to ≢ NONE) (few : stepMoves * walkLeft (r .tree) to ≤ n) → Aside r (left-walks n there few .related) s
@@ -141,5 +141,5 @@ module _ {words : List ℕ} {t : Table} (s : ℕ) (l : s < stations) (r : Relate
     aside-walks n there few = record {
       tree = refl;
       queue = refl;
-      others = λ u k d. walk-written words (t .places) (t .limit) (r .opened) s l to .seated u k ∙ seat-put-other (λ z. seatAt words z) s u walkSeat d;
+      others = λ u k d. walk-written words (t .places) (t .limit) (t .scale) (r .opened) s l to .seated u k ∙ seat-put-other (λ z. seatAt words z) s u walkSeat d;
     }

@@ -11,7 +11,7 @@ use Rattle.points.specs.declared.point.Point.{Point}
 use Rattle.points.specs.Point.{inRange}
 use Rattle.points.specs.Choice.{sameGrade}
 use Rattle.stations.specs.declared.call.Best.{Best as WordBest}
-use Rattle.stations.specs.declared.call.Call.{Call}
+use Rattle.calls.specs.declared.aim.Aim.{Aim}
 use Rattle.trees.specs.Row.{Entry}
 use Rattle.trees.specs.Choice.{bestSquare}
 use Rattle.trees.specs.Tour.{Best, pointOf, Progress, better, pickBest, considered, pickProgress, goTo}
@@ -69,39 +69,39 @@ best-pick false x y = refl
 best-some : (p : Point) (c : ℕ) → c ≢ 0 → bestOf (record { curve = c; point = p }) ≡ some (record { point = p; curve = c })
 best-some p c n = rw (ne-eqb c 0 n, bestOf)
 
-better-words : (target : Point) (best : WordBest) (p : Point) → betterWord target best p ≡ better (choiceOf target) (pointOf (bestOf best)) p
-better-words target best p = go (eqb (best .curve) 0) refl
+better-words : (aim : Aim) (best : WordBest) (p : Point) → betterWord aim best p ≡ better (choiceOf (aim .scale) (aim .point)) (pointOf (bestOf best)) p
+better-words aim best p = go (eqb (best .curve) 0) refl
   where
-    go : (b : Bool) → eqb (best .curve) 0 ≡ b → betterWord target best p ≡ better (choiceOf target) (pointOf (bestOf best)) p
+    go : (b : Bool) → eqb (best .curve) 0 ≡ b → betterWord aim best p ≡ better (choiceOf (aim .scale) (aim .point)) (pointOf (bestOf best)) p
     go true e = rw (e, bestOf)
     go false e = rw (e, bestOf)
 
 -- the square that a far side must not exceed
-pub square-words : (target : Point) (best : WordBest) → bestWordSquare target best ≡ bestSquare target (pointOf (bestOf best))
-square-words target best = go (eqb (best .curve) 0) refl
+pub square-words : (aim : Aim) (best : WordBest) → bestWordSquare aim best ≡ bestSquare (aim .scale) (aim .point) (pointOf (bestOf best))
+square-words aim best = go (eqb (best .curve) 0) refl
   where
-    go : (b : Bool) → eqb (best .curve) 0 ≡ b → bestWordSquare target best ≡ bestSquare target (pointOf (bestOf best))
+    go : (b : Bool) → eqb (best .curve) 0 ≡ b → bestWordSquare aim best ≡ bestSquare (aim .scale) (aim .point) (pointOf (bestOf best))
     go true e = rw (e, bestOf)
     go false e = rw (e, bestOf)
 
 -- a record with a curve is considered alike
-pub considered-words : (call : Call) (best : WordBest) (e : Entry) → e .curve ≢ 0
-    → bestOf (consideredWord call best (e .added) (e .point) (e .curve)) ≡ considered (choiceOf (call .point)) (call .asof) (bestOf best) e
+pub considered-words : (aim : Aim) (best : WordBest) (e : Entry) → e .curve ≢ 0
+    → bestOf (consideredWord aim best (e .added) (e .point) (e .curve)) ≡ considered (choiceOf (aim .scale) (aim .point)) (aim .asof) (bestOf best) e
 unfolding consideredWord considered
-considered-words call best e n =
-    best-pick ((leb (e .added) (call .asof) && sameGrade (call .point) (e .point)) && betterWord (call .point) best (e .point))
+considered-words aim best e n =
+    best-pick ((leb (e .added) (aim .asof) && sameGrade (aim .point) (e .point)) && betterWord aim best (e .point))
     (record { curve = e .curve; point = e .point }) best
     ∙ rw (
       best-some (e .point) (e .curve) n,
-      better-words (call .point) best (e .point),
-      and-assoc (leb (e .added) (call .asof)) (sameGrade (call .point) (e .point)) (better (choiceOf (call .point)) (pointOf (bestOf best)) (e .point)),
+      better-words aim best (e .point),
+      and-assoc (leb (e .added) (aim .asof)) (sameGrade (aim .point) (e .point)) (better (choiceOf (aim .scale) (aim .point)) (pointOf (bestOf best)) (e .point)),
     )
 
 -- and leaves a best in range
-pub considered-ranged : (call : Call) (best : WordBest) (e : Entry) → inRange (best .point) ≡ true → inRange (e .point) ≡ true
-    → inRange (consideredWord call best (e .added) (e .point) (e .curve) .point) ≡ true
+pub considered-ranged : (aim : Aim) (best : WordBest) (e : Entry) → inRange (best .point) ≡ true → inRange (e .point) ≡ true
+    → inRange (consideredWord aim best (e .added) (e .point) (e .curve) .point) ≡ true
 unfolding consideredWord
-considered-ranged call best e f g = go ((leb (e .added) (call .asof) && sameGrade (call .point) (e .point)) && betterWord (call .point) best (e .point))
+considered-ranged aim best e f g = go ((leb (e .added) (aim .asof) && sameGrade (aim .point) (e .point)) && betterWord aim best (e .point))
   where
     go : (b : Bool) → inRange (pickWordBest b (record { curve = e .curve; point = e .point }) best .point) ≡ true
     go true = g

@@ -47,6 +47,7 @@ abbrev pub addedTable : Table → ℕ → Point → ℕ → Table
 addedTable t s p c = record {
   places = t .places;
   limit = t .limit;
+  scale = t .scale;
   held = record { point = p; curve = c } ∷ t .held;
   counters = put (t .counters) s (t .counters s + 1);
   removals = t .removals;
@@ -63,6 +64,7 @@ abbrev pub removedTable : Table → ℕ → Point → (ℕ → Station) → Tabl
 removedTable t s p f = record {
   places = t .places;
   limit = t .limit;
+  scale = t .scale;
   held = without p (t .held);
   counters = put (t .counters) s (t .counters s + 1);
   removals = searches eight (t .stations) ∷ t .removals;

@@ -9,6 +9,8 @@ use lib.Dec.{eqb, leb, ltb}
 use lib.ListN.{length}
 use Rattle.stations.specs.Counts.{countsAt}
 use Rattle.points.specs.declared.point.Point.{Point}
+use Rattle.points.specs.declared.scale.Scale.{Scale}
+use Rattle.points.specs.Scale.{factorsIn}
 use Rattle.points.specs.Point.{inRange}
 use Rattle.points.specs.Word.{NONE}
 use Rattle.stations.specs.declared.call.Call.{Call}
@@ -26,7 +28,7 @@ use Rattle.calls.specs.Reply.{Reply, done, refused, pickReply, ask}
 use Rattle.calls.specs.Link.{isLeaf, isCut}
 use Rattle.calls.specs.Open.{openedWords, openOf}
 use Rattle.calls.specs.Submit.{curveFits, submittedWords, submitOf}
-use Rattle.calls.specs.Search.{seek, progressAt, searchOf}
+use Rattle.calls.specs.Search.{seek, aimAt, progressAt, searchOf}
 use Rattle.calls.specs.Insert.{siteAt, siteSound, insertOf}
 use Rattle.calls.specs.Unlink.{aroundAt, aroundSound, unlinkOf}
 use Rattle.calls.specs.Walk.{wayOf, codeAt, conclude, standsAt, walkOf}
@@ -57,7 +59,7 @@ pick-settles false p q = q
 
 search-settles : (words : List ℕ) (rows s : ℕ) (call : Call) → Settles 11 words (searchOf words rows s call)
 unfolding searchOf
-search-settles words rows s call = pick-settles (seek words rows call (progressAt words s call) .sound) (is-done refl) (is-refused refl)
+search-settles words rows s call = pick-settles (seek words rows (aimAt words call) (progressAt words s call) .sound) (is-done refl) (is-refused refl)
 
 insert-settles : (words : List ℕ) (rows s : ℕ) (call : Call) (at : ℕ) → Settles 11 words (insertOf words rows s call at)
 unfolding insertOf
@@ -83,15 +85,17 @@ work-settles words rows s call = pick-settles (eqb (call .kind) 4) (search-settl
 
 -- ---- numbers
 
-pub open-number : (words : List ℕ) (places limit : ℕ) → openOf words places limit .number ≡ firstNo (openQuestions words places limit)
+pub open-number : (words : List ℕ) (places limit : ℕ) (scale : Scale) → openOf words places limit scale .number ≡ firstNo (openQuestions words places limit scale)
 unfolding openOf firstNo
-open-number words places limit = go (placesIn places) (limitIn limit) (leb (wordsFor places) (length words))
+open-number words places limit scale = go (placesIn places) (limitIn limit) (factorsIn scale) (leb (wordsFor places) (length words))
   where
-    go : (a b c : Bool) → ask a 1 words (ask b 2 words (ask c 3 words (done (openedWords words places limit)))) .number ≡ orElse a 1 (orElse b 2 (orElse c 3 0))
-    go true true true = refl
-    go true true false = refl
-    go true false c = refl
-    go false b c = refl
+    go : (a b f c : Bool)
+        → ask a 1 words (ask b 2 words (ask f 17 words (ask c 3 words (done (openedWords words places limit scale))))) .number ≡ orElse a 1 (orElse b 2 (orElse f 17 (orElse c 3 0)))
+    go true true true true = refl
+    go true true true false = refl
+    go true true false c = refl
+    go true false f c = refl
+    go false b f c = refl
 
 pub submit-number : (words : List ℕ) (s kind : ℕ) (p : Point) (c : ℕ) → submitOf words s kind p c .number ≡ firstNo (submitQuestions words s kind p c)
 unfolding submitOf firstNo
@@ -198,11 +202,12 @@ work-keeps : (words : List ℕ) (r : Reply) → Settles 11 words r → Keeps wor
 work-keeps words r (is-done e) = inl e
 work-keeps words r (is-refused e) = inr (ap (λ (x : Reply). x .words) e)
 
-pub open-refused : (words : List ℕ) (places limit : ℕ) → ¬ (openOf words places limit .number ≡ 0) → openOf words places limit .words ≡ words
+pub open-refused : (words : List ℕ) (places limit : ℕ) (scale : Scale) → ¬ (openOf words places limit scale .number ≡ 0) → openOf words places limit scale .words ≡ words
 unfolding openOf
-open-refused words places limit =
-    refused-keeps words (openOf words places limit)
-    (ask-keeps words (placesIn places) 1 _ (ask-keeps words (limitIn limit) 2 _ (ask-keeps words (leb (wordsFor places) (length words)) 3 _ (inl refl))))
+open-refused words places limit scale =
+    refused-keeps words (openOf words places limit scale)
+    (ask-keeps words (placesIn places) 1 _
+    (ask-keeps words (limitIn limit) 2 _ (ask-keeps words (factorsIn scale) 17 _ (ask-keeps words (leb (wordsFor places) (length words)) 3 _ (inl refl)))))
 
 pub submit-refused : (words : List ℕ) (s kind : ℕ) (p : Point) (c : ℕ) → ¬ (submitOf words s kind p c .number ≡ 0) → submitOf words s kind p c .words ≡ words
 unfolding submitOf

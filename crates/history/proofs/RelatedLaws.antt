@@ -51,8 +51,8 @@ module _ {words : List ℕ} {t : Table} (r : Related words t) where
   -- ---- question 4
 
   -- mark, places, limit and length are those of an opened slice
-  pub related-is-open : IsOpen words (t .places) (t .limit)
-  related-is-open = opened-tells words (t .places) (t .limit) (r .opened)
+  pub related-is-open : IsOpen words (t .places) (t .limit) (t .scale)
+  related-is-open = opened-tells words (t .places) (t .limit) (t .scale) (r .opened)
 
   -- question 4 passes
   pub related-passes : isOpened (openedIn words) ≡ true
@@ -69,7 +69,7 @@ module _ {words : List ℕ} {t : Table} (r : Related words t) where
 
   -- there are two rows for each place
   pub related-rows : rowsIn words ≡ 2 * t .places
-  related-rows = rows-in words (t .places) (t .limit) (r .opened)
+  related-rows = rows-in words (t .places) (t .limit) (t .scale) (r .opened)
 
   -- the counts, and the root, head and tail links
   pub word-changes : countsAt words .changes ≡ allChanges t

@@ -7,6 +7,8 @@ use mathlib.Core.Option.{none}
 use native.Mathlib.Omega.{arith}
 use native.Mathlib.Numerals.{add-one}
 use lib.ListN.{length}
+use Rattle.points.specs.declared.scale.Scale.{Scale}
+use Rattle.points.specs.Scale.{factorsIn}
 use Rattle.stations.specs.Track.{trackAt}
 use Rattle.stations.specs.declared.track.Track.{Track}
 use Rattle.stations.specs.declared.counts.Counts.{Counts}
@@ -34,14 +36,14 @@ open-queue : (n : ℕ) → 1 ≤ n → (headOf (spareRows 0 n) ≡ 0) × (tailOf
 open-queue zero l = absurd (omega arith)
 open-queue (suc k) l = (open-head k, omega (arith, open-tail k))
 
-module _ {words : List ℕ} {places limit : ℕ} (w : OpenedAs words places limit) where
+module _ {words : List ℕ} {places limit : ℕ} {scale : Scale} (w : OpenedAs words places limit scale) where
   -- no removal was made
   open-least : leastSince words ≡ 0
   open-least = omega (arith, least-removals words, ap (λ (c : Counts). c .removals) (w .counts))
 
   -- every row is spare
   open-store : Store places (spareHeap places) none (spareRows 0 (2 * places)) 0 0 (leastSince words)
-  open-store = rw open-least (store-open places (spareHeap places) (omega (arith, opened-tells words places limit (w .opened) .places-most)) (λ i l. refl))
+  open-store = rw open-least (store-open places (spareHeap places) (omega (arith, opened-tells words places limit scale (w .opened) .places-most)) (λ i l. refl))
 
   -- no call stands anywhere
   open-quiet : (s : ℕ) → s < stations → Quiet (trackAt words s)
@@ -52,10 +54,10 @@ module _ {words : List ℕ} {places limit : ℕ} (w : OpenedAs words places limi
     missed = ap (λ (p : Track). p .missed) (w .seats s l);
   }
 
-  open-related : Related words (opened places limit)
+  open-related : Related words (opened places limit scale)
   unfolding opened seatAt
   open-related =
-      let q = open-queue (2 * places) (omega (arith, opened-tells words places limit (w .opened) .places-least)) in
+      let q = open-queue (2 * places) (omega (arith, opened-tells words places limit scale (w .opened) .places-least)) in
       record {
         opened = w .opened;
         heap = spareHeap places;
@@ -80,6 +82,6 @@ module _ {words : List ℕ} {places limit : ℕ} (w : OpenedAs words places limi
       }
 
 -- The words that an accepted opening leaves are related to the table at first.
-pub related-open : (words : List ℕ) (places limit : ℕ) → placesIn places ≡ true → limitIn limit ≡ true → wordsFor places ≤ length words
-    → Related (openedWords words places limit) (opened places limit)
-related-open words places limit p m l = open-related (open-written words places limit p m l)
+pub related-open : (words : List ℕ) (places limit : ℕ) (scale : Scale) → placesIn places ≡ true → limitIn limit ≡ true → factorsIn scale ≡ true → wordsFor places ≤ length words
+    → Related (openedWords words places limit scale) (opened places limit scale)
+related-open words places limit scale p m f l = open-related (open-written words places limit scale p m f l)

@@ -44,7 +44,7 @@ settled-busy {words} {t} s {p = p} h r b = busy-on b (seatAt words s .track) (b 
   once = b .works .once;
   ranged = b .works .ranged;
   search = b .works .search;
-  answer = ap (nearestAnswer p) (sym (nearest-same p (map recordOf (b .works .entries)) (t .held) (entries-same r (b .works .entries) (b .works .answer)) (h .once)));
+  answer = ap (nearestAnswer (t .scale) p) (sym (nearest-same (t .scale) p (map recordOf (b .works .entries)) (t .held) (entries-same r (b .works .entries) (b .works .answer)) (h .once)));
 })
 
 -- what is set down changes nothing else of the table
@@ -79,8 +79,8 @@ settled-related {words} {t} {s} {i} {p} h l q r =
       seats = λ v k. elim (put-cases (t .stations) s v x) [
         | inl w ↦
             subst (Says u (r .tree) (r .queue) (seatAt words v)) (sym (w .1))
-            (subst (λ z. Says u (r .tree) (r .queue) (seatAt words z) x) (sym (w .0)) (says-kept t u refl refl (r .tree) (r .queue) (seatAt words s) x (settled-busy s h r (related-busy r l q))))
-        | inr w ↦ subst (Says u (r .tree) (r .queue) (seatAt words v)) (sym (w .1)) (says-kept t u refl refl (r .tree) (r .queue) (seatAt words v) (t .stations v) (r .seats v k))
+            (subst (λ z. Says u (r .tree) (r .queue) (seatAt words z) x) (sym (w .0)) (says-kept t u refl refl refl (r .tree) (r .queue) (seatAt words s) x (settled-busy s h r (related-busy r l q))))
+        | inr w ↦ subst (Says u (r .tree) (r .queue) (seatAt words v)) (sym (w .1)) (says-kept t u refl refl refl (r .tree) (r .queue) (seatAt words v) (t .stations v) (r .seats v k))
       ];
       covered = r .covered;
       marking = λ v k. elim (put-cases (t .stations) s v x) [ inl w ↦ rw (w .1) tt | inr w ↦ rw (w .1) (r .marking v k) ];

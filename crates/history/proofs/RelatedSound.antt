@@ -13,6 +13,7 @@ use Rattle.words.specs.Layout.{stations}
 use Rattle.stations.specs.declared.track.Track.{Track}
 use Rattle.stations.specs.Track.{trackAt}
 use Rattle.points.specs.declared.point.Point.{Point}
+use Rattle.points.specs.declared.scale.Scale.{Scale}
 use Rattle.points.specs.Point.{inRange}
 use Rattle.points.specs.Word.{NONE}
 use Rattle.stations.specs.declared.call.Best.{Best as WordBest}
@@ -108,12 +109,12 @@ related-common {words} {t} h r =
 -- ---- the station's call
 
 -- a best that is one of the records held at submission is in range
-found-best : (target : Point) (entries : List Entry) → ((e : Entry) → List·Memᴰ e entries → (inRange (e .point) ≡ true) × (curveIn (e .curve) ≡ true))
-    → (best : WordBest) → inRange (best .point) ≡ true → Found (choiceOf target) (λ e. List·Memᴰ e entries) (bestOf best) → bestSound best ≡ true
-found-best target entries ranged best k f = go (eqb (best .curve) 0) refl f
+found-best : (scale : Scale) (target : Point) (entries : List Entry) → ((e : Entry) → List·Memᴰ e entries → (inRange (e .point) ≡ true) × (curveIn (e .curve) ≡ true))
+    → (best : WordBest) → inRange (best .point) ≡ true → Found (choiceOf scale target) (λ e. List·Memᴰ e entries) (bestOf best) → bestSound best ≡ true
+found-best scale target entries ranged best k f = go (eqb (best .curve) 0) refl f
   where
     go : (b : Bool) → eqb (best .curve) 0 ≡ b
-        → Found (choiceOf target) (λ e. List·Memᴰ e entries) (elim b [ true ↦ none | false ↦ some (record { point = best .point; curve = best .curve }) ])
+        → Found (choiceOf scale target) (λ e. List·Memᴰ e entries) (elim b [ true ↦ none | false ↦ some (record { point = best .point; curve = best .curve }) ])
         → bestSound best ≡ true
     go true e f = best-none best (eqb-true (best .curve) 0 e)
     go false e f = best-record best (omega (arith, f .curve, curve-tells (f .entry .curve) (ranged (f .entry) (f .held) .1) .1)) k
@@ -129,7 +130,7 @@ module _ {t : Table} {tree : Option Tree} {q : List Free} {seat : Seat} {i : ℕ
   busy-best (add p c) b = best-none (seat .call .best) (b .works .best)
   busy-best (remove p) b = best-none (seat .call .best) (b .works .best)
   busy-best (contains p) b = best-none (seat .call .best) (b .works .best)
-  busy-best (nearest p) b = found-best p (b .works .entries) (b .works .ranged) (seat .call .best) (b .kept) (b .works .search .found)
+  busy-best (nearest p) b = found-best (t .scale) p (b .works .entries) (b .works .ranged) (seat .call .best) (b .kept) (b .works .search .found)
 
   busy-curve : (c : Call) → Busy t tree q seat i c o → curveFor (kindOf c) (curveOf c) ≡ true
   busy-curve (add p c) b = b .fits

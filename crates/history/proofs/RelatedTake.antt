@@ -52,12 +52,12 @@ take-left : {words : List ℕ} {t : Table} (s : ℕ) (a : Answer) (r : Related w
     → Related (putState words s (emptied (stateAt words s))) (withStations t (put (t .stations) s idle))
 unfolding seatAt
 take-left {words} {t} s a r l e =
-    let w = take-written words (t .places) (t .limit) (r .opened) s l in
+    let w = take-written words (t .places) (t .limit) (t .scale) (r .opened) s l in
     let x : Seat = record { track = seatAt words s .track; target = seatAt words s .target; state = 0; call = seatAt words s .call; answer = seatAt words s .answer } in
-    related-written r w (take-rows words (t .places) (t .limit) (r .opened) s l) (record { places = refl; limit = refl; held = refl; counters = refl; removals = refl })
+    related-written r w (take-rows words (t .places) (t .limit) (t .scale) (r .opened) s l) (record { places = refl; limit = refl; scale = refl; held = refl; counters = refl; removals = refl })
     (least-up (putState words s (emptied (stateAt words s))) words (omega (arith, written-removals w)) (λ u k.
     omega (arith, written-since w u k, seat-put-agrees (λ (y : Seat). y .track .since) (λ v. seatAt words v) s x refl u)))
-    (says-put t (withStations t (put (t .stations) s idle)) refl refl (r .tree) (r .queue) (λ u. seatAt words u) (t .stations) (r .seats) s x idle
+    (says-put t (withStations t (put (t .stations) s idle)) refl refl refl (r .tree) (r .queue) (λ u. seatAt words u) (t .stations) (r .seats) s x idle
     (record { state = refl; quiet = related-waits r l e .quiet }))
     (marking-put (marksIn words) (r .tree) (λ u. seatAt words u) (t .stations) (r .marking) s x idle tt)
 

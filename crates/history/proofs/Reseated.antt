@@ -11,6 +11,7 @@ use borrow.Author.Tests.{ltb-true, eqb-true}
 use Rattle.words.specs.Layout.{stations}
 use Rattle.stations.specs.Counts.{countsAt}
 use Rattle.points.specs.declared.point.Point.{Point}
+use Rattle.points.specs.declared.scale.Scale.{Scale}
 use Rattle.points.specs.Point.{inRange}
 use Rattle.stations.specs.declared.answer.Answer.{Answer}
 use Rattle.stations.specs.declared.answer.Waiting.{Waiting}
@@ -70,7 +71,7 @@ taken-gives words s a e = go (isOpened (openedIn words)) (ltb s stations) refl (
     go true false l x f e = let z : _≡_ {A = ℕ} 0 1 = cc in absurd (omega arith)
     go false b l x f e = let z : _≡_ {A = ℕ} 0 1 = cc in absurd (omega arith)
 
-module _ (words : List ℕ) (places limit : ℕ) (o : openedIn words ≡ Opened places limit) (s : ℕ) where
+module _ (words : List ℕ) (places limit : ℕ) (scale : Scale) (o : openedIn words ≡ Opened places limit scale) (s : ℕ) where
   pub submit-reseats : (kind : ℕ) (p : Point) (c : ℕ) → Reseats words (submitOf words s kind p c .words) (2 * places) s
   unfolding submitOf
   submit-reseats kind p c =
@@ -83,11 +84,11 @@ module _ (words : List ℕ) (places limit : ℕ) (o : openedIn words ≡ Opened 
     where
       begun : s < stations → isIdle (stateAt words s) ≡ true → inRange p ≡ true → Reseated words (submittedWords words s kind p c) (2 * places) s
       begun l i ranged =
-          let w = submit-written words places limit o s l kind p c ranged in
+          let w = submit-written words places limit scale o s l kind p c ranged in
           record {
             station = l;
             rests = idle-rests words s i;
-            same = submit-rows words places limit o s l kind p c;
+            same = submit-rows words places limit scale o s l kind p c;
             counts = w .counted;
             others = λ u k n. w .seated u k ∙ seat-put-other (λ v. seatAt words v) s u _ n;
           }
@@ -100,11 +101,11 @@ module _ (words : List ℕ) (places limit : ℕ) (o : openedIn words ≡ Opened 
       go (Refusal n) e = inl refl
       go (Taken a) e =
           let g = taken-gives words s a e in
-          let w = take-written words places limit o s (g .station) in
+          let w = take-written words places limit scale o s (g .station) in
           inr (record {
             station = g .station;
             rests = waiting-rests words s (g .waits);
-            same = take-rows words places limit o s (g .station);
+            same = take-rows words places limit scale o s (g .station);
             counts = w .counted;
             others = λ u k n. w .seated u k ∙ seat-put-other (λ v. seatAt words v) s u _ n;
           })

@@ -5,6 +5,7 @@ use mathlib.Core.Bool.{Bool, true, false}
 use mathlib.Core.List.{List}
 use lib.Dec.{eqb}
 use borrow.Author.Tests.{eqb-true, eqb-false}
+use Rattle.points.specs.declared.scale.Scale.{Scale}
 use Rattle.stations.specs.Counter.{counterAt}
 use Rattle.stations.specs.Counts.{countsAt}
 use Rattle.points.specs.Word.{NONE}
@@ -26,13 +27,13 @@ use Rattle.history.specs.View.{seatAt, wordRow, Reads, heapPut, Written}
 use Rattle.history.proofs.Frame.{seat-same}
 
 -- a row in range is written over a heap
-pub reads-put : (words : List ℕ) (places limit : ℕ) (h : Heap) (r : ℕ) (row : Row) → openedIn words ≡ Opened places limit → r < 2 * places → inRows (2 * places) (wordRow row) ≡ true
+pub reads-put : (words : List ℕ) (places limit : ℕ) (scale : Scale) (h : Heap) (r : ℕ) (row : Row) → openedIn words ≡ Opened places limit scale → r < 2 * places → inRows (2 * places) (wordRow row) ≡ true
     → Reads words (2 * places) h → Reads (putRow words r (wordRow row)) (2 * places) (heapPut h r row)
 unfolding heapPut
-reads-put words places limit h r row o l e w q k = go (eqb q r) refl
+reads-put words places limit scale h r row o l e w q k = go (eqb q r) refl
   where
     fits : Fits words (2 * places)
-    fits = opened-fits words places limit o
+    fits = opened-fits words places limit scale o
 
     go : (b : Bool) → eqb q r ≡ b → rowAt (putRow words r (wordRow row)) (2 * places) q ≡ wordRow (elim b [ true ↦ row | false ↦ h q ])
     go true f = rw (eqb-true q r f) (rowAt-putRow-same words r (wordRow row) (2 * places) fits l e)

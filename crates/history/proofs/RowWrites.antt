@@ -9,6 +9,7 @@ use borrow.Author.Tests.{eq-eqb, ne-eqb}
 use Rattle.stations.specs.Counter.{counterAt}
 use Rattle.stations.specs.Counts.{countsAt}
 use Rattle.points.specs.declared.point.Point.{Point}
+use Rattle.points.specs.declared.scale.Scale.{Scale}
 use Rattle.points.specs.declared.cut.Cut.{Cut as PointCut}
 use Rattle.points.specs.Word.{NONE}
 use Rattle.rows.specs.declared.row.Row.{Row as WordRow}
@@ -32,19 +33,19 @@ unfolding heapPut
 heap-wrote h r row = record { here = rw (eq-eqb r r refl, heapPut); rest = λ i n. rw (ne-eqb i r n, heapPut) }
 
 -- the words read as the heap; counts and seats are those of the words before
-pub record Holding (before words : List ℕ) (places limit : ℕ) (h : Heap) : Type 0 where
-  pub opened : openedIn words ≡ Opened places limit
+pub record Holding (before words : List ℕ) (places limit : ℕ) (scale : Scale) (h : Heap) : Type 0 where
+  pub opened : openedIn words ≡ Opened places limit scale
   pub written : Written before words (countsAt before) (counterAt before) (λ s. seatAt before s)
   pub reads : Reads words (2 * places) h
 
 -- no row is written yet
-pub held-first : (words : List ℕ) (places limit : ℕ) (h : Heap) → openedIn words ≡ Opened places limit → Reads words (2 * places) h → Holding words words places limit h
-held-first words places limit h o r = record { opened = o; written = record { opened = refl; counted = refl; counters = λ s. refl; seated = λ s l. refl }; reads = r }
+pub held-first : (words : List ℕ) (places limit : ℕ) (scale : Scale) (h : Heap) → openedIn words ≡ Opened places limit scale → Reads words (2 * places) h → Holding words words places limit scale h
+held-first words places limit scale h o r = record { opened = o; written = record { opened = refl; counted = refl; counters = λ s. refl; seated = λ s l. refl }; reads = r }
 
 -- a row in range is written
-pub put-row : {before words : List ℕ} {places limit : ℕ} {h : Heap} → Holding before words places limit h → (r : ℕ) (x : WordRow) (row : Row) → x ≡ wordRow row → r < 2 * places
-    → inRows (2 * places) (wordRow row) ≡ true → Holding before (putRow words r x) places limit (heapPut h r row)
-put-row {before} {words} {places} {limit} {h} w r x row e l i =
+pub put-row : {before words : List ℕ} {places limit : ℕ} {scale : Scale} {h : Heap} → Holding before words places limit scale h → (r : ℕ) (x : WordRow) (row : Row) → x ≡ wordRow row → r < 2 * places
+    → inRows (2 * places) (wordRow row) ≡ true → Holding before (putRow words r x) places limit scale (heapPut h r row)
+put-row {before} {words} {places} {limit} {scale} {h} w r x row e l i =
     let v = row-written words r x in
     record {
       opened = v .opened ∙ w .opened;
@@ -54,12 +55,12 @@ put-row {before} {words} {places} {limit} {h} w r x row e l i =
         counters = λ s. v .counters s ∙ w .written .counters s;
         seated = λ s k. v .seated s k ∙ w .written .seated s k;
       };
-      reads = rw e (reads-put words places limit h r row (w .opened) l i (w .reads));
+      reads = rw e (reads-put words places limit scale h r row (w .opened) l i (w .reads));
     }
 
 -- a cut gets its grades
-pub put-grades : {before words : List ℕ} {places limit : ℕ} {h : Heap} → Holding before words places limit h → (r : ℕ) (left : Bool) (p q : Point) {parent : ℕ} {cut : PointCut} {one two : ℕ}
-    → rowAt words (2 * places) r ≡ Cut parent cut one two → Holding before (beginGrades words r left (slotOf p) (slotOf q)) places limit h
+pub put-grades : {before words : List ℕ} {places limit : ℕ} {scale : Scale} {h : Heap} → Holding before words places limit scale h → (r : ℕ) (left : Bool) (p q : Point) {parent : ℕ} {cut : PointCut} {one two : ℕ}
+    → rowAt words (2 * places) r ≡ Cut parent cut one two → Holding before (beginGrades words r left (slotOf p) (slotOf q)) places limit scale h
 put-grades {before} {words} {places} w r left p q e =
     let v = region-written r (begin-only words r left (slotOf p) (slotOf q) (slot-fits p) (slot-fits q)) in
     record {
@@ -74,8 +75,8 @@ put-grades {before} {words} {places} w r left p q e =
     }
 
 -- a row at none is not written
-pub put-nothing : {before words : List ℕ} {places limit : ℕ} {h : Heap} → Holding before words places limit h → (r : ℕ) (x : WordRow) → r ≡ NONE → Holding before (putRow words r x) places limit h
-put-nothing {before} {words} {places} {limit} {h} w r x e =
+pub put-nothing : {before words : List ℕ} {places limit : ℕ} {scale : Scale} {h : Heap} → Holding before words places limit scale h → (r : ℕ) (x : WordRow) → r ≡ NONE → Holding before (putRow words r x) places limit scale h
+put-nothing {before} {words} {places} {limit} {scale} {h} w r x e =
     let same : putRow words r x ≡ words = ap (λ n. putRow words n x) e ∙ put-none words x in
     rw same w
 

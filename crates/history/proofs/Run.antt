@@ -5,6 +5,7 @@ use mathlib.Core.Bool.{Bool, true, false}
 use mathlib.Core.List.{List}
 use native.Mathlib.Omega.{arith}
 use lib.Dec.{ltb}
+use Rattle.points.specs.declared.scale.Scale.{Scale}
 use Rattle.words.specs.Layout.{stations}
 use Rattle.stations.specs.declared.answer.Waiting.{Waiting}
 use Rattle.stations.specs.declared.answer.Waiting.the-variants.{Nothing, Given}
@@ -108,12 +109,12 @@ pub record RunAnswers (words : List ℕ) (s : ℕ) : Type 0 where
   pub answered : Answered (runOf words s .words) s
 
 -- After every history a run of a station with an unfinished call is accepted and leaves it answered.
-pub run-answers : (words : List ℕ) (places limit : ℕ) → openOf words places limit .number ≡ 0 → (evs : List Event) (s : ℕ)
-    → isUnfinished (stateAt (after evs (openOf words places limit .words)) s) ≡ true → RunAnswers (after evs (openOf words places limit .words)) s
-run-answers words places limit e evs s u =
-    let a = accepted words places limit e in
-    let v = after evs (openOf words places limit .words) in
-    let st : Stands v places limit = rw (a .opens) (history-related words places limit a evs) in
-    let w = solo-steps words places limit e evs s u in
+pub run-answers : (words : List ℕ) (places limit : ℕ) (scale : Scale) → openOf words places limit scale .number ≡ 0 → (evs : List Event) (s : ℕ)
+    → isUnfinished (stateAt (after evs (openOf words places limit scale .words)) s) ≡ true → RunAnswers (after evs (openOf words places limit scale .words)) s
+run-answers words places limit scale e evs s u =
+    let a = accepted words places limit scale e in
+    let v = after evs (openOf words places limit scale .words) in
+    let st : Stands v places limit scale = rw (a .opens) (history-related words places limit scale a evs) in
+    let w = solo-steps words places limit scale e evs s u in
     let r : runOf v s ≡ done (stepped (suc (w .0)) v s) = run-related s (w .0) (st .related) (omega (arith, w .1, st .places-same)) (w .2) in
     record { number = ap (λ (x : Reply). x .number) r; answered = rw r (after-answered (w .0) v s (w .2)) }

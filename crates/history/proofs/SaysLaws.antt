@@ -1,4 +1,4 @@
--- What the seats say of a table's stations is kept where changes and removals are the same (`says-kept`), and a slice with the same rows and
+-- What the seats say of a table's stations is kept where changes, removals and factors are the same (`says-kept`), and a slice with the same rows and
 -- counts is related again to a table that differs in its stations alone (`related-written`).
 use Prim.Native.Nat.{ℕ, _*_, _≤_, _<_}
 use mathlib.Core.Path.{_≡_, refl, sym, ap, _∙_, subst}
@@ -9,6 +9,7 @@ use mathlib.Core.Option.{Option}
 use native.Mathlib.Omega.{arith}
 use lib.Dec.{eqb}
 use borrow.Author.Tests.{eqb-true, eqb-false, eq-eqb, ne-eqb}
+use Rattle.points.specs.declared.scale.Scale.{Scale}
 use Rattle.words.specs.Layout.{stations}
 use Rattle.stations.specs.Counter.{counterAt}
 use Rattle.stations.specs.Counts.{countsAt}
@@ -24,7 +25,7 @@ use Rattle.trees.specs.Queue.{Free}
 use Rattle.trees.specs.Below.{Marks, Covered}
 use Rattle.trees.proofs.Room.{store-release}
 use Rattle.history.specs.View.{Seat, seatAt, seatPut, marksIn, SameRows, Written}
-use Rattle.history.specs.Related.{Works, Says, Marking, Related}
+use Rattle.history.specs.Related.{Set, Works, Says, Marking, Related}
 use Rattle.history.proofs.BusyLaws.{busy-on}
 
 -- ---- the same table but for its stations
@@ -33,11 +34,12 @@ use Rattle.history.proofs.BusyLaws.{busy-on}
 pub record Alike (t t′ : Table) : Type 0 where
   pub places : t′ .places ≡ t .places
   pub limit : t′ .limit ≡ t .limit
+  pub scale : t′ .scale ≡ t .scale
   pub held : t′ .held ≡ t .held
   pub counters : t′ .counters ≡ t .counters
   pub removals : t′ .removals ≡ t .removals
 
-module _ (t t′ : Table) (changes : allChanges t′ ≡ allChanges t) (removals : t′ .removals ≡ t .removals) (tree : Option Tree) (queue : List Free) (seat : Seat) where
+module _ (t t′ : Table) (changes : allChanges t′ ≡ allChanges t) (removals : t′ .removals ≡ t .removals) (scale : t′ .scale ≡ t .scale) (tree : Option Tree) (queue : List Free) (seat : Seat) where
   -- an unfinished call goes on as before
   works-kept : (i : ℕ) (c : Call) (o : Option Answer) → Works t tree queue seat i c o → Works t′ tree queue seat i c o
   works-kept i (add p c) o w = w
@@ -49,8 +51,8 @@ module _ (t t′ : Table) (changes : allChanges t′ ≡ allChanges t) (removals
     entries = w .entries;
     once = w .once;
     ranged = w .ranged;
-    search = rw (changes, removals) (w .search);
-    answer = w .answer;
+    search = rw (changes, removals, scale) (w .search);
+    answer = subst (λ (c : Scale). Set c p (w .entries) tree o) (sym scale) (w .answer);
   }
 
   -- a seat says the same of another table with these changes and removals
@@ -87,15 +89,15 @@ seat-put-each P seats s x h u k = go (eqb u s) refl
     go false q = rw (seat-put-other seats s u x (eqb-false u s q)) k
 
 -- a seat and a station put anew: the others say what they said
-pub says-put : (t t′ : Table) → allChanges t′ ≡ allChanges t → t′ .removals ≡ t .removals → (tree : Option Tree) (queue : List Free) (seats : ℕ → Seat) (said : ℕ → Station)
+pub says-put : (t t′ : Table) → allChanges t′ ≡ allChanges t → t′ .removals ≡ t .removals → t′ .scale ≡ t .scale → (tree : Option Tree) (queue : List Free) (seats : ℕ → Seat) (said : ℕ → Station)
     → ((u : ℕ) → u < stations → Says t tree queue (seats u) (said u)) → (s : ℕ) (x : Seat) (y : Station) → Says t′ tree queue x y
     → (u : ℕ) → u < stations → Says t′ tree queue (seatPut seats s x u) (put said s y u)
-says-put t t′ changes removals tree queue seats said says s x y b u l = elim (put-cases said s u y) [
+says-put t t′ changes removals scale tree queue seats said says s x y b u l = elim (put-cases said s u y) [
   | inl w ↦
       let v : seatPut seats s x u ≡ x = rw (w .0) (seat-put-same seats s x) in
       subst (Says t′ tree queue (seatPut seats s x u)) (sym (w .1)) (subst (λ z. Says t′ tree queue z y) (sym v) b)
   | inr w ↦
-      let v : Says t′ tree queue (seats u) (said u) = says-kept t t′ changes removals tree queue (seats u) (said u) (says u l) in
+      let v : Says t′ tree queue (seats u) (said u) = says-kept t t′ changes removals scale tree queue (seats u) (said u) (says u l) in
       subst (Says t′ tree queue (seatPut seats s x u)) (sym (w .1)) (subst (λ z. Says t′ tree queue z (said u)) (sym (seat-put-other seats s u x (w .0))) v)
 ]
 
@@ -129,7 +131,7 @@ unfoldable pub related-written : {words words′ : List ℕ} {t t′ : Table} {s
     → Alike t t′ → leastSince words ≤ leastSince words′ → ((s : ℕ) → s < stations → Says t′ (r .tree) (r .queue) (seats s) (t′ .stations s))
     → ((s : ℕ) → s < stations → Marking (marksIn words) (r .tree) (seats s .track .cursor) (t′ .stations s)) → Related words′ t′
 related-written {words} {words′} {t} {t′} {seats} r w rows a le says marking = record {
-  opened = rw (a .places, a .limit) (w .opened ∙ r .opened);
+  opened = rw (a .places, a .limit, a .scale) (w .opened ∙ r .opened);
   heap = r .heap;
   tree = r .tree;
   queue = r .queue;

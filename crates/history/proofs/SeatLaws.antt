@@ -47,8 +47,8 @@ module _ (words words′ : List ℕ) (t : Table) (f : ℕ → Station) (s : ℕ)
 
   pub put-says : (u : ℕ) → u < stations → Says (withStations t f) (r .tree) (r .queue) (seatPut (λ v. seatAt words v) s x u) (f u)
   put-says u l = elim (seat-cases (λ v. seatAt words v) s x u) [
-    | inl c ↦ rw (c .1, c .0) (says-kept t (withStations t f) refl refl (r .tree) (r .queue) x (f s) says)
-    | inr c ↦ rw (c .1, others u (c .0)) (says-kept t (withStations t f) refl refl (r .tree) (r .queue) (seatAt words u) (t .stations u) (r .seats u l))
+    | inl c ↦ rw (c .1, c .0) (says-kept t (withStations t f) refl refl refl (r .tree) (r .queue) x (f s) says)
+    | inr c ↦ rw (c .1, others u (c .0)) (says-kept t (withStations t f) refl refl refl (r .tree) (r .queue) (seatAt words u) (t .stations u) (r .seats u l))
   ]
 
   pub put-marking : (u : ℕ) → u < stations → Marking (marksIn words) (r .tree) (seatPut (λ v. seatAt words v) s x u .track .cursor) (f u)
@@ -59,4 +59,4 @@ module _ (words words′ : List ℕ) (t : Table) (f : ℕ → Station) (s : ℕ)
 
   unfoldable pub related-seat : Related words′ (withStations t f)
   related-seat =
-      related-written r w same (record { places = refl; limit = refl; held = refl; counters = refl; removals = refl }) (least-written w put-since) put-says put-marking
+      related-written r w same (record { places = refl; limit = refl; scale = refl; held = refl; counters = refl; removals = refl }) (least-written w put-since) put-says put-marking

@@ -12,7 +12,7 @@ use borrow.Author.Tests.{eq-eqb, eqb-true}
 use Rattle.points.specs.Word.{NONE}
 use Rattle.points.proofs.ChoiceLaws.{grade-turn}
 use Rattle.points.proofs.Tests.{and-i, and-l}
-use Rattle.stations.specs.declared.call.Call.{Call}
+use Rattle.calls.specs.declared.aim.Aim.{Aim}
 use Rattle.rows.specs.Grades.{slotOf, admits}
 use Rattle.rows.proofs.GradeLaws.{slot-grade}
 use Rattle.trees.specs.Row.{Entry, Heap}
@@ -39,25 +39,25 @@ use Rattle.history.proofs.TourWords.{tour-words}
 use lib.Dec.{eqb}
 
 -- a search over words that no row refused, with the invariant of the search over rows that it is, and at most so many moves left
-pub record Seeks (call : Call) (since : ℕ) (Then : Entry → Type 0) (t : Option Tree) (q : List Free) (changes removals : ℕ) (p : WordProgress) (most : ℕ) : Type 0 where
+pub record Seeks (aim : Aim) (since : ℕ) (Then : Entry → Type 0) (t : Option Tree) (q : List Free) (changes removals : ℕ) (p : WordProgress) (most : ℕ) : Type 0 where
   pub fit : Fit p
-  pub search : Search (choiceOf (call .point)) (call .asof) since Then t q changes removals (viewOf p)
+  pub search : Search (choiceOf (aim .scale) (aim .point)) (aim .asof) since Then t q changes removals (viewOf p)
   pub left : searchLeft search ≤ most
 
 -- what a move over rows comes to, and the move over words that shows it
-shown : {call : Call} {since : ℕ} {Then : Entry → Type 0} {t : Option Tree} {q : List Free} {changes removals most : ℕ} (p : WordProgress) (out : Option Progress) (to : Progress)
-    → Keeps p out → out ≡ some to → (v : Search (choiceOf (call .point)) (call .asof) since Then t q changes removals to) → searchLeft v ≤ most
-    → Seeks call since Then t q changes removals p most
-shown {call} {since} {Then} {t} {q} {changes} {removals} {most} p out to k e v l =
+shown : {aim : Aim} {since : ℕ} {Then : Entry → Type 0} {t : Option Tree} {q : List Free} {changes removals most : ℕ} (p : WordProgress) (out : Option Progress) (to : Progress)
+    → Keeps p out → out ≡ some to → (v : Search (choiceOf (aim .scale) (aim .point)) (aim .asof) since Then t q changes removals to) → searchLeft v ≤ most
+    → Seeks aim since Then t q changes removals p most
+shown {aim} {since} {Then} {t} {q} {changes} {removals} {most} p out to k e v l =
     let w : Shows p to = k to e in
-    let z = subst (λ (x : Progress). (u : Search (choiceOf (call .point)) (call .asof) since Then t q changes removals x) × (searchLeft u ≤ most)) (sym (w .is)) (v, l) in
+    let z = subst (λ (x : Progress). (u : Search (choiceOf (aim .scale) (aim .point)) (aim .asof) since Then t q changes removals x) × (searchLeft u ≤ most)) (sym (w .is)) (v, l) in
     record { fit = w .fit; search = z .0; left = z .1 }
 
 -- where the cursor is none a tour changes nothing
-tours-stay : (words : List ℕ) (rows slot : ℕ) (call : Call) (n : ℕ) (p : WordProgress) → p .cursor ≡ NONE → touredWord words rows slot call n p ≡ p
+tours-stay : (words : List ℕ) (rows slot : ℕ) (aim : Aim) (n : ℕ) (p : WordProgress) → p .cursor ≡ NONE → touredWord words rows slot aim n p ≡ p
 unfolding touredWord tourWord
-tours-stay words rows slot call zero p e = refl
-tours-stay words rows slot call (suc n) p e = rw (tours-stay words rows slot call n p e, eq-eqb (p .cursor) NONE e)
+tours-stay words rows slot aim zero p e = refl
+tours-stay words rows slot aim (suc n) p e = rw (tours-stay words rows slot aim n p e, eq-eqb (p .cursor) NONE e)
 
 module _ {places : ℕ} {h : Heap} {t : Option Tree} {q : List Free} {changes removals released : ℕ} (st : Store places h t q changes removals released) where
   -- the cursor is none or a row
@@ -69,66 +69,66 @@ module _ {places : ℕ} {h : Heap} {t : Option Tree} {q : List Free} {changes re
   missing-row [] v = inl (v .first)
   missing-row (r ∷ rs) v = inr (rw (v .first) (st .free (r .row) (missing-in v)))
 
-  module _ (words : List ℕ) (reads : Reads words (2 * places) h) (covered : Covered (marksIn words) t) (call : Call) (since : ℕ)
+  module _ (words : List ℕ) (reads : Reads words (2 * places) h) (covered : Covered (marksIn words) t) (aim : Aim) (since : ℕ)
       (Then : Entry → Type 0) where
     abbrev Here : WordProgress → ℕ → Type 0
-    Here p most = Seeks call since Then t q changes removals p most
+    Here p most = Seeks aim since Then t q changes removals p most
 
     -- what is left is less than `most` by so many
     abbrev Fewer : ℕ → ℕ → WordProgress → Type 0
     Fewer by most p = (m : ℕ) × (by + m ≤ most) × Here p m
 
     -- a look leaves no more, and less where a row was missed
-    look-shows : (p : WordProgress) (most : ℕ) → Fit p → (v : Search (choiceOf (call .point)) (call .asof) since Then t q changes removals (viewOf p))
-        → searchLeft (search-look st (viewOf p) v .search) ≤ most → Here (lookWord words (2 * places) call p) most
+    look-shows : (p : WordProgress) (most : ℕ) → Fit p → (v : Search (choiceOf (aim .scale) (aim .point)) (aim .asof) since Then t q changes removals (viewOf p))
+        → searchLeft (search-look st (viewOf p) v .search) ≤ most → Here (lookWord words (2 * places) aim p) most
     look-shows p most f v l =
         let a = search-look st (viewOf p) v in
-        shown (lookWord words (2 * places) call p) (look (choiceOf (call .point)) (call .asof) h (viewOf p)) (a .to)
-        (look-words words (2 * places) h reads (st .fits) call p f (missing-row (v .rest) (v .missing))) (a .is) (a .search) l
+        shown (lookWord words (2 * places) aim p) (look (choiceOf (aim .scale) (aim .point)) (aim .asof) h (viewOf p)) (a .to)
+        (look-words words (2 * places) h reads (st .fits) aim p f (missing-row (v .rest) (v .missing))) (a .is) (a .search) l
 
-    look-seeks : (p : WordProgress) (most : ℕ) → Here p most → Here (lookWord words (2 * places) call p) most
+    look-seeks : (p : WordProgress) (most : ℕ) → Here p most → Here (lookWord words (2 * places) aim p) most
     look-seeks p most g = look-shows p most (g .fit) (g .search) (omega (arith, search-look st (viewOf p) (g .search) .fewer, g .left))
 
-    look-less : (p : WordProgress) (most : ℕ) → p .missed ≢ NONE → Here p most → Fewer stepMoves most (lookWord words (2 * places) call p)
+    look-less : (p : WordProgress) (most : ℕ) → p .missed ≢ NONE → Here p most → Fewer stepMoves most (lookWord words (2 * places) aim p)
     look-less p most n g =
         let a = search-look st (viewOf p) (g .search) in
         (searchLeft (a .search), omega (arith, a .less n, g .left), look-shows p (searchLeft (a .search)) (g .fit) (g .search) (omega arith))
 
     -- a side that does not admit the slot holds no candidate
     abbrev slot : ℕ
-    slot = slotOf (call .point)
+    slot = slotOf (aim .point)
 
-    closed : Closed (opensIn words slot) (choiceOf (call .point)) t
-    closed = closed-covered (marksIn words) (choiceOf (call .point)) (call .point) t (λ x side p e. ap (admits words x side) (slot-grade p (call .point) (grade-turn (call .point) p e))) covered
+    closed : Closed (opensIn words slot) (choiceOf (aim .scale) (aim .point)) t
+    closed = closed-covered (marksIn words) (choiceOf (aim .scale) (aim .point)) (aim .point) t (λ x side p e. ap (admits words x side) (slot-grade p (aim .point) (grade-turn (aim .point) p e))) covered
 
     abbrev toured : ℕ → WordProgress → WordProgress
-    toured n p = touredWord words (2 * places) slot call n p
+    toured n p = touredWord words (2 * places) slot aim n p
 
     -- a tour likewise, less where the cursor is a row
-    tour-shows : (p : WordProgress) (most : ℕ) → Fit p → (v : Search (choiceOf (call .point)) (call .asof) since Then t q changes removals (viewOf p))
-        → searchLeft (search-tour t st (opensIn words slot) closed (viewOf p) v .goes .search) ≤ most → Here (tourWord words (2 * places) slot call p) most
+    tour-shows : (p : WordProgress) (most : ℕ) → Fit p → (v : Search (choiceOf (aim .scale) (aim .point)) (aim .asof) since Then t q changes removals (viewOf p))
+        → searchLeft (search-tour t st (opensIn words slot) closed (viewOf p) v .goes .search) ≤ most → Here (tourWord words (2 * places) slot aim p) most
     tour-shows p most f v l =
         let a = search-tour t st (opensIn words slot) closed (viewOf p) v .goes in
-        shown (tourWord words (2 * places) slot call p) (tour (choiceOf (call .point)) (opensIn words slot) (call .asof) h (viewOf p)) (a .to)
-        (tour-words words (2 * places) h reads call slot p f (standing-row (p .cursor) (v .stands))) (a .is) (a .search) l
+        shown (tourWord words (2 * places) slot aim p) (tour (choiceOf (aim .scale) (aim .point)) (opensIn words slot) (aim .asof) h (viewOf p)) (a .to)
+        (tour-words words (2 * places) h reads aim slot p f (standing-row (p .cursor) (v .stands))) (a .is) (a .search) l
 
-    tour-seeks : (p : WordProgress) (most : ℕ) → Here p most → Here (tourWord words (2 * places) slot call p) most
+    tour-seeks : (p : WordProgress) (most : ℕ) → Here p most → Here (tourWord words (2 * places) slot aim p) most
     tour-seeks p most g = tour-shows p most (g .fit) (g .search) (omega (arith, search-tour t st (opensIn words slot) closed (viewOf p) (g .search) .goes .fewer, g .left))
 
-    tour-less : (p : WordProgress) (most : ℕ) → p .cursor ≢ NONE → Here p most → Fewer 1 most (tourWord words (2 * places) slot call p)
+    tour-less : (p : WordProgress) (most : ℕ) → p .cursor ≢ NONE → Here p most → Fewer 1 most (tourWord words (2 * places) slot aim p)
     tour-less p most n g =
         let a = search-tour t st (opensIn words slot) closed (viewOf p) (g .search) .goes in
         (searchLeft (a .search), omega (arith, a .less n, g .left), tour-shows p (searchLeft (a .search)) (g .fit) (g .search) (omega arith))
 
     -- and what was missed stays
-    tour-missed : (p : WordProgress) (most : ℕ) → Here p most → tourWord words (2 * places) slot call p .missed ≡ p .missed
+    tour-missed : (p : WordProgress) (most : ℕ) → Here p most → tourWord words (2 * places) slot aim p .missed ≡ p .missed
     tour-missed p most g =
         let a = search-tour t st (opensIn words slot) closed (viewOf p) (g .search) in
-        let w = tour-words words (2 * places) h reads call slot p (g .fit) (standing-row (p .cursor) (g .search .stands)) (a .goes .to) (a .goes .is) in
+        let w = tour-words words (2 * places) h reads aim slot p (g .fit) (standing-row (p .cursor) (g .search .stands)) (a .goes .to) (a .goes .is) in
         ap (λ (x : Progress). x .missed) (w .is) ∙ a .missed
 
     -- where nothing is missed a look changes nothing
-    look-none : (p : WordProgress) → p .missed ≡ NONE → lookWord words (2 * places) call p ≡ p
+    look-none : (p : WordProgress) → p .missed ≡ NONE → lookWord words (2 * places) aim p ≡ p
     unfolding lookWord
     look-none p e = rw (eq-eqb (p .missed) NONE e)
 
@@ -156,28 +156,28 @@ module _ {places : ℕ} {h : Heap} {t : Option Tree} {q : List Free} {changes re
         done = toured n p
 
         go : Fewer n most done ⊎ (isFinished done ≡ true) → Dec (done .cursor ≡ NONE)
-            → Fewer (suc n) most (tourWord words (2 * places) slot call done) ⊎ (isFinished (tourWord words (2 * places) slot call done) ≡ true)
+            → Fewer (suc n) most (tourWord words (2 * places) slot aim done) ⊎ (isFinished (tourWord words (2 * places) slot aim done) ≡ true)
         go x (yes c) =
             let ended : isFinished done ≡ true = and-i (eq-eqb (done .cursor) NONE c) (eq-eqb (done .missed) NONE (tours-missed n p most g ∙ e)) in
-            inr (ap isFinished (tours-stay words (2 * places) slot call 1 done c) ∙ ended)
+            inr (ap isFinished (tours-stay words (2 * places) slot aim 1 done c) ∙ ended)
         go (inl x) (no d) = let y = tour-less done (x .0) d (x .2) in inl (y .0, omega (arith, y .1, x .1), y .2)
         go (inr f) (no d) = absurd (d (eqb-true (done .cursor) NONE (and-l (eqb (done .cursor) NONE) (eqb (done .missed) NONE) f)))
 
     -- ---- the step
 
     -- five tours, or a look and three: five fewer are left, unless the search has come to its end
-    pub seek-five : (p : WordProgress) (most : ℕ) → isFinished (seekWord words (2 * places) call p) ≡ false → Here p most → Fewer stepMoves most (seekWord words (2 * places) call p)
+    pub seek-five : (p : WordProgress) (most : ℕ) → isFinished (seekWord words (2 * places) aim p) ≡ false → Here p most → Fewer stepMoves most (seekWord words (2 * places) aim p)
     unfolding seekWord
     seek-five p most e g = go (ℕ-discrete (p .missed) NONE)
       where
-        go : Dec (p .missed ≡ NONE) → Fewer stepMoves most (toured (toursOf (p .missed)) (lookWord words (2 * places) call p))
-        go (no n) = let x = look-less p most n g in (x .0, x .1, tours-seek (toursOf (p .missed)) (lookWord words (2 * places) call p) (x .0) (x .2))
+        go : Dec (p .missed ≡ NONE) → Fewer stepMoves most (toured (toursOf (p .missed)) (lookWord words (2 * places) aim p))
+        go (no n) = let x = look-less p most n g in (x .0, x .1, tours-seek (toursOf (p .missed)) (lookWord words (2 * places) aim p) (x .0) (x .2))
         go (yes m) =
             let five : toursOf (p .missed) ≡ 5 = rw (eq-eqb (p .missed) NONE m) in
             let on : isFinished (toured 5 p) ≡ false = rw (look-none p m, five) at e in
             rw (look-none p m, five) (elim (tours-less 5 p most m g) [ inl x ↦ x | inr f ↦ absurd (true≢false (sym f ∙ on)) ])
 
     -- of any search no more is left
-    pub seek-keeps : (p : WordProgress) (most : ℕ) → Here p most → Here (seekWord words (2 * places) call p) most
+    pub seek-keeps : (p : WordProgress) (most : ℕ) → Here p most → Here (seekWord words (2 * places) aim p) most
     unfolding seekWord
-    seek-keeps p most g = tours-seek (toursOf (p .missed)) (lookWord words (2 * places) call p) most (look-seeks p most g)
+    seek-keeps p most g = tours-seek (toursOf (p .missed)) (lookWord words (2 * places) aim p) most (look-seeks p most g)

@@ -6,6 +6,7 @@ use mathlib.Core.Bool.{Bool, true, false, true≢false}
 use mathlib.Core.List.{List}
 use native.Mathlib.Omega.{arith}
 use native.Mathlib.Decide.{decLt}
+use Rattle.points.specs.declared.scale.Scale.{Scale}
 use Rattle.words.specs.Layout.{stations}
 use Rattle.stations.specs.Station.{hasStation, isUnfinished, stateAt}
 use Rattle.stations.proofs.StationLaws.{there-tells}
@@ -47,10 +48,10 @@ abbrev pub AnsweredBelow : ℕ → List ℕ → ℕ → Type 0
 AnsweredBelow most words s = (n : ℕ) × (n < most) × AnsweredAfter n words s
 
 -- a station with an unfinished call, after a history
-solo-stands : {words : List ℕ} {places limit : ℕ} (w : Stands words places limit) (s : ℕ) → isUnfinished (stateAt words s) ≡ true → AnsweredBelow (16 * places + 64) words s
-solo-stands {words} {places} {limit} w s u = go (decLt s stations)
+solo-stands : {words : List ℕ} {places limit : ℕ} {scale : Scale} (w : Stands words places limit scale) (s : ℕ) → isUnfinished (stateAt words s) ≡ true → AnsweredBelow (16 * places + 64) words s
+solo-stands {words} {places} {limit} {scale} w s u = go (decLt s stations)
   where
-    v : Stands words places limit
+    v : Stands words places limit scale
     v = settled-stands w .0
 
     t : Table
@@ -68,16 +69,16 @@ solo-stands {words} {places} {limit} w s u = go (decLt s stations)
     go (no g) = absurd (true≢false (sym u ∙ outside-state words s (omega arith)))
 
 -- the number of steps, and that none of them is refused
-pub solo-steps : (words : List ℕ) (places limit : ℕ) → openOf words places limit .number ≡ 0 → (evs : List Event) (s : ℕ)
-    → isUnfinished (stateAt (after evs (openOf words places limit .words)) s) ≡ true → AnsweredBelow (16 * places + 64) (after evs (openOf words places limit .words)) s
-solo-steps words places limit e evs s =
-    let a = accepted words places limit e in
-    rw (a .opens) (solo-stands (history-related words places limit a evs) s)
+pub solo-steps : (words : List ℕ) (places limit : ℕ) (scale : Scale) → openOf words places limit scale .number ≡ 0 → (evs : List Event) (s : ℕ)
+    → isUnfinished (stateAt (after evs (openOf words places limit scale .words)) s) ≡ true → AnsweredBelow (16 * places + 64) (after evs (openOf words places limit scale .words)) s
+solo-steps words places limit scale e evs s =
+    let a = accepted words places limit scale e in
+    rw (a .opens) (solo-stands (history-related words places limit scale a evs) s)
 
 -- After every history.
-pub solo : (words : List ℕ) (places limit : ℕ) → openOf words places limit .number ≡ 0 → (evs : List Event) (s : ℕ)
-    → isUnfinished (stateAt (after evs (openOf words places limit .words)) s) ≡ true → AnsweredWithin (16 * places + 64) (after evs (openOf words places limit .words)) s
-solo words places limit e evs s u =
-    let w = solo-steps words places limit e evs s u in
-    let v = after evs (openOf words places limit .words) in
+pub solo : (words : List ℕ) (places limit : ℕ) (scale : Scale) → openOf words places limit scale .number ≡ 0 → (evs : List Event) (s : ℕ)
+    → isUnfinished (stateAt (after evs (openOf words places limit scale .words)) s) ≡ true → AnsweredWithin (16 * places + 64) (after evs (openOf words places limit scale .words)) s
+solo words places limit scale e evs s u =
+    let w = solo-steps words places limit scale e evs s u in
+    let v = after evs (openOf words places limit scale .words) in
     within-more (suc (w .0)) (16 * places + 64) v s (w .1) (after-within (w .0) v s (w .2))

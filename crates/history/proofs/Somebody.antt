@@ -9,6 +9,7 @@ use mathlib.Core.List.{List, [], _∷_}
 use mathlib.Core.Option.{Option}
 use native.Mathlib.Omega.{arith}
 use native.Mathlib.Decide.{decLt}
+use Rattle.points.specs.declared.scale.Scale.{Scale}
 use Rattle.words.specs.Layout.{stations}
 use Rattle.stations.specs.Counts.{countsAt}
 use Rattle.stations.specs.Station.{isUnfinished, stateAt}
@@ -37,12 +38,12 @@ use Rattle.history.proofs.MovesLeft.{movesLeft, left-same, rest-here, m
 use Rattle.trees.specs.Measure.{stepMoves}
 
 -- the words stand, with at most n left to all stations together
-pub record Within (words : List ℕ) (places limit n : ℕ) : Type 0 where
-  pub stands : Stands words places limit
+pub record Within (words : List ℕ) (places limit : ℕ) (scale : Scale) (n : ℕ) : Type 0 where
+  pub stands : Stands words places limit scale
   pub few : potential (stands .related) ≤ n
 
 -- the same words, however they are related: so the first moments of nearest calls leave as much
-same-within : {words : List ℕ} {places limit n : ℕ} → Within words places limit n → Stands words places limit → Within words places limit n
+same-within : {words : List ℕ} {places limit : ℕ} {scale : Scale} {n : ℕ} → Within words places limit scale n → Stands words places limit scale → Within words places limit scale n
 same-within {words} w b =
     let a = w .stands in
     let same : SameRows words words (2 * a .table .places) = record { row = λ i l. refl; marks = λ x side q. refl } in
@@ -52,9 +53,9 @@ same-within {words} w b =
     record { stands = b; few = omega (arith, potential-kept (a .related) (b .related) p tree queue (λ x l. refl), w .few) }
 
 -- a submission or a taking leaves as much
-pub reseats-within : {words words′ : List ℕ} {places limit n : ℕ} (w : Within words places limit n) → Stands words′ places limit → (s : ℕ) → Reseats words words′ (2 * w .stands .table .places) s
-    → Within words′ places limit n
-reseats-within {words} {words′} {places} {limit} {n} w b s (inl e) = subst (λ (x : List ℕ). Within x places limit n) (sym e) w
+pub reseats-within : {words words′ : List ℕ} {places limit : ℕ} {scale : Scale} {n : ℕ} (w : Within words places limit scale n) → Stands words′ places limit scale → (s : ℕ) → Reseats words words′ (2 * w .stands .table .places) s
+    → Within words′ places limit scale n
+reseats-within {words} {words′} {places} {limit} {scale} {n} w b s (inl e) = subst (λ (x : List ℕ). Within x places limit scale n) (sym e) w
 reseats-within {words} {words′} w b s (inr c) =
     let a = w .stands in
     let p : b .table .places ≡ a .table .places = b .places-same ∙ sym (a .places-same) in
@@ -67,12 +68,12 @@ reseats-within {words} {words′} w b s (inr c) =
     record { stands = b; few = omega (arith, potential-less (a .related) (b .related) p tree queue s 0 (c .station) (c .others) (omega (arith, own)), w .few) }
 
 -- a step that does not answer: five less are left where it was dealt to a station with an unfinished call
-pub record Fallen (words : List ℕ) (places limit n s : ℕ) : Type 0 where
+pub record Fallen (words : List ℕ) (places limit : ℕ) (scale : Scale) (n s : ℕ) : Type 0 where
   pub fewer : ℕ
-  pub within : Within (stepOf words s .words) places limit fewer
+  pub within : Within (stepOf words s .words) places limit scale fewer
   pub counted : stepMoves * dealtStep words (singleStep s) + fewer ≤ n
 
-module _ {words : List ℕ} {places limit n : ℕ} (s : ℕ) (l : s < stations) (w : Within words places limit n) (settled : Settled (w .stands .table))
+module _ {words : List ℕ} {places limit : ℕ} {scale : Scale} {n : ℕ} (s : ℕ) (l : s < stations) (w : Within words places limit scale n) (settled : Settled (w .stands .table))
     (still : answered wordIndex words (singleStep s) ≡ false) where
   abbrev t : Table
   t = w .stands .table
@@ -83,34 +84,34 @@ module _ {words : List ℕ} {places limit n : ℕ} (s : ℕ) (l : s < stations) 
   abbrev here : ℕ
   here = movesLeft (t .places) (r .tree) (r .queue) (seatAt words s)
 
-  goes-on : (i : ℕ) (c : Call) (o : Option Answer) → t .stations s ≡ unfinished i c o → Outcome r s c o here (stepOf words s) → (m : ℕ) × (stepMoves + m ≤ n) × Within (stepOf words s .words) places limit m
+  goes-on : (i : ℕ) (c : Call) (o : Option Answer) → t .stations s ≡ unfinished i c o → Outcome r s c o here (stepOf words s) → (m : ℕ) × (stepMoves + m ≤ n) × Within (stepOf words s .words) places limit scale m
   goes-on i c o q (ends e x) = absurd (true≢false (sym (ends-answered words t s i c o (w .stands .sound) l q e (x .related)) ∙ still))
   goes-on i c o q (goesOn e m f z d) =
       let own : movesLeft (t .places) (z .related .tree) (z .related .queue) (seatAt (stepOf words s .words) s) ≤ m = left-same (z .related) s l c q m .1 (rw q at (z .left)) in
       let all = potential-less r (z .related) refl (d .tree) (d .queue) s stepMoves l (d .others) (omega (arith, own, f)) in (
         potential (z .related),
         omega (arith, all, w .few),
-        record { stands = record { table = t; sound = w .stands .sound; related = z .related; places-same = w .stands .places-same; limit-same = w .stands .limit-same }; few = omega arith },
+        record { stands = record { table = t; sound = w .stands .sound; related = z .related; places-same = w .stands .places-same; limit-same = w .stands .limit-same; scale-same = w .stands .scale-same }; few = omega arith },
       )
 
   -- the station has an unfinished call
-  dealt-falls : isUnfinished (stateAt words s) ≡ true → (m : ℕ) × (stepMoves + m ≤ n) × Within (stepOf words s .words) places limit m
+  dealt-falls : isUnfinished (stateAt words s) ≡ true → (m : ℕ) × (stepMoves + m ≤ n) × Within (stepOf words s .words) places limit scale m
   dealt-falls u = go (t .stations s) refl
     where
-      go : (x : Station) → t .stations s ≡ x → (m : ℕ) × (stepMoves + m ≤ n) × Within (stepOf words s .words) places limit m
+      go : (x : Station) → t .stations s ≡ x → (m : ℕ) × (stepMoves + m ≤ n) × Within (stepOf words s .words) places limit scale m
       go idle q = absurd (true≢false (sym u ∙ quiet-state s l idle q tt r))
       go (waiting a) q = absurd (true≢false (sym u ∙ quiet-state s l (waiting a) q tt r))
       go (unfinished i c o) q =
           goes-on i c o q (step-outcome s i here c o (w .stands .sound) settled l q (record { related = r; left = rw q (left-same r s l c q here .0 (omega arith)) }))
 
-pub step-falls : {words : List ℕ} {places limit n : ℕ} (s : ℕ) → Within words places limit n → answered wordIndex words (singleStep s) ≡ false → Fallen words places limit n s
+pub step-falls : {words : List ℕ} {places limit : ℕ} {scale : Scale} {n : ℕ} (s : ℕ) → Within words places limit scale n → answered wordIndex words (singleStep s) ≡ false → Fallen words places limit scale n s
 unfolding same-within
-step-falls {words} {places} {limit} {n} s w still = go (isUnfinished (stateAt words s)) refl (decLt s 8)
+step-falls {words} {places} {limit} {scale} {n} s w still = go (isUnfinished (stateAt words s)) refl (decLt s 8)
   where
-    go : (b : Bool) → isUnfinished (stateAt words s) ≡ b → Dec (s < stations) → Fallen words places limit n s
+    go : (b : Bool) → isUnfinished (stateAt words s) ≡ b → Dec (s < stations) → Fallen words places limit scale n s
     go false u d = record {
       fewer = n;
-      within = subst (λ (x : List ℕ). Within x places limit n) (sym (step-refused words s (quiet-refused s (w .stands .related) u))) w;
+      within = subst (λ (x : List ℕ). Within x places limit scale n) (sym (step-refused words s (quiet-refused s (w .stands .related) u))) w;
       counted = rw u (omega arith);
     }
     go true u (no g) = absurd (true≢false (sym u ∙ outside-state words s (omega arith)))
@@ -122,38 +123,38 @@ step-falls {words} {places} {limit} {n} s w still = go (isUnfinished (stateAt wo
 -- ---- the run
 
 -- where five times the number of such steps is more than what is left to all stations together, one answers
-dealt-answers : (run : List Event) {words : List ℕ} {places limit n : ℕ} → Within words places limit n → Undisturbed words run → n < stepMoves * dealtSteps words run → SomeAnswered words run
+dealt-answers : (run : List Event) {words : List ℕ} {places limit : ℕ} {scale : Scale} {n : ℕ} → Within words places limit scale n → Undisturbed words run → n < stepMoves * dealtSteps words run → SomeAnswered words run
 unfolding dealtSteps reply
 dealt-answers [] w d l = absurd (omega arith)
 dealt-answers (submission s kind p c ∷ run) {words} w d l =
     let a = w .stands in
-    inr (dealt-answers run (reseats-within w (event-stands (submission s kind p c) a) s (submit-reseats words (a .table .places) (a .table .limit) (a .related .opened) s kind p c)) (d .1) (omega arith))
+    inr (dealt-answers run (reseats-within w (event-stands (submission s kind p c) a) s (submit-reseats words (a .table .places) (a .table .limit) (a .table .scale) (a .related .opened) s kind p c)) (d .1) (omega arith))
 dealt-answers (taking s ∷ run) {words} w d l =
     let a = w .stands in
-    inr (dealt-answers run (reseats-within w (event-stands (taking s) a) s (take-reseats words (a .table .places) (a .table .limit) (a .related .opened) s)) (d .1) (omega arith))
+    inr (dealt-answers run (reseats-within w (event-stands (taking s) a) s (take-reseats words (a .table .places) (a .table .limit) (a .table .scale) (a .related .opened) s)) (d .1) (omega arith))
 dealt-answers (withdrawal s ∷ run) {words} w d l =
     let same = withdraw-refused words s (d .0) in
     let more : _ < stepMoves * (0 + dealtSteps words run) = rw same at l in
     inr (rw same (dealt-answers run w (rw same at (d .1)) (omega arith)))
-dealt-answers (singleStep s ∷ run) {words} {places} {limit} {n} w d l = go (λ k v j. dealt-answers run v (d .1) j) (answered wordIndex words (singleStep s)) refl
+dealt-answers (singleStep s ∷ run) {words} {places} {limit} {scale} {n} w d l = go (λ k v j. dealt-answers run v (d .1) j) (answered wordIndex words (singleStep s)) refl
   where
-    go : ((k : ℕ) → Within (stepOf words s .words) places limit k → k < stepMoves * dealtSteps (stepOf words s .words) run → SomeAnswered (stepOf words s .words) run)
+    go : ((k : ℕ) → Within (stepOf words s .words) places limit scale k → k < stepMoves * dealtSteps (stepOf words s .words) run → SomeAnswered (stepOf words s .words) run)
         → (b : Bool) → answered wordIndex words (singleStep s) ≡ b → SomeAnswered words (singleStep s ∷ run)
     go rest true e = inl e
     go rest false e = let f = step-falls s w e in inr (rest (f .fewer) (f .within) (omega (arith, f .counted)))
 
 -- After every history, more than 8 × places steps dealt to stations with an unfinished call, with whatever submissions, takings and refused events
 -- between them, answer a call.
-pub somebody : (words : List ℕ) (places limit : ℕ) → openOf words places limit .number ≡ 0 → (evs run : List Event)
-    → Undisturbed (after evs (openOf words places limit .words)) run
-    → mostUnanswered places < dealtSteps (after evs (openOf words places limit .words)) run → SomeAnswered (after evs (openOf words places limit .words)) run
-somebody words places limit e evs run d l =
-    let a = accepted words places limit e in
-    let v : Stands (after evs (openOf words places limit .words)) places limit = rw (a .opens) (history-related words places limit a evs) in
+pub somebody : (words : List ℕ) (places limit : ℕ) (scale : Scale) → openOf words places limit scale .number ≡ 0 → (evs run : List Event)
+    → Undisturbed (after evs (openOf words places limit scale .words)) run
+    → mostUnanswered places < dealtSteps (after evs (openOf words places limit scale .words)) run → SomeAnswered (after evs (openOf words places limit scale .words)) run
+somebody words places limit scale e evs run d l =
+    let a = accepted words places limit scale e in
+    let v : Stands (after evs (openOf words places limit scale .words)) places limit scale = rw (a .opens) (history-related words places limit scale a evs) in
     dealt-answers run {n = allMoves places} (record { stands = v; few = omega (arith, potential-most (v .related) (v .sound), v .places-same) }) d (omega arith)
 
 -- Rules 8.4, by the greater figure.
-pub somebody-finishes : (words : List ℕ) (places limit : ℕ) → openOf words places limit .number ≡ 0 → (evs run : List Event)
-    → Undisturbed (after evs (openOf words places limit .words)) run
-    → 8 * 32 * (16 * places + 64) ≤ dealtSteps (after evs (openOf words places limit .words)) run → SomeAnswered (after evs (openOf words places limit .words)) run
-somebody-finishes words places limit e evs run d l = somebody words places limit e evs run d (omega arith)
+pub somebody-finishes : (words : List ℕ) (places limit : ℕ) (scale : Scale) → openOf words places limit scale .number ≡ 0 → (evs run : List Event)
+    → Undisturbed (after evs (openOf words places limit scale .words)) run
+    → 8 * 32 * (16 * places + 64) ≤ dealtSteps (after evs (openOf words places limit scale .words)) run → SomeAnswered (after evs (openOf words places limit scale .words)) run
+somebody-finishes words places limit scale e evs run d l = somebody words places limit scale e evs run d (omega arith)

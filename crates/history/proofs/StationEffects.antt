@@ -7,6 +7,7 @@ use mathlib.Core.List.{List}
 use lib.Dec.{eqb}
 use lib.ListN.{length}
 use Rattle.points.specs.declared.point.Point.{Point}
+use Rattle.points.specs.declared.scale.Scale.{Scale}
 use Rattle.points.specs.Point.{inRange}
 use Rattle.points.specs.Word.{NONE}
 use Rattle.words.specs.Layout.{stations}
@@ -40,9 +41,9 @@ use Rattle.history.specs.View.{seatAt, withTrack, seatPut, SameRows, Wri
 use Rattle.history.proofs.Frame.{seat-of, common-stations}
 use Rattle.history.proofs.OwnEffects.{Own, own-trans, own-station, own-rows, own-written, own-track, own-aimed, aimed-only, track-aimed, target-aimed}
 
-module _ (words : List ℕ) (places limit : ℕ) (o : openedIn words ≡ Opened places limit) (s : ℕ) (l : s < stations) where
+module _ (words : List ℕ) (places limit : ℕ) (scale : Scale) (o : openedIn words ≡ Opened places limit scale) (s : ℕ) (l : s < stations) where
   here : hasStation words s ≡ true
-  here = opened-station words places limit o s l
+  here = opened-station words places limit scale o s l
 
   still : (v : List ℕ) → length v ≡ length words → hasStation v s ≡ true
   still v e = there-length v words s e ∙ here

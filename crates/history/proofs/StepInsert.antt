@@ -92,7 +92,7 @@ next-inserted : {words : List ℕ} {t : Table} {h′ : Heap} {a b : ℕ} {new : 
     → (leafOf place ≡ NONE → cutFor place b ≡ NONE) → site .at ≡ leafOf place → site .second ≡ cutFor place b
     → rootAfter site (countsAt words .root) ≡ insertRoot place a b (topOf (r .tree)) → headAfter site ≡ insertHead (r .heap) place a b
     → Holding (cursorsMoved (site .at) (site .second) stations (insertCounts words own site))
-    (insertRows (cursorsMoved (site .at) (site .second) stations (insertCounts words own site)) site (new .added) (new .point) (new .curve)) (t .places) (t .limit) h′
+    (insertRows (cursorsMoved (site .at) (site .second) stations (insertCounts words own site)) site (new .added) (new .point) (new .curve)) (t .places) (t .limit) (t .scale) h′
     → Inserted (t .places) (r .heap) h′ (r .tree) (r .queue) (allChanges t) (length (t .removals)) (leastSince words) new place a b
     → Gains words (insertRows (cursorsMoved (site .at) (site .second) stations (insertCounts words own site)) site (new .added) (new .point) (new .curve)) (r .tree) new place b
     → Next r stations (insertWords words own site (new .point) (new .curve)) (addedTable t own (new .point) (new .curve))
@@ -114,10 +114,10 @@ next-inserted {words} {t} {h′} {a} {b} {new} own mine place site sound settled
       tail = countsAt words .tail;
       removals = countsAt words .removals;
     }
-    counts = v .written .counted ∙ insert-written words (t .places) (t .limit) (r .opened) own mine site .counted
+    counts = v .written .counted ∙ insert-written words (t .places) (t .limit) (t .scale) (r .opened) own mine site .counted
 
     seated : (s : ℕ) → s < stations → seatAt written s ≡ movedCursor (site .at) (site .second) (seatAt words s)
-    seated s l = v .written .seated s l ∙ insert-written words (t .places) (t .limit) (r .opened) own mine site .seated s l
+    seated s l = v .written .seated s l ∙ insert-written words (t .places) (t .limit) (t .scale) (r .opened) own mine site .seated s l
 
     least : leastSince written ≡ leastSince words
     least = least-same words written (ap (λ (c : Counts). c .removals) counts) (λ s l. ap (λ (x : Seat). x .track .since) (seated s l))
@@ -138,23 +138,23 @@ next-inserted {words} {t} {h′} {a} {b} {new} own mine place site sound settled
         tail = r .counted .tail ∙ sym (w .tail);
         removals = r .counted .removals;
       });
-      counters = λ s l. v .written .counters s ∙ insert-written words (t .places) (t .limit) (r .opened) own mine site .counters s ∙ counters-more r sound own mine s l;
+      counters = λ s l. v .written .counters s ∙ insert-written words (t .places) (t .limit) (t .scale) (r .opened) own mine site .counters s ∙ counters-more r sound own mine s l;
       records = records-insert (r .tree) (w .tree) new (t .held) (r .records) (w .holds);
       number = w .count ∙ ap suc (r .number);
       seats = λ s l.
           rw (seated s l, at, second)
-          (says-insert t (addedTable t own (new .point) (new .curve)) w (one-more t own mine) refl (seatAt words s) (t .stations s) (least-seat words s l) still (settled s l) (r .seats s l));
+          (says-insert t (addedTable t own (new .point) (new .curve)) w (one-more t own mine) refl refl (seatAt words s) (t .stations s) (least-seat words s l) still (settled s l) (r .seats s l));
       covered = w .covers (marksIn words) (marksIn written) (r .covered) (gains .grown) (gains .marked);
       marking = λ s l.
           let e : seatAt written s ≡ movedCursor (leafOf place) (cutFor place b) (seatAt words s) = seated s l ∙ (λ j. movedCursor (at j) (second j) (seatAt words s)) in
-          rw e (marking-insert t (addedTable t own (new .point) (new .curve)) w (one-more t own mine) refl (seatAt words s) (marksIn words) (marksIn written) (gains .grown) (t .stations s) (r .marking s l));
+          rw e (marking-insert t (addedTable t own (new .point) (new .curve)) w (one-more t own mine) refl refl (seatAt words s) (marksIn words) (marksIn written) (gains .grown) (t .stations s) (r .marking s l));
     }
 
     -- a search has four moves more at most, which were spent with the record
     beside : Beside r inserted stations
     beside u k d i p x q =
         let same : seatAt written u ≡ movedCursor (leafOf place) (cutFor place b) (seatAt words u) = seated u k ∙ (λ j. movedCursor (at j) (second j) (seatAt words u)) in
-        let fewer = left-insert t (addedTable t own (new .point) (new .curve)) w (one-more t own mine) refl (seatAt words u) (r .store) i p x (least-seat words u k) (related-busy r k q) in
+        let fewer = left-insert t (addedTable t own (new .point) (new .curve)) w (one-more t own mine) refl refl (seatAt words u) (r .store) i p x (least-seat words u k) (related-busy r k q) in
         omega (
           arith,
           fewer,
@@ -209,11 +209,11 @@ module _ {words : List ℕ} {t : Table} {s i : ℕ} {p : Point} {c : ℕ} (sound
   entry-number = ap more (r .counted .changes) ∙ more-is (allChanges t) (omega (arith, changes-word r sound))
 
   -- the slice with the counts and cursors of the insert has the same rows
-  begun : (site : Site) → let base : List ℕ = cursorsMoved (site .at) (site .second) stations (insertCounts words s site) in Holding base base (t .places) (t .limit) (r .heap)
+  begun : (site : Site) → let base : List ℕ = cursorsMoved (site .at) (site .second) stations (insertCounts words s site) in Holding base base (t .places) (t .limit) (t .scale) (r .heap)
   begun site =
-      held-first (cursorsMoved (site .at) (site .second) stations (insertCounts words s site)) (t .places) (t .limit) (r .heap)
-      (insert-written words (t .places) (t .limit) (r .opened) s l site .opened ∙ r .opened)
-      (λ x lx. insert-same-rows words (t .places) (t .limit) (r .opened) s l site .row x lx ∙ r .reads x lx)
+      held-first (cursorsMoved (site .at) (site .second) stations (insertCounts words s site)) (t .places) (t .limit) (t .scale) (r .heap)
+      (insert-written words (t .places) (t .limit) (t .scale) (r .opened) s l site .opened ∙ r .opened)
+      (λ x lx. insert-same-rows words (t .places) (t .limit) (t .scale) (r .opened) s l site .row x lx ∙ r .reads x lx)
 
   few : countOf (r .tree) < NONE
   few = omega (arith, related-room r sound place-left, related-is-open r .places-most)
@@ -262,7 +262,7 @@ module _ {words : List ℕ} {t : Table} {s i : ℕ} {p : Point} {c : ℕ} (sound
             grown = λ x m side q g.
                 let k = cut-reads (r .tree) (r .store) m in
                 marks-inserted words f (r .reads) (r .store .fits) base entry x (r .store .inside x (cut-has (r .tree) x m)) (ap kindAt (k .reads)) side q
-                ∙ insert-same-rows words (t .places) (t .limit) (r .opened) s l site .marks x side q ∙ g;
+                ∙ insert-same-rows words (t .places) (t .limit) (t .scale) (r .opened) s l site .marks x side q ∙ g;
             marked = (mark-new words f (r .reads) (r .store .fits) base entry (begun site .opened), mark-old words f (r .reads) (r .store .fits) base entry (begun site .opened), passed);
           }
 

@@ -7,6 +7,7 @@ use mathlib.Core.Bool.{Bool, true, false}
 use mathlib.Core.List.{List}
 use native.Mathlib.Omega.{arith}
 use lib.Dec.{ltb}
+use Rattle.points.specs.declared.scale.Scale.{Scale}
 use Rattle.words.specs.Layout.{stations}
 use Rattle.stations.specs.Station.{isUnfinished, stateAt}
 use Rattle.table.specs.Table.{Station, idle, unfinished, waiting, Table}
@@ -44,7 +45,7 @@ still-number t s = ask-all (λ r. StepNumber (r .number)) (ltb s stations) 5 t _
     go (waiting a) = inr (inr refl)
     go (unfinished i c o) = inl refl
 
-stands-number : {words : List ℕ} {places limit : ℕ} (w : Stands words places limit) → Settled (w .table) → (s : ℕ) → StepNumber (stepOf words s .number)
+stands-number : {words : List ℕ} {places limit : ℕ} {scale : Scale} (w : Stands words places limit scale) → Settled (w .table) → (s : ℕ) → StepNumber (stepOf words s .number)
 stands-number {words} w k s = go (answered wordIndex words (singleStep s)) refl
   where
     go : (b : Bool) → answered wordIndex words (singleStep s) ≡ b → StepNumber (stepOf words s .number)
@@ -52,17 +53,17 @@ stands-number {words} w k s = go (answered wordIndex words (singleStep s)) refl
     go false e = rw (stills s (w .sound) k (w .related) e .number) (still-number (w .table) s)
 
 -- After every history a step of any station gets 0, 5 or 10.
-pub step-numbers : (words : List ℕ) (places limit : ℕ) → openOf words places limit .number ≡ 0 → (evs : List Event) (s : ℕ)
-    → StepNumber (stepOf (after evs (openOf words places limit .words)) s .number)
-step-numbers words places limit e evs s =
-    let a = accepted words places limit e in
-    let v = settled-stands (history-related words places limit a evs) in
+pub step-numbers : (words : List ℕ) (places limit : ℕ) (scale : Scale) → openOf words places limit scale .number ≡ 0 → (evs : List Event) (s : ℕ)
+    → StepNumber (stepOf (after evs (openOf words places limit scale .words)) s .number)
+step-numbers words places limit scale e evs s =
+    let a = accepted words places limit scale e in
+    let v = settled-stands (history-related words places limit scale a evs) in
     rw (a .opens) (stands-number (v .0) (v .1) s)
 
 -- Rules 7.16: 11 is never met.
-pub step-never-11 : (words : List ℕ) (places limit : ℕ) → openOf words places limit .number ≡ 0 → (evs : List Event) (s : ℕ)
-    → ¬ (stepOf (after evs (openOf words places limit .words)) s .number ≡ 11)
-step-never-11 words places limit e evs s = not-11 (step-numbers words places limit e evs s)
+pub step-never-11 : (words : List ℕ) (places limit : ℕ) (scale : Scale) → openOf words places limit scale .number ≡ 0 → (evs : List Event) (s : ℕ)
+    → ¬ (stepOf (after evs (openOf words places limit scale .words)) s .number ≡ 11)
+step-never-11 words places limit scale e evs s = not-11 (step-numbers words places limit scale e evs s)
 
 -- a step of a station without an unfinished call is refused
 pub quiet-refused : {words : List ℕ} {t : Table} (s : ℕ) → Related words t → isUnfinished (stateAt words s) ≡ false → stepOf words s .number ≢ 0
@@ -74,15 +75,15 @@ quiet-refused {words} s r u z = go (ltb s stations) refl
     go false e = let y : _≡_ {A = ℕ} 5 0 = rw (related-passes r, e) at z in omega arith
 
 -- After every history a step is accepted exactly if its station has an unfinished call.
-pub step-accepted : (words : List ℕ) (places limit : ℕ) → openOf words places limit .number ≡ 0 → (evs : List Event) (s : ℕ)
-    → (stepOf (after evs (openOf words places limit .words)) s .number ≡ 0) ↔ (isUnfinished (stateAt (after evs (openOf words places limit .words)) s) ≡ true)
-step-accepted words places limit e evs s = (λ z. told (isUnfinished (stateAt v s)) refl z, λ u. let w = solo-steps words places limit e evs s u in first (w .0) (w .2))
+pub step-accepted : (words : List ℕ) (places limit : ℕ) (scale : Scale) → openOf words places limit scale .number ≡ 0 → (evs : List Event) (s : ℕ)
+    → (stepOf (after evs (openOf words places limit scale .words)) s .number ≡ 0) ↔ (isUnfinished (stateAt (after evs (openOf words places limit scale .words)) s) ≡ true)
+step-accepted words places limit scale e evs s = (λ z. told (isUnfinished (stateAt v s)) refl z, λ u. let w = solo-steps words places limit scale e evs s u in first (w .0) (w .2))
   where
     v : List ℕ
-    v = after evs (openOf words places limit .words)
+    v = after evs (openOf words places limit scale .words)
 
-    stands : Stands v places limit
-    stands = let a = accepted words places limit e in rw (a .opens) (history-related words places limit a evs)
+    stands : Stands v places limit scale
+    stands = let a = accepted words places limit scale e in rw (a .opens) (history-related words places limit scale a evs)
 
     told : (b : Bool) → isUnfinished (stateAt v s) ≡ b → stepOf v s .number ≡ 0 → b ≡ true
     told true u z = refl

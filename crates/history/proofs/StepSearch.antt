@@ -8,8 +8,11 @@ use mathlib.Core.Option.{some}
 use native.Mathlib.Omega.{arith}
 use lib.ListN.{length}
 use Rattle.words.specs.Layout.{stations}
+use Rattle.stations.specs.Scale.{scaleAt}
 use Rattle.stations.specs.Track.{trackAt}
 use Rattle.points.specs.declared.point.Point.{Point}
+use Rattle.points.specs.declared.scale.Scale.{Scale}
+use Rattle.points.specs.Scale.{factorsIn}
 use Rattle.points.specs.Point.{inRange}
 use Rattle.points.specs.Word.{NONE}
 use Rattle.stations.specs.declared.answer.Answer.{Answer as WordAnswer}
@@ -29,14 +32,15 @@ use Rattle.trees.specs.Search.{Search, Nearest}
 use Rattle.trees.specs.Measure.{searchLeft, stepMoves}
 use Rattle.trees.proofs.ChoiceOf.{choiceOf}
 use Rattle.trees.proofs.SearchLaws.{search-finish}
+use Rattle.calls.specs.declared.aim.Aim.{Aim}
 use Rattle.calls.specs.declared.progress.Progress.{Progress as WordProgress}
 use Rattle.calls.specs.Answer.{answeredWords}
 use Rattle.calls.specs.Reply.{done, ask}
-use Rattle.calls.specs.Search.{seek, progressAt, isFinished, foundAnswer, keptWords, pickWords, searchWords, searchTo, searchOf}
+use Rattle.calls.specs.Search.{seek, aimAt, progressAt, isFinished, foundAnswer, keptWords, pickWords, searchWords, searchTo, searchOf}
 use Rattle.history.specs.Index.{answerOf}
 use Rattle.history.specs.View.{Seat, seatAt, progressOf, answeredSeat}
 use Rattle.history.specs.Related.{recordOf, Busy, Searching, Waits, Says, Related}
-use Rattle.history.proofs.RelatedLaws.{removals-word}
+use Rattle.history.proofs.RelatedLaws.{related-is-open, removals-word}
 use Rattle.history.proofs.Effects.{answer-written, answer-rows, kept-written, kept-rows}
 use Rattle.history.proofs.Outcome.{LeftSays, Left, Aside, Outcome, goesOn, ends, beside-still, Next}
 use Rattle.history.proofs.ProgressWords.{viewOf}
@@ -60,32 +64,41 @@ module _ {words : List ℕ} {t : Table} {s i : ℕ} {p : Point} {a : Answer} (h 
   busy : Busy t (r .tree) (r .queue) (seatAt words s) i (nearest p) (some a)
   busy = subst (λ (x : Station). Says t (r .tree) (r .queue) (seatAt words s) x) q (r .seats s l)
 
+  -- what the call looks for, by the factors of the opening, which are the table's
+  abbrev aim : Aim
+  aim = aimAt words (callAt words s)
+
+  scale-is : scaleAt words ≡ t .scale
+  scale-is = related-is-open r .scale-word
+
   -- the records held at the submission
   abbrev entries : List Entry
   entries = work .entries
 
   -- what holds of the progress of the call's search before its moves and after them
   abbrev Sought : WordProgress → ℕ → Type 0
-  Sought g m = Seeks (callAt words s) (trackAt words s .since) (λ e. List·Memᴰ e entries) (r .tree) (r .queue) (allChanges t) (length (t .removals)) g m
+  Sought g m = Seeks aim (trackAt words s .since) (λ e. List·Memᴰ e entries) (r .tree) (r .queue) (allChanges t) (length (t .removals)) g m
 
-  -- the search of one target as that of another that is the same, with the moves left
-  abbrev Sighted : Point → Progress → ℕ → Type 0
-  Sighted x g m =
-      (v : Search (choiceOf x) (callAt words s .asof) (trackAt words s .since) (λ e. List·Memᴰ e entries) (r .tree) (r .queue) (allChanges t) (length (t .removals)) g)
+  -- the search of one scale and target as that of others that are the same, with the moves left
+  abbrev Sighted : Scale → Point → Progress → ℕ → Type 0
+  Sighted c x g m =
+      (v : Search (choiceOf c x) (callAt words s .asof) (trackAt words s .since) (λ e. List·Memᴰ e entries) (r .tree) (r .queue) (allChanges t) (length (t .removals)) g)
       × (searchLeft v ≤ m)
 
   -- before the step
   begins : (n : ℕ) → searchLeft (work .search) ≤ n → Sought (progressAt words s (callAt words s)) n
   unfolding seatAt progressAt
   begins n f =
-      let z = subst (λ (x : Point). Sighted x (progressOf (seatAt words s)) n) (sym (busy .point)) (work .search, f) in
+      let y = subst (λ (c : Scale). Sighted c p (progressOf (seatAt words s)) n) (sym scale-is) (work .search, f) in
+      let z = subst (λ (x : Point). Sighted (scaleAt words) x (progressOf (seatAt words s)) n) (sym (busy .point)) y in
       record { fit = record { sound = refl; phase = busy .phase; best = busy .kept }; search = z .0; left = z .1 }
 
   module _ (g : WordProgress) (m : ℕ) (v : Sought g m) where
     -- it goes on
-    sighted : Sighted p (viewOf g) m
+    sighted : Sighted (t .scale) p (viewOf g) m
     unfolding seatAt
-    sighted = subst (λ (x : Point). Sighted x (viewOf g) m) (busy .point) (v .search, v .left)
+    sighted =
+        subst (λ (c : Scale). Sighted c p (viewOf g) m) scale-is (subst (λ (x : Point). Sighted (scaleAt words) x (viewOf g) m) (busy .point) (v .search, v .left))
 
     kept-works : Searching t (r .tree) (r .queue) (keptSeat (seatAt words s) g) i p (some a)
     unfolding seatAt
@@ -107,13 +120,13 @@ module _ {words : List ℕ} {t : Table} {s i : ℕ} {p : Point} {a : Answer} (h 
 
     kept-seat : seatAt (keptWords words s g) s ≡ keptSeat (seatAt words s) g
     unfolding seatAt
-    kept-seat = kept-written words (t .places) (t .limit) (r .opened) s l g (v .fit .best) .seated s l ∙ seat-put-same (λ u. seatAt words u) s (keptSeat (seatAt words s) g)
+    kept-seat = kept-written words (t .places) (t .limit) (t .scale) (r .opened) s l g (v .fit .best) .seated s l ∙ seat-put-same (λ u. seatAt words u) s (keptSeat (seatAt words s) g)
 
     kept-related : Related (keptWords words s g) t
     unfolding seatAt
     kept-related =
-        related-seat words (keptWords words s g) t (t .stations) s (keptSeat (seatAt words s) g) r (kept-written words (t .places) (t .limit) (r .opened) s l g (v .fit .best))
-        (kept-rows words (t .places) (t .limit) (r .opened) s l g) (least-since words s l) (λ u n. refl)
+        related-seat words (keptWords words s g) t (t .stations) s (keptSeat (seatAt words s) g) r (kept-written words (t .places) (t .limit) (t .scale) (r .opened) s l g (v .fit .best))
+        (kept-rows words (t .places) (t .limit) (t .scale) (r .opened) s l g) (least-since words s l) (λ u n. refl)
         (subst (λ (x : Station). Says t (r .tree) (r .queue) (keptSeat (seatAt words s) g) x) (sym q) kept-busy) (rw q tt)
 
     kept-left : Left (keptWords words s g) t s m
@@ -130,61 +143,65 @@ module _ {words : List ℕ} {t : Table} {s i : ℕ} {p : Point} {a : Answer} (h 
     kept-aside = record {
       tree = refl;
       queue = refl;
-      others = λ u k n. kept-written words (t .places) (t .limit) (r .opened) s l g (v .fit .best) .seated u k ∙ seat-put-other (λ z. seatAt words z) s u (keptSeat (seatAt words s) g) n;
+      others = λ u k n. kept-written words (t .places) (t .limit) (t .scale) (r .opened) s l g (v .fit .best) .seated u k ∙ seat-put-other (λ z. seatAt words z) s u (keptSeat (seatAt words s) g) n;
     }
 
     -- it ends
     module _ (f : isFinished g ≡ true) where
-      nearest-found : Nearest (choiceOf (callAt words s .point)) (λ e. List·Memᴰ e entries) (viewOf g .best)
+      nearest-found : Nearest (choiceOf (scaleAt words) (callAt words s .point)) (λ e. List·Memᴰ e entries) (viewOf g .best)
       nearest-found = search-finish (r .tree) (r .store) (v .search) f
 
       target-ranged : inRange (callAt words s .point) ≡ true
       unfolding seatAt
       target-ranged = ap inRange (busy .point) ∙ busy .ranged
 
-      found-ranged : answerSound (foundAnswer (callAt words s) (g .best)) ≡ true
-      found-ranged = found-sound (callAt words s) (g .best) entries nearest-found target-ranged (v .fit .best) (work .ranged)
+      scale-ranged : factorsIn (scaleAt words) ≡ true
+      scale-ranged = ap factorsIn scale-is ∙ related-is-open r .factors
+
+      found-ranged : answerSound (foundAnswer aim (g .best)) ≡ true
+      found-ranged = found-sound aim (g .best) entries nearest-found scale-ranged target-ranged (v .fit .best) (work .ranged)
 
       -- the answer that was set down
-      found-set : answerOf (foundAnswer (callAt words s) (g .best)) ≡ a
+      found-set : answerOf (foundAnswer aim (g .best)) ≡ a
       unfolding seatAt
       found-set =
-          found-is (callAt words s) (g .best) entries nearest-found (work .once)
-          ∙ ap (λ (x : Point). nearestAnswer x (nearestOf x (map recordOf entries))) (busy .point) ∙ sym (work .answer)
+          found-is aim (g .best) entries nearest-found (work .once)
+          ∙ ap (λ (c : Scale). nearestAnswer c (callAt words s .point) (nearestOf c (callAt words s .point) (map recordOf entries))) scale-is
+          ∙ ap (λ (x : Point). nearestAnswer (t .scale) x (nearestOf (t .scale) x (map recordOf entries))) (busy .point) ∙ sym (work .answer)
 
       -- no removal is numbered as high as none
       least-none : leastSince words ≤ NONE
       least-none =
           omega (arith, least-removals words, r .counted .removals, removals-word r h)
 
-      ended-waits : Waits (answeredSeat (seatAt words s) (foundAnswer (callAt words s) (g .best))) a
+      ended-waits : Waits (answeredSeat (seatAt words s) (foundAnswer aim (g .best))) a
       ended-waits = record { state = refl; sound = found-ranged; answer = found-set; quiet = record { cursor = refl; phase = refl; since = refl; missed = refl } }
 
-      ended-related : Related (answeredWords words s (foundAnswer (callAt words s) (g .best))) (finished t s (nearest p) (some a))
+      ended-related : Related (answeredWords words s (foundAnswer aim (g .best))) (finished t s (nearest p) (some a))
       unfolding finished
       ended-related =
-          let x : WordAnswer = foundAnswer (callAt words s) (g .best) in
+          let x : WordAnswer = foundAnswer aim (g .best) in
           related-seat words (answeredWords words s x) t (put (t .stations) s (waiting a)) s (answeredSeat (seatAt words s) x) r
-          (answer-written words (t .places) (t .limit) (r .opened) s l x found-ranged) (answer-rows words (t .places) (t .limit) (r .opened) s l x) least-none
+          (answer-written words (t .places) (t .limit) (t .scale) (r .opened) s l x found-ranged) (answer-rows words (t .places) (t .limit) (t .scale) (r .opened) s l x) least-none
           (λ u n. put-other (t .stations) s u (waiting a) n)
           (subst (λ (y : Station). Says t (r .tree) (r .queue) (answeredSeat (seatAt words s) x) y) (sym (put-same (t .stations) s (waiting a))) ended-waits)
           (rw (put-same (t .stations) s (waiting a)) tt)
 
       -- no other search has more left
-      ended-next : Next r s (answeredWords words s (foundAnswer (callAt words s) (g .best))) (finished t s (nearest p) (some a))
+      ended-next : Next r s (answeredWords words s (foundAnswer aim (g .best))) (finished t s (nearest p) (some a))
       unfolding ended-related related-seat related-written
       ended-next =
-          let w = answer-written words (t .places) (t .limit) (r .opened) s l (foundAnswer (callAt words s) (g .best)) found-ranged in
+          let w = answer-written words (t .places) (t .limit) (t .scale) (r .opened) s l (foundAnswer aim (g .best)) found-ranged in
           record { related = ended-related; beside = beside-still r ended-related s refl refl (w .counted) (λ u k d. w .seated u k ∙ seat-put-other (λ z. seatAt words z) s u _ d) }
 
     -- what the step writes after its moves
-    outcome-of : (n : ℕ) → (stepMoves + m ≤ n) ⊎ (isFinished g ≡ true) → Outcome r s (nearest p) (some a) n (searchTo words s (callAt words s) g)
+    outcome-of : (n : ℕ) → (stepMoves + m ≤ n) ⊎ (isFinished g ≡ true) → Outcome r s (nearest p) (some a) n (searchTo words s aim g)
     unfolding searchWords
     outcome-of n d =
-        subst (λ (b : Bool). Outcome r s (nearest p) (some a) n (ask b 11 words (done (searchWords words s (callAt words s) g)))) (sym (v .fit .sound)) (go (isFinished g) refl d)
+        subst (λ (b : Bool). Outcome r s (nearest p) (some a) n (ask b 11 words (done (searchWords words s aim g)))) (sym (v .fit .sound)) (go (isFinished g) refl d)
       where
         go : (b : Bool) → isFinished g ≡ b → (stepMoves + m ≤ n) ⊎ (isFinished g ≡ true)
-            → Outcome r s (nearest p) (some a) n (done (pickWords b (answeredWords words s (foundAnswer (callAt words s) (g .best))) (keptWords words s g)))
+            → Outcome r s (nearest p) (some a) n (done (pickWords b (answeredWords words s (foundAnswer aim (g .best))) (keptWords words s g)))
         go true f d = ends refl (ended-next f)
         go false f (inl k) = goesOn refl m k kept-left kept-aside
         go false f (inr e) = absurd (false≢true (sym f ∙ e))
@@ -202,16 +219,19 @@ search-outcome {words} {t} {s} {i} {n} {p} {a} h l q r =
     start : WordProgress
     start = progressAt words s (callAt words s)
 
+    aimed : Aim
+    aimed = aimAt words (callAt words s)
+
     sought : WordProgress
-    sought = seek words (2 * t .places) (callAt words s) start
+    sought = seek words (2 * t .places) aimed start
 
     go : (work : Searching t (r .related .tree) (r .related .queue) (seatAt words s) i p (some a)) → searchLeft (work .search) ≤ n → (b : Bool) → isFinished sought ≡ b
-        → Outcome (r .related) s (nearest p) (some a) n (searchTo words s (callAt words s) sought)
+        → Outcome (r .related) s (nearest p) (some a) n (searchTo words s aimed sought)
     go work few true e =
         let held : Entry → Type 0 = (λ d. List·Memᴰ d (work .entries)) in
-        let v = seek-keeps (r .related .store) words (r .related .reads) (r .related .covered) (callAt words s) (trackAt words s .since) held start n (begins h l q (r .related) work n few) in
+        let v = seek-keeps (r .related .store) words (r .related .reads) (r .related .covered) aimed (trackAt words s .since) held start n (begins h l q (r .related) work n few) in
         outcome-of h l q (r .related) work sought n v n (inr e)
     go work few false e =
         let held : Entry → Type 0 = (λ d. List·Memᴰ d (work .entries)) in
-        let x = seek-five (r .related .store) words (r .related .reads) (r .related .covered) (callAt words s) (trackAt words s .since) held start n e (begins h l q (r .related) work n few) in
+        let x = seek-five (r .related .store) words (r .related .reads) (r .related .covered) aimed (trackAt words s .since) held start n e (begins h l q (r .related) work n few) in
         outcome-of h l q (r .related) work sought (x .0) (x .2) n (inl (x .1))

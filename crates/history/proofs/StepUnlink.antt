@@ -126,14 +126,14 @@ module _ (words : List ℕ) (t : Table) (s i : ℕ) (p : Point) (at parent : ℕ
   words₁ = stationsMoved around stations (unlinkCounts words s around)
 
   counted₁ : Written words words₁ counts (put (counterAt words) s (more (counterAt words s))) (λ u. movedSeat around (seatAt words u))
-  counted₁ = unlink-written words (t .places) (t .limit) (R .opened) s below around
+  counted₁ = unlink-written words (t .places) (t .limit) (t .scale) (R .opened) s below around
 
   abbrev words₂ : List ℕ
   words₂ = unlinkRows words₁ around number
 
   unlinked-rows : RowsUnlinked words₁ words₂ (t .places) (R .heap) (tailOf (R .queue)) number leaf
   unlinked-rows =
-      rows-unlinked words₁ (counted₁ .opened ∙ R .opened) (λ r k. unlink-same-rows words (t .places) (t .limit) (R .opened) s below around .row r k ∙ R .reads r k) (R .store) number leaf has reads
+      rows-unlinked words₁ (counted₁ .opened ∙ R .opened) (λ r k. unlink-same-rows words (t .places) (t .limit) (t .scale) (R .opened) s below around .row r k ∙ R .reads r k) (R .store) number leaf has reads
 
   counted₂ : Written words words₂ counts (put (counterAt words) s (more (counterAt words s))) (λ u. movedSeat around (seatAt words u))
   counted₂ =
@@ -164,11 +164,11 @@ module _ (words : List ℕ) (t : Table) (s i : ℕ) (p : Point) (at parent : ℕ
   abbrev words₃ : List ℕ
   words₃ = answeredWords words₂ s given
 
-  opened₂ : openedIn words₂ ≡ Opened (t .places) (t .limit)
+  opened₂ : openedIn words₂ ≡ Opened (t .places) (t .limit) (t .scale)
   opened₂ = counted₂ .opened ∙ R .opened
 
   answered : Written words₂ words₃ (countsAt words₂) (counterAt words₂) (seatPut (λ u. seatAt words₂ u) s (answeredSeat (seatAt words₂ s) given))
-  answered = answer-written words₂ (t .places) (t .limit) opened₂ s below given given-sound
+  answered = answer-written words₂ (t .places) (t .limit) (t .scale) opened₂ s below given given-sound
 
   counts-are : countsAt words₃ ≡ counts
   counts-are = answered .counted ∙ counted₂ .counted
@@ -242,7 +242,7 @@ module _ (words : List ℕ) (t : Table) (s i : ℕ) (p : Point) (at parent : ℕ
       let there : ¬ (x ≡ NONE) = λ z. omega (arith, z, after .store .inside x (cut-has (after .tree) x m), after .store .fits) in
       let last = unlink-reads (R .tree) (R .store) has .tail in
       let kept = marks-unlinked (unlinked-rows .writes) (last .last) (last .reads) (alone-side (R .store) leaf has reads) x there (ap kindAt (c .reads)) words₁ side d in
-      answer-rows words₂ (t .places) (t .limit) opened₂ s below given .marks x side d ∙ kept ∙ unlink-same-rows words (t .places) (t .limit) (R .opened) s below around .marks x side d ∙ g
+      answer-rows words₂ (t .places) (t .limit) (t .scale) opened₂ s below given .marks x side d ∙ kept ∙ unlink-same-rows words (t .places) (t .limit) (t .scale) (R .opened) s below around .marks x side d ∙ g
 
   marking-after : (u : ℕ) → u < stations → Marking (marksIn words₃) (after .tree) (seatAt words₃ u .track .cursor) (said u)
   marking-after u k = elim (put-cases (t .stations) s u (waiting spoken)) [
@@ -258,7 +258,7 @@ module _ (words : List ℕ) (t : Table) (s i : ℕ) (p : Point) (at parent : ℕ
     heap = unlinked-rows .heap;
     tree = after .tree;
     queue = after .queue;
-    reads = λ r k. answer-rows words₂ (t .places) (t .limit) opened₂ s below given .row r k ∙ unlinked-rows .reads r k;
+    reads = λ r k. answer-rows words₂ (t .places) (t .limit) (t .scale) opened₂ s below given .row r k ∙ unlinked-rows .reads r k;
     store = rw (one-more t s below) store-after;
     counted = counted-after;
     counters = λ u k. answered .counters u ∙ counted₂ .counters u ∙ counters-more R sound s below u k;

@@ -68,7 +68,7 @@ module _ {words : List ℕ} {t : Table} (s : ℕ) (p : Point) (c : ℕ) (h : Sou
     entries = entriesOf (r .tree);
     once = entries-once r;
     ranged = λ e m. held-ranged r e (entries-held (r .tree) e .0 m);
-    search = rw (word-changes r, word-removals r, word-root r) (search-begin (choiceOf p) (r .tree) (r .store) (λ e. (entries-held (r .tree) e .1, entries-held (r .tree) e .0)));
+    search = rw (word-changes r, word-removals r, word-root r) (search-begin (choiceOf (t .scale) p) (r .tree) (r .store) (λ e. (entries-held (r .tree) e .1, entries-held (r .tree) e .0)));
     answer = entries-held (r .tree);
   }
 
@@ -125,14 +125,14 @@ pub related-submitted : {words : List ℕ} {t : Table} (s kind : ℕ) (p : Point
     → Related (submittedWords words s kind p c) (enter t s (callOf kind p c))
 unfolding enter seatAt kindInRange
 related-submitted {words} {t} s kind p c h r l k ranged fits =
-    let w = submit-written words (t .places) (t .limit) (r .opened) s l kind p c ranged in
+    let w = submit-written words (t .places) (t .limit) (t .scale) (r .opened) s l kind p c ranged in
     let x : Seat = begunSeat words s kind p c in
     let low : leastSince words ≤ sinceFor (countsAt words .removals) kind =
     omega (arith, least-removals words, since-begun (countsAt words .removals) kind (omega (arith, word-removals r, removals-word r h))) in
-    related-written r w (submit-rows words (t .places) (t .limit) (r .opened) s l kind p c) (record { places = refl; limit = refl; held = refl; counters = refl; removals = refl })
+    related-written r w (submit-rows words (t .places) (t .limit) (t .scale) (r .opened) s l kind p c) (record { places = refl; limit = refl; scale = refl; held = refl; counters = refl; removals = refl })
     (least-greatest (submittedWords words s kind p c) (leastSince words) (omega (arith, least-removals words, written-removals w)) (λ u m.
     rw (written-since w u m) (seat-put-each (λ (y : Seat). leastSince words ≤ y .track .since) (λ v. seatAt words v) s x low u (least-since words u m))))
-    (says-put t (enter t s (callOf kind p c)) refl refl (r .tree) (r .queue) (λ u. seatAt words u) (t .stations) (r .seats) s x (unfinished (t .calls) (callOf kind p c) none)
+    (says-put t (enter t s (callOf kind p c)) refl refl refl (r .tree) (r .queue) (λ u. seatAt words u) (t .stations) (r .seats) s x (unfinished (t .calls) (callOf kind p c) none)
     (begun-busy s p c h r ranged kind (leb-true 1 kind (and-left (leb 1 kind) (leb kind 4) k)) (leb-true kind 4 (and-right (leb 1 kind) (leb kind 4) k)) fits))
     (marking-put (marksIn words) (r .tree) (λ u. seatAt words u) (t .stations) (r .marking) s x (unfinished (t .calls) (callOf kind p c) none)
     (rw (word-root r) (marking-begun (marksIn words) (r .tree) (t .calls) kind p c)))

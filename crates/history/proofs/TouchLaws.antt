@@ -17,10 +17,12 @@ use Rattle.stations.specs.Counts.{countsAt, putCounts}
 use Rattle.stations.specs.Counter.{changeCounted}
 use Rattle.stations.specs.Track.{trackAt, putTrack}
 use Rattle.stations.specs.Target.{targetAt, putTarget}
+use Rattle.stations.specs.Scale.{scaleAt}
 use Rattle.stations.specs.Station.{putState}
 use Rattle.stations.specs.Call.{putBest, putCall}
 use Rattle.stations.specs.Answer.{putAnswer}
 use Rattle.stations.proofs.OpeningLaws.{openedIn-agree}
+use Rattle.stations.proofs.ScaleLaws.{scale-agree}
 use Rattle.stations.proofs.CountLaws.{counts-agree, putCounts-only, putCounts-agree}
 use Rattle.stations.proofs.CounterLaws.{counted-only, counted-agree}
 use Rattle.stations.proofs.TrackLaws.{track-agree, putTrack-only, putTrack-agree}
@@ -44,6 +46,9 @@ module _ {v w : List ℕ} {s : ℕ} {rows : List ℕ} (a : AgreeOn v w s rows) w
 
   pub target-same : (u : ℕ) → targetAt v u ≡ targetAt w u
   target-same u = targetAt-agree (a .common) u
+
+  pub scale-same : scaleAt v ≡ scaleAt w
+  scale-same = scale-agree (a .common)
 
   pub opened-same : openedIn v ≡ openedIn w
   opened-same = openedIn-agree (a .common)

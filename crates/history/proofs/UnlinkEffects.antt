@@ -7,6 +7,7 @@ use mathlib.Core.List.{List}
 use native.Mathlib.Omega.{arith}
 use lib.Dec.{eqb}
 use lib.ListN.{length}
+use Rattle.points.specs.declared.scale.Scale.{Scale}
 use Rattle.points.specs.Word.{NONE}
 use Rattle.words.specs.Layout.{stations, records}
 use Rattle.words.specs.Words.{more}
@@ -39,12 +40,12 @@ stations-moved a (suc n) w h long =
     let here = there-of (stationsMoved a n w) n (record { station = omega arith; long = omega (arith, m .only .lengths) }) in
     moved-next (moved-at (trackAfter a) (stationsMoved a n w) n here) m
 
-module _ (words : List ℕ) (places limit : ℕ) (o : openedIn words ≡ Opened places limit) (s : ℕ) (l : s < stations) (a : Around) where
+module _ (words : List ℕ) (places limit : ℕ) (scale : Scale) (o : openedIn words ≡ Opened places limit scale) (s : ℕ) (l : s < stations) (a : Around) where
   long : records ≤ length words
-  long = omega (arith, opened-tells words places limit o .long)
+  long = omega (arith, opened-tells words places limit scale o .long)
 
   counted : Counting (unlinkCounts words s a) words (countUnlinked a (countsAt words)) s
-  counted = unlink-counted words s a (opened-station words places limit o s l)
+  counted = unlink-counted words s a (opened-station words places limit scale o s l)
 
   moves : Moved (trackAfter a) (stationsMoved a stations (unlinkCounts words s a)) (unlinkCounts words s a) stations
   moves = stations-moved a stations (unlinkCounts words s a) (omega arith) (omega (arith, counted .only .lengths, long))

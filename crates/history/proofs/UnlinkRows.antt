@@ -8,6 +8,7 @@ use mathlib.Core.List.{List}
 use mathlib.Core.Option.{Option}
 use native.Mathlib.Omega.{arith}
 use native.Mathlib.Decide.{ℕ-discrete}
+use Rattle.points.specs.declared.scale.Scale.{Scale}
 use Rattle.stations.specs.Counter.{counterAt}
 use Rattle.stations.specs.Counts.{countsAt}
 use Rattle.points.specs.Word.{NONE}
@@ -44,7 +45,7 @@ pub record RowsUnlinked (words words′ : List ℕ) (places : ℕ) (h : Heap) (t
   pub reads : Reads words′ (2 * places) heap
   pub writes : UnlinkWrites h heap tail number l (siblingRow h l) (grandRow h l)
 
-module _ (words : List ℕ) {places limit : ℕ} {h : Heap} {t : Option Tree} {q : List Free} {changes removals released : ℕ} (o : openedIn words ≡ Opened places limit)
+module _ (words : List ℕ) {places limit : ℕ} {scale : Scale} {h : Heap} {t : Option Tree} {q : List Free} {changes removals released : ℕ} (o : openedIn words ≡ Opened places limit scale)
     (r : Reads words (2 * places) h) (st : Store places h t q changes removals released) (number : ℕ) (l : Leaf) (m : Has t (l .row)) (f : h (l .row) ≡ leafRow (l .parent) (l .entry)) where
   abbrev rows : ℕ
   rows = 2 * places
@@ -66,12 +67,12 @@ module _ (words : List ℕ) {places limit : ℕ} {h : Heap} {t : Option Tree} {q
   heap₂ = heapPut heap₁ (l .row) (removedRow (l .parent) number (l .entry))
 
   -- the tail and the leaf
-  first-two : Holding words (putRow (putRow words tail (withNext (l .row) (wordRow (h tail)))) (l .row) (removedAs (l .parent) number (wordRow (leafRow (l .parent) (l .entry))))) places limit heap₂
+  first-two : Holding words (putRow (putRow words tail (withNext (l .row) (wordRow (h tail)))) (l .row) (removedAs (l .parent) number (wordRow (leafRow (l .parent) (l .entry))))) places limit scale heap₂
   first-two =
       let row : l .row < rows = st .inside (l .row) m in
       let end : tail < rows = link-tail st (omega arith) in
       put-row
-      (put-row (held-first words places limit h o r) tail (withNext (l .row) (wordRow (h tail))) (setNext (l .row) (h tail)) (next-words (l .row) (h tail) (last .last) (last .reads)) end
+      (put-row (held-first words places limit scale h o r) tail (withNext (l .row) (wordRow (h tail))) (setNext (l .row) (h tail)) (next-words (l .row) (h tail) (last .last) (last .reads)) end
       (next-in rows (l .row) (h tail) (last .last) (last .reads) row (in-range tail end)))
       (l .row)
       (removedAs (l .parent) number (wordRow (leafRow (l .parent) (l .entry))))
@@ -124,7 +125,7 @@ module _ (words : List ℕ) {places limit : ℕ} {h : Heap} {t : Option Tree} {q
         (putRow (putRow (putRow words tail (withNext (l .row) (wordRow (h tail)))) (l .row) (removedAs (l .parent) number (wordRow (leafRow (l .parent) (l .entry))))) (l .parent) (wordRow (spareRow NONE number)))
         side
         (withParent up (linkedRow h side)))
-        places limit heap₄
+        places limit scale heap₄
     first-four =
         put-row
         (put-row first-two (l .parent) (wordRow (spareRow NONE number)) (spareRow NONE number) refl (st .inside (l .parent) (around .cut .has)) (in-rows-spare rows NONE number ∙ link-none rows))

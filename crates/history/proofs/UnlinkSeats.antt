@@ -21,6 +21,7 @@ use Rattle.table.specs.Table.{Station, idle, unfinished, waiting, Table, eight,
 use Rattle.table.proofs.Stations.{eight-mem, searches-in}
 use Rattle.table.proofs.Removals.{sinceOf, since-le, since-removal}
 use Rattle.table.proofs.Eager.{unsettled}
+use Rattle.trees.specs.Choice.{sideOf}
 use Rattle.trees.specs.Row.{Row, spareRow, removedRow, leafRow, cutRow, Heap}
 use Rattle.trees.specs.Tree.{Tree, Has}
 use Rattle.trees.specs.Queue.{Free}
@@ -31,7 +32,6 @@ use Rattle.trees.specs.Reads.{Leaf}
 use Rattle.trees.specs.Unlink.{siblingRow, grandRow, Unlinked}
 use Rattle.trees.specs.Below.{Marks, Grows}
 use Rattle.trees.proofs.MarkLaws.{pass-grows}
-use Rattle.trees.proofs.ChoiceOf.{choiceOf}
 use Rattle.trees.proofs.RouteLaws.{walk-unlink}
 use Rattle.trees.proofs.SearchLaws.{search-unlink}
 use Rattle.trees.specs.Measure.{stepMoves, progressLeft}
@@ -84,7 +84,7 @@ lands-in target leaf (Cut parent cut left right) = go (eqb (cond (goesLeft cut t
     go false = omega arith
 
 -- and it is that of the trees
-lands-word : (target : Point) (h : Heap) (cut leaf : ℕ) → phaseOf (landingWord target leaf (linkedRow h cut)) ≡ landing (choiceOf target .side) h cut leaf
+lands-word : (target : Point) (h : Heap) (cut leaf : ℕ) → phaseOf (landingWord target leaf (linkedRow h cut)) ≡ landing (sideOf target) h cut leaf
 unfolding landing
 lands-word target h cut leaf = go (eqb cut NONE) (h cut)
   where
@@ -92,7 +92,7 @@ lands-word target h cut leaf = go (eqb cut NONE) (h cut)
     by true = refl
     by false = refl
 
-    go : (b : Bool) (row : Row) → phaseOf (landingWord target leaf (cond b Bad (wordRow row))) ≡ pickPhase b Down (landingRow (choiceOf target .side) leaf row)
+    go : (b : Bool) (row : Row) → phaseOf (landingWord target leaf (cond b Bad (wordRow row))) ≡ pickPhase b Down (landingRow (sideOf target) leaf row)
     go true row = refl
     go false (spareRow next n) = refl
     go false (removedRow next n e) = refl
@@ -150,7 +150,7 @@ module _ (t : Table) (own : ℕ) (mine : own < stations) (p : Point) (f : ℕ �
 
   -- a search goes on where the trees have it
   abbrev progressAfter : Point → Seat → Progress
-  progressAfter target seat = searchAfterUnlink (l .row) (l .parent) (siblingRow h l) (landing (choiceOf target .side) h (l .parent) (l .row)) (progressOf seat)
+  progressAfter target seat = searchAfterUnlink (l .row) (l .parent) (siblingRow h l) (landing (sideOf target) h (l .parent) (l .row)) (progressOf seat)
 
   progress-moved : (seat : Seat) → seat .track .since ≢ NONE → progressOf (moved seat) ≡ progressAfter (seat .target) seat
   progress-moved seat n =
@@ -198,7 +198,7 @@ module _ (t : Table) (own : ℕ) (mine : own < stations) (p : Point) (f : ℕ �
   left-moved seat i d a v =
       let there : seat .track .since ≢ NONE = λ z. omega (arith, v .works .since, since-le i (t .removals)) in
       let e : progressOf (moved seat) ≡ progressAfter d seat = progress-moved seat there ∙ ap (λ (x : Point). progressAfter x seat) (v .works .aimed) in
-      let same = ap (λ (z : Progress). progressLeft (choiceOf d .side) (w .tree) (w .queue) z) e in
+      let same = ap (λ (z : Progress). progressLeft (sideOf d) (w .tree) (w .queue) z) e in
       omega (arith, same, left-target (w .tree) (w .queue) (moved seat) d (v .point), left-target tree queue seat d (v .point), others-unlink st w (v .works .search))
 
   -- and an add has marked its way down to the row where its cursor is

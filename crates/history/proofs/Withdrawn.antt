@@ -13,6 +13,7 @@ use lib.ListN.{length, length-map}
 use borrow.Author.Tests.{lt-ltb}
 use Rattle.words.specs.Layout.{stations}
 use Rattle.points.specs.declared.point.Point.{Point}
+use Rattle.points.specs.declared.scale.Scale.{Scale}
 use Rattle.stations.specs.Station.{isUnfinished, stateAt}
 use Rattle.stations.specs.Call.{callAt}
 use Rattle.calls.specs.Reply.{Reply}
@@ -70,7 +71,7 @@ not-searching {words} {t} u l r e = go (t .stations u) refl
     go (unfinished i (contains p) o) q = refl
     go (unfinished i (nearest p) o) q = absurd (true≢false (sym (rw (related-busy r l q .state, related-busy r l q .kind) refl) ∙ e))
 
-module _ {words : List ℕ} {places limit : ℕ} (w : Stands words places limit) {s i : ℕ} {c : Call} {o : Option Answer} (l : s < stations) (q : w .table .stations s ≡ unfinished i c o) where
+module _ {words : List ℕ} {places limit : ℕ} {scale : Scale} (w : Stands words places limit scale) {s i : ℕ} {c : Call} {o : Option Answer} (l : s < stations) (q : w .table .stations s ≡ unfinished i c o) where
   -- the words after it, and the table
   abbrev words′ : List ℕ
   words′ = withdrawnWords words s (callAt words s)
@@ -113,7 +114,7 @@ module _ {words : List ℕ} {places limit : ℕ} (w : Stands words places limit)
       }
 
 -- the words say that the call is unfinished
-stands-withdrawn : {words : List ℕ} {places limit : ℕ} → Stands words places limit → (s : ℕ) → isUnfinished (stateAt words s) ≡ true → Withdrawn words s
+stands-withdrawn : {words : List ℕ} {places limit : ℕ} {scale : Scale} → Stands words places limit scale → (s : ℕ) → isUnfinished (stateAt words s) ≡ true → Withdrawn words s
 stands-withdrawn {words} w s u = go (decLt s stations)
   where
     at : s < stations → (x : Station) → w .table .stations s ≡ x → Withdrawn words s
@@ -127,12 +128,12 @@ stands-withdrawn {words} w s u = go (decLt s stations)
 
 -- ---- after every history
 
-module _ (words : List ℕ) (places limit : ℕ) (e : openOf words places limit .number ≡ 0) (evs : List Event) (s : ℕ) where
+module _ (words : List ℕ) (places limit : ℕ) (scale : Scale) (e : openOf words places limit scale .number ≡ 0) (evs : List Event) (s : ℕ) where
   abbrev reached : List ℕ
-  reached = after evs (openOf words places limit .words)
+  reached = after evs (openOf words places limit scale .words)
 
-  stands : Stands reached places limit
-  stands = let a = accepted words places limit e in rw (a .opens) (history-related words places limit a evs)
+  stands : Stands reached places limit scale
+  stands = let a = accepted words places limit scale e in rw (a .opens) (history-related words places limit scale a evs)
 
   -- A withdrawal by any station gets 0, 5 or 10.
   pub withdraw-numbers : StepNumber (withdrawOf reached s .number)
@@ -173,9 +174,9 @@ point-of kind p c = go (eqb kind 1) (eqb kind 2) (eqb kind 3)
     go false false true = refl
     go false false false = refl
 
-module _ (words : List ℕ) (places limit : ℕ) (e : openOf words places limit .number ≡ 0) (before during : List Event) (s kind : ℕ) (p : Point) (c : ℕ) where
+module _ (words : List ℕ) (places limit : ℕ) (scale : Scale) (e : openOf words places limit scale .number ≡ 0) (before during : List Event) (s kind : ℕ) (p : Point) (c : ℕ) where
   abbrev start : List ℕ
-  start = openOf words places limit .words
+  start = openOf words places limit scale .words
 
   -- the words after the submission
   abbrev begun : List ℕ
@@ -187,11 +188,11 @@ module _ (words : List ℕ) (places limit : ℕ) (e : openOf words places limit 
       → (withdrawOf (after during begun) s .number ≡ 0) × (givenBy (takeOf (withdrawOf (after during begun) s .words) s) ≡ some (answer 11 p 0 0))
   unfolding after reply isChange withdrawnAnswer
   taken-back ok n =
-      let x = withdrawn-waits wordIndex start places limit (demand-3 words places limit e) before during s kind p c begun ok refl n in
+      let x = withdrawn-waits wordIndex start places limit scale (demand-3 words places limit scale e) before during s kind p c begun ok refl n in
       let same : after (before ++ (submission s kind p c ∷ during)) start ≡ after during begun = after-both before (submission s kind p c ∷ during) start in
       let u : isUnfinished (stateAt (after during begun) s) ≡ true =
-      rw same at (withdraw-accepted words places limit e (before ++ (submission s kind p c ∷ during)) s .0 (rw same (x .0))) in
-      let w : Withdrawn (after during begun) s = rw same at (withdrawn words places limit e (before ++ (submission s kind p c ∷ during)) s (rw same u)) in
+      rw same at (withdraw-accepted words places limit scale e (before ++ (submission s kind p c ∷ during)) s .0 (rw same (x .0))) in
+      let w : Withdrawn (after during begun) s = rw same at (withdrawn words places limit scale e (before ++ (submission s kind p c ∷ during)) s (rw same u)) in
       (x .0, x .1 .2 ∙ ap some (which (x .1 .0) (callAt (after during begun) s .point) (x .1 .1) (Option·some-injective _ _ (sym (x .1 .2) ∙ w .gives))))
     where
       which : (a : Answer) (q : Point) → AfterWithdrawal (callOf kind p c) a → a ≡ answer 11 q 0 0 → a ≡ answer 11 p 0 0

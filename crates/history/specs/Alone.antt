@@ -4,6 +4,7 @@ use mathlib.Core.Path.{_≡_}
 use mathlib.Core.List.{List}
 use mathlib.Core.Option.{some}
 use Rattle.points.specs.declared.point.Point.{Point}
+use Rattle.points.specs.declared.scale.Scale.{Scale}
 use Rattle.table.specs.Call.{callOf, isChange}
 use Rattle.words.specs.Layout.{stations}
 use Rattle.stations.specs.Counter.{counterAt}
@@ -43,11 +44,11 @@ pub record RunsAlone (words : List ℕ) (t : Table) (most s kind : ℕ) (p : Poi
 
 -- Demand 2 (Rules 12.2): there are moments as demand 3 wants them, and `table` is the plain table fed the
 -- events with these moments; submission refuses what this table refuses, and whatever call it accepts, run alone, answers as this table does.
-pub record AnswersAsTable (start : List ℕ) (places limit : ℕ) (evs : List Event) : Type 0 where
+pub record AnswersAsTable (start : List ℕ) (places limit : ℕ) (scale : Scale) (evs : List Event) : Type 0 where
   pub moments : List (List ℕ)
-  pub follows : Follows wordIndex (λ s. ⊥) start (opened places limit) evs moments
+  pub follows : Follows wordIndex (λ s. ⊥) start (opened places limit scale) evs moments
   pub table : Table
-  pub ends : Ends wordIndex start (opened places limit) evs moments table
+  pub ends : Ends wordIndex start (opened places limit scale) evs moments table
   pub agrees : Agree wordIndex (after evs start) table
   pub submits : (s kind : ℕ) (p : Point) (c : ℕ) → submitOf (after evs start) s kind p c .number ≡ submit table s kind p c .number
   pub unfinished : (s : ℕ) → s < stations → isUnfinished (stateAt (after evs start) s) ≡ busy (table .stations s)

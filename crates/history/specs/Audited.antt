@@ -7,6 +7,7 @@ use mathlib.Core.Logic.{_⊎_}
 use mathlib.Core.List.{List, _++_}
 use mathlib.Core.Option.{Option}
 use lib.ListN.{length}
+use Rattle.points.specs.declared.scale.Scale.{Scale}
 use Rattle.stations.specs.Counts.{countsAt}
 use Rattle.stations.specs.Common.{openedIn, leastSince, Opened}
 use Rattle.trees.specs.Row.{Heap}
@@ -27,7 +28,8 @@ pub record InOrder (queue : List Free) (removals released : ℕ) : Type 0 where
 pub record Audited (words : List ℕ) : Type 0 where
   pub places : ℕ
   pub limit : ℕ
-  pub opened : openedIn words ≡ Opened places limit
+  pub scale : Scale
+  pub opened : openedIn words ≡ Opened places limit scale
   pub heap : Heap
   pub tree : Option Tree
   pub queue : List Free

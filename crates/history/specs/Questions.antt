@@ -5,7 +5,9 @@ use mathlib.Core.List.{List, [], _∷_}
 use lib.Dec.{leb, ltb}
 use lib.ListN.{length}
 use Rattle.points.specs.declared.point.Point.{Point}
+use Rattle.points.specs.declared.scale.Scale.{Scale}
 use Rattle.points.specs.Point.{inRange}
+use Rattle.points.specs.Scale.{factorsIn}
 use Rattle.words.specs.Layout.{wordsFor, stations}
 use Rattle.stations.specs.Common.{placesIn, limitIn, openedIn, isOpened}
 use Rattle.stations.specs.Station.{isIdle, isUnfinished, stateAt}
@@ -34,8 +36,9 @@ firstNo [] = 0
 firstNo (q ∷ qs) = orElse (q .yes) (q .number) (firstNo qs)
 
 -- opening (Rules 7.3)
-abbrev pub openQuestions : List ℕ → ℕ → ℕ → List Question
-openQuestions words places limit = asked (placesIn places) 1 ∷ (asked (limitIn limit) 2 ∷ (asked (leb (wordsFor places) (length words)) 3 ∷ []))
+abbrev pub openQuestions : List ℕ → ℕ → ℕ → Scale → List Question
+openQuestions words places limit scale =
+    asked (placesIn places) 1 ∷ (asked (limitIn limit) 2 ∷ (asked (factorsIn scale) 17 ∷ (asked (leb (wordsFor places) (length words)) 3 ∷ [])))
 
 -- every other call that names a station (Rules 7.5, 7.6)
 abbrev pub stationQuestions : List ℕ → ℕ → List Question → List Question

@@ -13,6 +13,7 @@ use Rattle.stations.specs.Counter.{counterAt}
 use Rattle.stations.specs.declared.track.Track.{Track}
 use Rattle.stations.specs.declared.counts.Counts.{Counts}
 use Rattle.points.specs.declared.point.Point.{Point}
+use Rattle.points.specs.declared.scale.Scale.{Scale}
 use Rattle.points.specs.Point.{inRange}
 use Rattle.points.specs.Word.{NONE}
 use Rattle.words.specs.Range.{curveIn}
@@ -65,9 +66,9 @@ pub record Quiet (track : Track) : Type 0 where
   pub missed : track .missed ≡ NONE
 
 -- while nothing is set down for a nearest call, the entries held at its submission are those held now; then the answer is that of their records
-abbrev pub Set : Point → List Entry → Option Tree → Option Answer → Type 0
-Set target entries tree none = (e : Entry) → List·Memᴰ e entries ↔ Holds tree e
-Set target entries tree (some a) = a ≡ nearestAnswer target (nearestOf target (map recordOf entries))
+abbrev pub Set : Scale → Point → List Entry → Option Tree → Option Answer → Type 0
+Set scale target entries tree none = (e : Entry) → List·Memᴰ e entries ↔ Holds tree e
+Set scale target entries tree (some a) = a ≡ nearestAnswer scale target (nearestOf scale target (map recordOf entries))
 
 -- an unfinished nearest call; `entries` were held at its submission
 pub record Searching (t : Table) (tree : Option Tree) (queue : List Free) (seat : Seat) (i : ℕ) (target : Point) (set : Option Answer) : Type 0 where
@@ -76,8 +77,8 @@ pub record Searching (t : Table) (tree : Option Tree) (queue : List Free) (seat 
   pub entries : List Entry
   pub once : Once (map recordOf entries)
   pub ranged : (e : Entry) → List·Memᴰ e entries → (inRange (e .point) ≡ true) × (curveIn (e .curve) ≡ true)
-  pub search : Search (choiceOf target) (seat .call .asof) (seat .track .since) (λ e. List·Memᴰ e entries) tree queue (allChanges t) (length (t .removals)) (progressOf seat)
-  pub answer : Set target entries tree set
+  pub search : Search (choiceOf (t .scale) target) (seat .call .asof) (seat .track .since) (λ e. List·Memᴰ e entries) tree queue (allChanges t) (length (t .removals)) (progressOf seat)
+  pub answer : Set (t .scale) target entries tree set
 
 -- an unfinished add, remove or contains
 pub record Walks (tree : Option Tree) (seat : Seat) (p : Point) (set : Option Answer) : Type 0 where
@@ -141,7 +142,7 @@ pub record Counted (t : Table) (tree : Option Tree) (queue : List Free) (counts 
   pub removals : counts .removals ≡ length (t .removals)
 
 pub record Related (words : List ℕ) (t : Table) : Type 0 where
-  pub opened : openedIn words ≡ Opened (t .places) (t .limit)
+  pub opened : openedIn words ≡ Opened (t .places) (t .limit) (t .scale)
   pub heap : Heap
   pub tree : Option Tree
   pub queue : List Free

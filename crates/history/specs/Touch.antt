@@ -19,7 +19,7 @@ use Rattle.calls.specs.declared.progress.Progress.{Progress}
 use Rattle.calls.specs.declared.walk.Way.{Way}
 use Rattle.stations.specs.Common.{rowsIn}
 use Rattle.calls.specs.Link.{nextOf, parentOf, isCut}
-use Rattle.calls.specs.Search.{progressAt}
+use Rattle.calls.specs.Search.{aimAt, progressAt}
 use Rattle.calls.specs.Tour.{toured}
 use Rattle.calls.specs.Look.{look}
 use Rattle.calls.specs.Insert.{siteAt}
@@ -87,11 +87,12 @@ newRow words rows p = cond (eqb (p .phase) 0) (p .cursor) (parentOf (rowAt words
 abbrev pub searchRows : List ℕ → ℕ → ℕ → Call → List ℕ
 searchRows words rows s call =
     let begun = progressAt words s call in
-    let looked = look words rows call begun in
-    let one = newRow words rows (toured words rows (slotOf (call .point)) call 1 looked) in
-    let two = newRow words rows (toured words rows (slotOf (call .point)) call 2 looked) in
-    let three = newRow words rows (toured words rows (slotOf (call .point)) call 3 looked) in
-    let four = newRow words rows (toured words rows (slotOf (call .point)) call 4 looked) in
+    let aim = aimAt words call in
+    let looked = look words rows aim begun in
+    let one = newRow words rows (toured words rows (slotOf (aim .point)) aim 1 looked) in
+    let two = newRow words rows (toured words rows (slotOf (aim .point)) aim 2 looked) in
+    let three = newRow words rows (toured words rows (slotOf (aim .point)) aim 3 looked) in
+    let four = newRow words rows (toured words rows (slotOf (aim .point)) aim 4 looked) in
     pickRows (eqb (begun .missed) NONE) (tourRows words rows looked (one ∷ (two ∷ (three ∷ (four ∷ [])))))
     (lookRows words rows begun (tourRows words rows looked (one ∷ (two ∷ []))))
 

@@ -4,13 +4,16 @@ use mathlib.Core.Path.{_≡_, refl, sym, _∙_, ap, fun-ext}
 use mathlib.Core.Logic.{_⊎_, inl, inr}
 use mathlib.Core.Bool.{Bool, true, false, _&&_, false≢true}
 use mathlib.Core.Option.{Option, none, some}
+use mathlib.Core.List.{List}
 use Prim.Native.Nat.{ℕ}
 use native.Mathlib.Omega.{arith}
 use native.Mathlib.Decide.{decLt}
 use lib.Dec.{eqb, ltb}
 use borrow.Author.Tests.{ltb-true}
 use Rattle.points.specs.declared.point.Point.{Point}
-use Rattle.table.specs.Call.{Call, add, remove, contains, nearest, isSearch, Answer, withdrawnAnswer}
+use Rattle.points.specs.declared.scale.Scale.{Scale}
+use Rattle.table.specs.Record.{Record, nearestOf}
+use Rattle.table.specs.Call.{Call, add, remove, contains, nearest, isSearch, Answer, nearestAnswer, withdrawnAnswer}
 use Rattle.table.specs.Table.{Station, idle, unfinished, waiting, Table, eight, opened, put, withStations, searching, taken, answerOf, changedIf}
 use Rattle.table.specs.Event.{singleStep, Reply, ask, refuse, accept, submit, setDown, takeAt, take}
 use Rattle.table.specs.History.{Index, answered, Agree, Linear}
@@ -118,22 +121,23 @@ agrees t k = record {
 }
 
 -- a search's moment leaves what is worked out
-search-answer : (t u : Table) (s : ℕ) (c : Call) → isSearch c ≡ true → t .held ≡ u .held → answerOf t s c ≡ answerOf u s c
+search-answer : (t u : Table) (s : ℕ) (c : Call) → isSearch c ≡ true → t .scale ≡ u .scale → t .held ≡ u .held → answerOf t s c ≡ answerOf u s c
 unfolding answerOf isSearch
-search-answer t u s (add p v) g e = absurd (false≢true g)
-search-answer t u s (remove p) g e = absurd (false≢true g)
-search-answer t u s (contains p) g e = absurd (false≢true g)
-search-answer t u s (nearest p) g e = rw e
+search-answer t u s (add p v) g d e = absurd (false≢true g)
+search-answer t u s (remove p) g d e = absurd (false≢true g)
+search-answer t u s (contains p) g d e = absurd (false≢true g)
+search-answer t u s (nearest p) g d e =
+    ap (λ (x : Scale). nearestAnswer x p (nearestOf x p (t .held))) d ∙ ap (λ (l : List Record). nearestAnswer (u .scale) p (nearestOf (u .scale) p l)) e
 
-worked-same : (t u : Table) (s : ℕ) (x : Station) → t .held ≡ u .held → workedAt t s x ≡ workedAt u s x
+worked-same : (t u : Table) (s : ℕ) (x : Station) → t .scale ≡ u .scale → t .held ≡ u .held → workedAt t s x ≡ workedAt u s x
 unfolding workedAt
-worked-same t u s idle e = refl
-worked-same t u s (waiting a) e = refl
-worked-same t u s (unfinished i c (some a)) e = refl
-worked-same t u s (unfinished i c none) e = go (isSearch c) refl
+worked-same t u s idle d e = refl
+worked-same t u s (waiting a) d e = refl
+worked-same t u s (unfinished i c (some a)) d e = refl
+worked-same t u s (unfinished i c none) d e = go (isSearch c) refl
   where
     go : (b : Bool) → isSearch c ≡ b → workedAt t s (unfinished i c none) ≡ workedAt u s (unfinished i c none)
-    go true q = rw (q, workedAt) (ap (λ (a : Answer). unfinished i c (some a)) (search-answer t u s c q e))
+    go true q = rw (q, workedAt) (ap (λ (a : Answer). unfinished i c (some a)) (search-answer t u s c q d e))
     go false q = rw (q, workedAt)
 
 settles-put : (t : Table) (s i : ℕ) (c : Call) → isSearch c ≡ true → t .stations s ≡ unfinished i c none
@@ -150,7 +154,7 @@ settles-put t s i c g e = ap (λ (f : ℕ → Station). withStations t f) (fun-e
     go : (u : ℕ) → ((u ≡ s) × (put (t .stations) s x u ≡ x)) ⊎ ((¬ (u ≡ s)) × (put (t .stations) s x u ≡ t .stations u))
         → workedAt t u (t .stations u) ≡ workedAt v u (put (t .stations) s x u)
     go u (inl y) = rw (y .1, y .0, e, workedAt, g)
-    go u (inr y) = rw (y .1) (worked-same t v u (t .stations u) refl)
+    go u (inr y) = rw (y .1) (worked-same t v u (t .stations u) refl refl)
 
 settles : (t : Table) (s i : ℕ) (c : Call) → isSearch c ≡ true → t .stations s ≡ unfinished i c none → worked t ≡ worked (setDown t s i c (answerOf t s c))
 unfolding setDown changedIf
@@ -233,18 +237,18 @@ module _ (t : Table) (d : (u : ℕ) → unsettled (t .stations u) ≡ false) whe
         matches = rw (step-finished s (w .1 .0) (w .1 .1) (w .1 .2) (w .0) (w .1 .3)) (finished-match s (w .1 .1) (w .1 .2));
       }
 
-worked-opened : (places limit : ℕ) → opened places limit ≡ worked (opened places limit)
+worked-opened : (places limit : ℕ) (scale : Scale) → opened places limit scale ≡ worked (opened places limit scale)
 unfolding opened worked workedAt
-worked-opened places limit = refl
+worked-opened places limit scale = refl
 
 -- a state related to a settled table is that table
 is-table : (st t : Table) → Sound t → Settled t → R st t → st ≡ t
 is-table st t k d h = h ∙ sym (settled-worked t (settled-all t k d))
 
-atomic-simulation : (places limit : ℕ) → Simulation atomic R (opened places limit) places limit
+atomic-simulation : (places limit : ℕ) (scale : Scale) → Simulation atomic R (opened places limit scale) places limit scale
 unfolding submitAtomic
-atomic-simulation places limit = record {
-  begins = worked-opened places limit;
+atomic-simulation places limit scale = record {
+  begins = worked-opened places limit scale;
   agrees = λ {st} {t} k h. rw h (agrees t k);
   settles = λ {st} {t} {s} {i} {c} k l g e h. h ∙ settles t s i c g e;
   submits = λ {st} {t} s kind p c k d h. rw (is-table st t k d h) (record { number = refl; given = refl; next = refl });
@@ -255,5 +259,5 @@ atomic-simulation places limit = record {
 }
 
 -- An index that works every search out on submission, and answers each call at its first step, meets demand 3.
-pub atomic-linear : (places limit : ℕ) → Linear atomic (opened places limit) places limit
-atomic-linear places limit = simulation-linear atomic R (opened places limit) places limit (atomic-simulation places limit)
+pub atomic-linear : (places limit : ℕ) (scale : Scale) → Linear atomic (opened places limit scale) places limit scale
+atomic-linear places limit scale = simulation-linear atomic R (opened places limit scale) places limit scale (atomic-simulation places limit scale)

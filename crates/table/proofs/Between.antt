@@ -18,7 +18,8 @@ use Rattle.table.specs.Event.{Event, submission, singleStep, taking, wit
 use Rattle.table.specs.Event.{submit, setDown, ownStep, mayFall, moment, stepAt, step, takeAt, take, ownWithdrawal, perform, moments}
 use Rattle.table.proofs.Stations.{put-other}
 use Rattle.table.proofs.Moments.{Moment, moment-is, moments-keep, moment-own, moment-other}
-use Rattle.table.proofs.Reached.{ask-all, withdraw-all}
+use Rattle.table.proofs.Reached.{ask-all, withdraw-all, perform-keeps}
+use Rattle.table.proofs.Scale.{moment-scale}
 
 -- the answer set down at a station
 unfoldable setAt : Station → Option Answer
@@ -68,10 +69,12 @@ done-held ev ms t u s i c a o e q = moments-keep ev P keep ms t u q (refl, e) .0
       | inr d ↦ absurd (Option·none-ne-some a (ap setAt (sym (m .pending) ∙ ap (x .stations) (own-one ev v s d o) ∙ h .1)))
     ]
 
--- the call c of station s has got its answer at the moments from t to u, and the answer is the table's for the records held before or after
+-- the call c of station s has got its answer at the moments from t to u, and the answer is the table's for the records held before or after, by the
+-- same factors
 pub record SetBetween (t u : Table) (s i : ℕ) (c : Call) : Type 0 where
   pub at-moment : Table
   pub is : u .stations s ≡ unfinished i c (some (answerOf at-moment s c))
+  pub scale : at-moment .scale ≡ t .scale
   pub held : (at-moment .held ≡ t .held) ⊎ (at-moment .held ≡ u .held)
 
 -- An answer set down at an event is the table's for the records held before the event or after it.
@@ -88,12 +91,13 @@ between ev (v ∷ ms) t u s i c e q = go (λ x. between ev ms x u s i c) (moment
         let cd : m .call ≡ c = cc in
         let k : x .stations v ≡ unfinished (m .identity) (m .call) (some (answerOf t v (m .call))) = moment-own ev t x v m in
         let l : x .stations s ≡ unfinished i c (some (answerOf t s c)) = ap (x .stations) (sym d) ∙ k ∙ (λ j. unfinished (ci j) (cd j) (some (answerOf t (d j) (cd j)))) in
-        record { at-moment = t; is = sets-stay ev ms x u s i c (answerOf t s c) r l; held = inl refl }
+        record { at-moment = t; is = sets-stay ev ms x u s i c (answerOf t s c) r l; scale = refl; held = inl refl }
 
     later : (x : Table) → Moment ev t v x → moments ev x ms ≡ some u → SetBetween x u s i c → SetBetween t u s i c
     later x m r w = record {
       at-moment = w .at-moment;
       is = w .is;
+      scale = w .scale ∙ moment-scale ev t x v m;
       held = elim (w .held) [
         | inr h ↦ inr h
         | inl h ↦ elim (change-own ev t x v m) [
@@ -119,31 +123,8 @@ between ev (v ∷ ms) t u s i c e q = go (λ x. between ev ms x u s i c) (moment
 
 -- no event changes the held records: only moments do
 pub perform-held : (t : Table) (ev : Event) (answers : Bool) (r : Reply Table) → perform t ev answers ≡ some r → r .next .held ≡ t .held
-unfolding perform submit enter step stepAt take takeAt
-perform-held t (submission s kind p c) answers r e = ap (λ (x : Reply Table). x .next .held) (sym (Option·some-injective _ _ e)) ∙
-    ask-all P (ltb s 8) 5 t _ refl (λ l. ask-all P (isIdle (t .stations s)) 6 t _ refl (λ l. ask-all P (kindInRange kind) 7 t _ refl (λ l. ask-all P (inRange p) 8 t _ refl
-    (λ l. ask-all P (curveFits kind c) 9 t _ refl (λ l. refl)))))
-  where
-    P : Reply Table → Type 0
-    P q = q .next .held ≡ t .held
-perform-held t (taking s) answers r e =
-    ap (λ (x : Reply Table). x .next .held) (sym (Option·some-injective _ _ e))
-    ∙ ask-all (λ q. q .next .held ≡ t .held) (ltb s 8) 5 t _ refl (λ l. go (t .stations s))
-  where
-    go : (x : Station) → takeAt t s x .next .held ≡ t .held
-    go idle = refl
-    go (unfinished i c o) = refl
-    go (waiting a) = refl
-perform-held t (withdrawal s) answers r e = withdraw-all (λ q. q .next .held ≡ t .held) t s r refl refl (λ l i c o b q. refl) e
-perform-held t (singleStep s) answers r e = go (ltb s 8) answers (t .stations s) e
-  where
-    go : (b answers : Bool) (x : Station) → stepAt t s b answers x ≡ some r → r .next .held ≡ t .held
-    go false answers x q = ap (λ (x : Reply Table). x .next .held) (sym (Option·some-injective _ _ q))
-    go true answers idle q = ap (λ (x : Reply Table). x .next .held) (sym (Option·some-injective _ _ q))
-    go true answers (waiting a) q = ap (λ (x : Reply Table). x .next .held) (sym (Option·some-injective _ _ q))
-    go true false (unfinished i c o) q = ap (λ (x : Reply Table). x .next .held) (sym (Option·some-injective _ _ q))
-    go true true (unfinished i c none) q = absurd (Option·none-ne-some r q)
-    go true true (unfinished i c (some a)) q = ap (λ (x : Reply Table). x .next .held) (sym (Option·some-injective _ _ q))
+unfolding enter
+perform-held t = perform-keeps (λ x. x .held) t (λ f. refl) (λ s c. refl)
 
 -- an unfinished call stays as it is but by a step of its own that answers
 module _ (t : Table) (s i : ℕ) (c : Call) (o : Option Answer) (e : t .stations s ≡ unfinished i c o) where

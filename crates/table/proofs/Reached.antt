@@ -11,6 +11,7 @@ use lib.ListN.{length}
 use lib.Dec.{ltb}
 use borrow.Author.Tests.{ltb-true}
 use Rattle.points.specs.declared.point.Point.{Point}
+use Rattle.points.specs.declared.scale.Scale.{Scale}
 use Rattle.points.specs.Point.{inRange}
 use Rattle.table.specs.Call.{Call, callOf, kindInRange, Answer, withdrawnAnswer}
 use Rattle.table.specs.Table.{Station, idle, unfinished, waiting, Table, eight, opened, put, withStations, searching, searches, holding, taken}
@@ -161,6 +162,40 @@ withdraw-all P t s r five ten waits = go (ltb s 8) refl (t .stations s) refl
         is (accept (withStations t (put (t .stations) s (waiting (withdrawnAnswer c))))) (waits (ltb-true s 8 l) i c none (withdrawnAnswer c) q) e
     go true l (unfinished i c (some a)) q e = rw (reply-if e .1) at (waits (ltb-true s 8 l) i c (some a) a q)
 
+-- what neither other stations nor a submission change, no event changes: the rest is done by moments
+pub perform-keeps : {A : Type 0} (f : Table → A) (t : Table) → ((g : ℕ → Station) → f (withStations t g) ≡ f t) → ((s : ℕ) (c : Call) → f (enter t s c) ≡ f t)
+    → (ev : Event) (answers : Bool) (r : Reply Table) → perform t ev answers ≡ some r → f (r .next) ≡ f t
+unfolding perform submit step stepAt take takeAt
+perform-keeps f t put-stays enter-stays (submission s kind p c) answers r e =
+    ap (λ (x : Reply Table). f (x .next)) (sym (Option·some-injective _ _ e)) ∙
+    ask-all P (ltb s 8) 5 t _ refl (λ l. ask-all P (isIdle (t .stations s)) 6 t _ refl (λ l. ask-all P (kindInRange kind) 7 t _ refl (λ l. ask-all P (inRange p) 8 t _ refl
+    (λ l. ask-all P (curveFits kind c) 9 t _ refl (λ l. enter-stays s (callOf kind p c))))))
+  where
+    P : Reply Table → Type 0
+    P q = f (q .next) ≡ f t
+perform-keeps f t put-stays enter-stays (taking s) answers r e =
+    ap (λ (x : Reply Table). f (x .next)) (sym (Option·some-injective _ _ e))
+    ∙ ask-all (λ q. f (q .next) ≡ f t) (ltb s 8) 5 t _ refl (λ l. go (t .stations s))
+  where
+    go : (x : Station) → f (takeAt t s x .next) ≡ f t
+    go idle = refl
+    go (unfinished i c o) = refl
+    go (waiting a) = put-stays (put (t .stations) s idle)
+perform-keeps f t put-stays enter-stays (withdrawal s) answers r e =
+    withdraw-all (λ q. f (q .next) ≡ f t) t s r refl refl (λ l i c o b q. put-stays (put (t .stations) s (waiting b))) e
+perform-keeps f t put-stays enter-stays (singleStep s) answers r e = go (ltb s 8) answers (t .stations s) e
+  where
+    is : (q : Reply Table) → f (q .next) ≡ f t → _≡_ {A = Option (Reply Table)} (some q) (some r) → f (r .next) ≡ f t
+    is q g d = ap (λ (x : Reply Table). f (x .next)) (sym (Option·some-injective _ _ d)) ∙ g
+
+    go : (b answers : Bool) (x : Station) → stepAt t s b answers x ≡ some r → f (r .next) ≡ f t
+    go false answers x q = is (refuse 5 t) refl q
+    go true answers idle q = is (refuse 10 t) refl q
+    go true answers (waiting a) q = is (refuse 10 t) refl q
+    go true false (unfinished i c o) q = is (accept t) refl q
+    go true true (unfinished i c none) q = absurd (Option·none-ne-some r q)
+    go true true (unfinished i c (some a)) q = is (accept (withStations t (put (t .stations) s (waiting a)))) (put-stays (put (t .stations) s (waiting a))) q
+
 pub sound-withdraw : (t : Table) (s : ℕ) (r : Reply Table) → Sound t → withdraw t s ≡ some r → Sound (r .next)
 sound-withdraw t s r h = withdraw-all (λ q. Sound (q .next)) t s r h h (λ l i c o b e. sound-wait t s b l h)
 
@@ -189,12 +224,12 @@ sound-feed t ms ev answers r h e =
 -- ## Reached tables
 
 -- the table after some events from an opening, whatever the moments and answers, as far as it is defined
-pub data Reached (places limit : ℕ) : Table → Type 0 where
-  first : Reached places limit (opened places limit)
-  later : {t u : Table} → Reached places limit t → (ms : List ℕ) (ev : Event) (answers : Bool) (r : Reply Table) → feed t ms ev answers ≡ some r → r .next ≡ u
-      → Reached places limit u
+pub data Reached (places limit : ℕ) (scale : Scale) : Table → Type 0 where
+  first : Reached places limit scale (opened places limit scale)
+  later : {t u : Table} → Reached places limit scale t → (ms : List ℕ) (ev : Event) (answers : Bool) (r : Reply Table) → feed t ms ev answers ≡ some r → r .next ≡ u
+      → Reached places limit scale u
 
 -- Every table that a history reaches is sound.
-pub reached-sound : {places limit : ℕ} {t : Table} → Reached places limit t → Sound t
-reached-sound {places} {limit} first = sound-opened places limit
+pub reached-sound : {places limit : ℕ} {scale : Scale} {t : Table} → Reached places limit scale t → Sound t
+reached-sound {places} {limit} {scale} first = sound-opened places limit scale
 reached-sound (later {t = t} h ms ev answers r e q) = rw q at (sound-feed t ms ev answers r (reached-sound h) e)

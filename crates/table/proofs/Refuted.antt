@@ -8,6 +8,8 @@ use mathlib.Core.List.{List, [], _∷_}
 use Prim.Native.Nat.{ℕ}
 use lib.Dec.{eqb}
 use Rattle.points.specs.declared.point.Point.{Point}
+use Rattle.points.specs.declared.scale.Scale.{Scale}
+use Rattle.points.specs.Scale.{plainScale}
 use Rattle.table.specs.Record.{Record, curveAt}
 use Rattle.table.specs.Call.{add, remove, contains, nearest, Answer, answer, nearestAnswer, withdrawnAnswer}
 use Rattle.table.specs.Table.{Station, idle, unfinished, waiting, Table, opened, put, withStations, taken}
@@ -20,10 +22,10 @@ use Rattle.table.proofs.Placements.{everyPlay, tell, lastOf, linear-pla
 use Rattle.table.proofs.Cases.{runEvery, m, p, target, notM}
 
 -- an index whose last reply no placement of the moments gives does not meet demand 3
-not-linear : (I : Index) (start : I .State) (places limit : ℕ) (P : Said → Bool) (evs : List Event) (x : Said)
-    → everyPlay P (opened places limit) (tell I start evs) ≡ true
-    → lastOf I start evs ≡ some x → P x ≡ false → ¬ Linear I start places limit
-not-linear I start places limit P evs x h e n l = false≢true (sym n ∙ linear-play I start places limit P evs x l h e)
+not-linear : (I : Index) (start : I .State) (places limit : ℕ) (scale : Scale) (P : Said → Bool) (evs : List Event) (x : Said)
+    → everyPlay P (opened places limit scale) (tell I start evs) ≡ true
+    → lastOf I start evs ≡ some x → P x ≡ false → ¬ Linear I start places limit scale
+not-linear I start places limit scale P evs x h e n l = false≢true (sym n ∙ linear-play I start places limit scale P evs x l h e)
 
 abbrev pub replyWith : {S : Type 0} → ℕ → Option Answer → S → Reply S
 replyWith n a st = record { number = n; given = a; next = st }
@@ -45,9 +47,9 @@ deaf = record {
 unfoldable pub notSix : Said → Bool
 notSix x = not (eqb (x .0) 6)
 
-pub deaf-not-linear : ¬ Linear deaf tt 1 1
+pub deaf-not-linear : ¬ Linear deaf tt 1 1 plainScale
 unfolding runEvery tell lastOf reply answered notSix
-deaf-not-linear = not-linear deaf tt 1 1 notSix (submission 0 1 p 41 ∷ []) (6, none) refl refl refl
+deaf-not-linear = not-linear deaf tt 1 1 plainScale notSix (submission 0 1 p 41 ∷ []) (6, none) refl refl refl
 
 -- ## It answers always 6
 
@@ -84,9 +86,9 @@ otherThan code (n, none) = false
 otherThan code (n, some a) = not (eqb (a .code) code)
 
 -- an add alone
-pub always-six-not-linear : ¬ Linear alwaysSix resting 1 1
+pub always-six-not-linear : ¬ Linear alwaysSix resting 1 1 plainScale
 unfolding runEvery tell lastOf reply answered otherThan stepSix takeSix
-always-six-not-linear = not-linear alwaysSix resting 1 1 (otherThan 6) (submission 0 1 p 41 ∷ singleStep 0 ∷ taking 0 ∷ []) (0, some (answer 6 p 0 0)) refl refl refl
+always-six-not-linear = not-linear alwaysSix resting 1 1 plainScale (otherThan 6) (submission 0 1 p 41 ∷ singleStep 0 ∷ taking 0 ∷ []) (0, some (answer 6 p 0 0)) refl refl refl
 
 -- ## Its search comes back with a removed record
 
@@ -98,7 +100,7 @@ pub record Cache : Type 0 where
 -- a search of the cache looks at the lost record alone
 unfoldable pub searched : Point → Option Record → Option Answer
 searched q none = none
-searched q (some r) = some (nearestAnswer q (some r))
+searched q (some r) = some (nearestAnswer plainScale q (some r))
 
 unfoldable pub lose : Point → Option ℕ → Option Record
 lose q none = none
@@ -136,9 +138,9 @@ removedMeanwhile =
     submission 0 1 m 41 ∷ singleStep 0 ∷ taking 0 ∷ submission 0 1 p 42 ∷ singleStep 0 ∷ taking 0
     ∷ submission 1 4 target 0 ∷ submission 0 2 m 0 ∷ singleStep 0 ∷ singleStep 1 ∷ taking 1 ∷ []
 
-pub cache-not-linear : ¬ Linear cache (record { table = opened 2 10; lost = none }) 2 10
+pub cache-not-linear : ¬ Linear cache (record { table = opened 2 10 plainScale; lost = none }) 2 10 plainScale
 unfolding runEvery tell lastOf reply answered notM stepCache searched lose finished
-cache-not-linear = not-linear cache (record { table = opened 2 10; lost = none }) 2 10 notM removedMeanwhile (0, some (answer 8 m 41 10_000)) refl refl refl
+cache-not-linear = not-linear cache (record { table = opened 2 10 plainScale; lost = none }) 2 10 plainScale notM removedMeanwhile (0, some (answer 8 m 41 10_000)) refl refl refl
 
 -- ## It answers a withdrawn search after all
 
@@ -163,9 +165,9 @@ hasty = record {
 abbrev pub withdrawnThen : List Event
 withdrawnThen = submission 0 1 m 41 ∷ singleStep 0 ∷ submission 1 4 target 0 ∷ withdrawal 1 ∷ taking 1 ∷ []
 
-pub hasty-not-linear : ¬ Linear hasty (opened 2 10) 2 10
+pub hasty-not-linear : ¬ Linear hasty (opened 2 10 plainScale) 2 10 plainScale
 unfolding runEvery tell lastOf reply answered otherThan hurry finished
-hasty-not-linear = not-linear hasty (opened 2 10) 2 10 (otherThan 8) withdrawnThen (0, some (answer 8 m 41 10_000)) refl refl refl
+hasty-not-linear = not-linear hasty (opened 2 10 plainScale) 2 10 plainScale (otherThan 8) withdrawnThen (0, some (answer 8 m 41 10_000)) refl refl refl
 
 -- ## Its withdrawn search keeps its places
 
@@ -192,6 +194,6 @@ placeKept =
     submission 0 1 m 41 ∷ singleStep 0 ∷ taking 0 ∷ submission 1 4 target 0 ∷ submission 0 2 m 0 ∷ singleStep 0 ∷ taking 0
     ∷ withdrawal 1 ∷ submission 0 1 p 42 ∷ singleStep 0 ∷ taking 0 ∷ []
 
-pub clinging-not-linear : ¬ Linear clinging (opened 1 10) 1 10
+pub clinging-not-linear : ¬ Linear clinging (opened 1 10 plainScale) 1 10 plainScale
 unfolding runEvery tell lastOf reply answered otherThan hurry cling finished
-clinging-not-linear = not-linear clinging (opened 1 10) 1 10 (otherThan 3) placeKept (0, some (answer 3 p 0 0)) refl refl refl
+clinging-not-linear = not-linear clinging (opened 1 10 plainScale) 1 10 plainScale (otherThan 3) placeKept (0, some (answer 3 p 0 0)) refl refl refl

@@ -4,6 +4,7 @@ use mathlib.Core.Bool.{Bool, true, false, _&&_, false≢true}
 use mathlib.Core.Option.{Option, Option·map, Option·some-injective}
 use Prim.Native.Nat.{ℕ}
 use lib.Dec.{eqb, ltb}
+use Rattle.points.specs.declared.scale.Scale.{Scale}
 use Rattle.table.specs.Call.{Call, Answer}
 use Rattle.table.specs.Table.{Station, idle, unfinished, waiting, Table, opened, taken}
 use Rattle.table.specs.Event.{singleStep, Reply, ask, submit, takeAt, take}
@@ -62,8 +63,8 @@ never t s = go (ltb s 8) refl (t .stations s) refl
     go true l (waiting a) q e = false≢true e
     go true l (unfinished i c o) q e = false≢true (rw (take-unfinished t s i c o l q) at e)
 
-silent-simulation : (places limit : ℕ) → Simulation silent Alike (opened places limit) places limit
-silent-simulation places limit = record {
+silent-simulation : (places limit : ℕ) (scale : Scale) → Simulation silent Alike (opened places limit scale) places limit scale
+silent-simulation places limit scale = record {
   begins = refl;
   agrees = λ {st} {t} k h. agrees st t k h;
   settles = λ {st} {t} {s} {i} {c} k l g e h. h ∙ sym (moment-dropped nobody t s i c refl g e);
@@ -75,5 +76,5 @@ silent-simulation places limit = record {
 }
 
 -- An index that never answers meets demand 3.
-pub silent-linear : (places limit : ℕ) → Linear silent (opened places limit) places limit
-silent-linear places limit = simulation-linear silent Alike (opened places limit) places limit (silent-simulation places limit)
+pub silent-linear : (places limit : ℕ) (scale : Scale) → Linear silent (opened places limit scale) places limit scale
+silent-linear places limit scale = simulation-linear silent Alike (opened places limit scale) places limit scale (silent-simulation places limit scale)

@@ -10,6 +10,7 @@ use Prim.Native.Nat.{ℕ, _<_}
 use lib.Dec.{eqb, ltb}
 use borrow.Author.Tests.{eqb-true, eq-eqb, lt-ltb}
 use Rattle.points.specs.declared.point.Point.{Point}
+use Rattle.points.specs.declared.scale.Scale.{Scale}
 use Rattle.table.specs.Record.{Same}
 use Rattle.table.specs.Call.{Call, isSearch, Answer, isChange}
 use Rattle.table.specs.Table.{Station, idle, unfinished, waiting, Table, busy, eight, opened, put, withStations, answerOf, changedIf}
@@ -61,8 +62,8 @@ module _ (I : Index) (R : I .State → Table → Type 0) where
     pub matches : Matches (I .step st s) (accept (finished t s call set))
 
   -- what is to be shown of R; every table met is sound, and settled where an event comes
-  pub record Simulation (start : State) (places limit : ℕ) : Type 0 where
-    pub begins : R start (opened places limit)
+  pub record Simulation (start : State) (places limit : ℕ) (scale : Scale) : Type 0 where
+    pub begins : R start (opened places limit scale)
     pub agrees : {st : State} {t : Table} → Sound t → R st t → Agree I st t
     -- the moment of an unfinished nearest call, first thing at the event after its submission
     pub settles : {st : State} {t : Table} {s i : ℕ} {c : Call} → Sound t → s < 8 → isSearch c ≡ true → t .stations s ≡ unfinished i c none → R st t
@@ -141,7 +142,7 @@ sound-fed t ev answers r h e =
 
 -- ## From a simulation to demand 3
 
-module _ (I : Index) (R : I .State → Table → Type 0) (start : I .State) (places limit : ℕ) (sim : Simulation I R start places limit) where
+module _ (I : Index) (R : I .State → Table → Type 0) (start : I .State) (places limit : ℕ) (scale : Scale) (sim : Simulation I R start places limit scale) where
   open Index I using (State)
 
   -- an event with its own moment on a settled table
@@ -262,11 +263,11 @@ module _ (I : Index) (R : I .State → Table → Type 0) (start : I .State) (pla
       }
 
   -- Demand 3 from a simulation, with the table at the end of the history.
-  pub simulation-leads : (evs : List Event) → Leads (λ s. ⊥) start (opened places limit) evs
+  pub simulation-leads : (evs : List Event) → Leads (λ s. ⊥) start (opened places limit scale) evs
   simulation-leads evs =
-      subst (λ (t : Table). Leads (λ s. ⊥) start t evs) (trim-opened (answeredIn (rest start evs)) places limit)
-      (leads (λ s. ⊥) start (opened places limit) (sound-opened places limit) (sim .begins) (λ u b d. d) evs)
+      subst (λ (t : Table). Leads (λ s. ⊥) start t evs) (trim-opened (answeredIn (rest start evs)) places limit scale)
+      (leads (λ s. ⊥) start (opened places limit scale) (sound-opened places limit scale) (sim .begins) (λ u b d. d) evs)
 
   -- Demand 3 from a simulation.
-  pub simulation-linear : Linear I start places limit
+  pub simulation-linear : Linear I start places limit scale
   simulation-linear evs = let w = simulation-leads evs in (w .moments, w .follows)

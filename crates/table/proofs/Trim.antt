@@ -9,6 +9,7 @@ use Prim.Native.Nat.{ℕ, suc}
 use native.Mathlib.Omega.{arith}
 use lib.Dec.{eqb, ltb}
 use Rattle.points.specs.declared.point.Point.{Point}
+use Rattle.points.specs.declared.scale.Scale.{Scale}
 use Rattle.points.specs.Point.{inRange}
 use Rattle.table.specs.Record.{Record, nearestOf}
 use Rattle.table.specs.Call.{Call, add, remove, contains, nearest, callOf, kindInRange, isSearch, Answer, nearestAnswer, isChange}
@@ -61,9 +62,9 @@ unfolding keepIf forget
 keep-idle true = refl
 keep-idle false = refl
 
-pub trim-opened : (seen : ℕ → Bool) (places limit : ℕ) → trim seen (opened places limit) ≡ opened places limit
+pub trim-opened : (seen : ℕ → Bool) (places limit : ℕ) (scale : Scale) → trim seen (opened places limit scale) ≡ opened places limit scale
 unfolding trim kept opened
-trim-opened seen places limit = ap (λ (f : ℕ → Station). withStations (opened places limit) f) (fun-ext (λ u. keep-idle (seen u)))
+trim-opened seen places limit scale = ap (λ (f : ℕ → Station). withStations (opened places limit scale) f) (fun-ext (λ u. keep-idle (seen u)))
 
 pub trim-cong : (seen other : ℕ → Bool) (t : Table) → ((u : ℕ) → seen u ≡ other u) → trim seen t ≡ trim other t
 trim-cong seen other t e = ap (λ (k : ℕ → Bool). trim k t) (fun-ext e)
@@ -145,10 +146,10 @@ set-trim seen t s i c a l =
     ap (λ (u : Table). withStations u (put (kept seen (t .stations)) s x)) (effect-trim (isChange a) seen t s c)
     ∙ ap (λ (g : ℕ → Station). withStations (changedIf (isChange a) t s c) g) (sym (put-kept seen (t .stations) s x (rw (l, keepIf))))
 
-nearest-code : (p : Point) (o : Option Record) → isChange (nearestAnswer p o) ≡ false
+nearest-code : (scale : Scale) (p : Point) (o : Option Record) → isChange (nearestAnswer scale p o) ≡ false
 unfolding isChange nearestAnswer
-nearest-code p none = refl
-nearest-code p (some r) = refl
+nearest-code scale p none = refl
+nearest-code scale p (some r) = refl
 
 -- a search changes nothing
 pub search-quiet : (t : Table) (s : ℕ) (c : Call) → isSearch c ≡ true → isChange (answerOf t s c) ≡ false
@@ -156,7 +157,7 @@ unfolding answerOf isSearch
 search-quiet t s (add p v) e = absurd (false≢true e)
 search-quiet t s (remove p) e = absurd (false≢true e)
 search-quiet t s (contains p) e = absurd (false≢true e)
-search-quiet t s (nearest p) e = nearest-code p (nearestOf p (t .held))
+search-quiet t s (nearest p) e = nearest-code (t .scale) p (nearestOf (t .scale) p (t .held))
 
 only-map : (f : Table → Table) (b : Bool) (t u : Table) → u ≡ f t → onlyIf b u ≡ Option·map f (onlyIf b t)
 unfolding onlyIf

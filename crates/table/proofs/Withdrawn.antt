@@ -10,6 +10,7 @@ use native.Mathlib.Omega.{arith}
 use lib.Dec.{ltb}
 use borrow.Author.Tests.{lt-ltb, ltb-true}
 use Rattle.points.specs.declared.point.Point.{Point}
+use Rattle.points.specs.declared.scale.Scale.{Scale}
 use Rattle.table.specs.Call.{Call, callOf, Answer, isChange, withdrawnAnswer}
 use Rattle.table.specs.Table.{unfinished, waiting, Table, opened, put, withStations, answerOf}
 use Rattle.table.specs.Event.{Event, submission, withdrawal, Reply, accept, enter, submit, moments, takeAt, take, withdrawAt, withdraw, perform}
@@ -84,20 +85,21 @@ module _ (I : Index) where
 
   -- Of an index that meets demand 3: let a call be accepted at station s after some events, and let s withdraw it after some more, of which no step of s answers it and none
   -- withdraws it. Then the withdrawal is accepted, and what waits is 11 with the point of the call, or a change.
-  pub withdrawn-waits : (start : State) (places limit : ℕ) → Linear I start places limit
+  pub withdrawn-waits : (start : State) (places limit : ℕ) (scale : Scale) → Linear I start places limit scale
       → (before during : List Event) (s kind : ℕ) (p : Point) (c : ℕ) (st : State)
       → reply I (after I start before) (submission s kind p c) .number ≡ 0 → reply I (after I start before) (submission s kind p c) .next ≡ st → Unanswered I s st during
       → (I .withdraw (after I st during) s .number ≡ 0) × ((a : Answer) × AfterWithdrawal (callOf kind p c) a × (wouldGive I (I .withdraw (after I st during) s .next) s ≡ some a))
   unfolding perform enter
-  withdrawn-waits start places limit linear before during s kind p c st e d n =
+  withdrawn-waits start places limit scale linear before during s kind p c st e d n =
       let rest : List Event = during ++ (withdrawal s ∷ []) in
       let w = linear (before ++ (submission s kind p c ∷ rest)) in
-      follows-after I _ before (submission s kind p c ∷ rest) (λ s. ⊥) (w .0) start (opened places limit) (w .1) go
+      follows-after I _ before (submission s kind p c ∷ rest) (λ s. ⊥) (w .0) start (opened places limit scale) (w .1) go
     where
-      go : (did : ℕ → Type 0) (mss : List (List ℕ)) (t : Table) → Follows I did (after I start before) t (submission s kind p c ∷ (during ++ (withdrawal s ∷ []))) mss
+      go : (did : ℕ → Type 0) (mss : List (List ℕ)) (t : Table) → t .scale ≡ opened places limit scale .scale
+          → Follows I did (after I start before) t (submission s kind p c ∷ (during ++ (withdrawal s ∷ []))) mss
           → (I .withdraw (after I st during) s .number ≡ 0) × ((a : Answer) × AfterWithdrawal (callOf kind p c) a × (wouldGive I (I .withdraw (after I st during) s .next) s ≡ some a))
-      go did [] t h = absurd h
-      go did (ms ∷ mss) t h =
+      go did [] t same h = absurd h
+      go did (ms ∷ mss) t same h =
           let ev : Event = submission s kind p c in
           let from : State = after I start before in
           let r : Reply Table = h .1 .0 in

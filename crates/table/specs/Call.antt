@@ -4,6 +4,7 @@ use mathlib.Core.Option.{Option, none, some}
 use Prim.Native.Nat.{ℕ}
 use lib.Dec.{eqb, leb}
 use Rattle.points.specs.declared.point.Point.{Point}
+use Rattle.points.specs.declared.scale.Scale.{Scale}
 use Rattle.points.specs.Square.{squareOf}
 use Rattle.table.specs.Record.{Record}
 
@@ -58,10 +59,10 @@ unfoldable pub containsAnswer : Point → Option ℕ → Answer
 containsAnswer p none = answer 6 p 0 0
 containsAnswer p (some held) = answer 7 p held 0
 
--- nearest (Rules 2.8): 8, or 9 "where the grade has no record"
-unfoldable pub nearestAnswer : Point → Option Record → Answer
-nearestAnswer p none = answer 9 p 0 0
-nearestAnswer p (some r) = answer 8 (r .point) (r .curve) (squareOf p (r .point))
+-- nearest (Rules 2.8): 8 with the square by the scale, or 9 "where the grade has no record"
+unfoldable pub nearestAnswer : Scale → Point → Option Record → Answer
+nearestAnswer scale p none = answer 9 p 0 0
+nearestAnswer scale p (some r) = answer 8 (r .point) (r .curve) (squareOf scale p (r .point))
 
 -- the point given
 abbrev pub pointOf : Call → Point

@@ -53,6 +53,7 @@ unfoldable pub enter : Table → ℕ → Call → Table
 enter t s c = record {
   places = t .places;
   limit = t .limit;
+  scale = t .scale;
   held = t .held;
   counters = t .counters;
   removals = t .removals;
