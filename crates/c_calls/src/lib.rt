@@ -2,6 +2,8 @@
 use audits::audit::audit;
 use openings::open::open;
 use points::point::Point;
+use points::scale::Scale;
+use points::scale::plain_scale;
 use reports::report::read_report;
 use runs::run::run;
 use steps::step::step;
@@ -10,6 +12,7 @@ use submissions::submit::submit;
 use takings::take::number_of;
 use takings::take::take;
 ghost use mathlib.Core.Path.{_≡_};
+ghost use Rattle.points.specs.Scale.{plainScale};
 ghost use Rattle.calls.specs.Reply.{replied};
 ghost use Rattle.calls.specs.Open.{openOf};
 ghost use Rattle.calls.specs.Submit.{submitOf};
@@ -20,12 +23,34 @@ ghost use Rattle.calls.specs.Withdraw.{withdrawOf};
 ghost use Rattle.calls.specs.Report.{reportOf};
 ghost use Rattle.calls.specs.Audit.{verdictOf};
 
-// Opening.
+// Opening, with factors of one.
 #[no_mangle]
 pub extern "C" fn index_open(words: &mut [u32], places: u32, limit: u32) -> u32
-    ensures { λ r. ⌜ replied r (now (words .exit)) ≡ openOf (now (words .entry)) places limit ⌝ }
+    ensures { λ r. ⌜ replied r (now (words .exit)) ≡ openOf (now (words .entry)) places limit plainScale ⌝ }
 {
-    open(words, places, limit)
+    open(words, places, limit, plain_scale())
+}
+
+// Opening, with a factor for each of the axes 2 to 5.
+#[no_mangle]
+pub extern "C" fn index_open_scaled(
+    words: &mut [u32],
+    places: u32,
+    limit: u32,
+    weight: u32,
+    moisture: u32,
+    speed: u32,
+    draw: u32,
+) -> u32
+    ensures { λ r. ⌜ replied r (now (words .exit)) ≡ openOf (now (words .entry)) places limit (record { weight = weight; moisture = moisture; speed = speed; draw = draw }) ⌝ }
+{
+    let scale = Scale {
+        weight: weight,
+        moisture: moisture,
+        speed: speed,
+        draw: draw,
+    };
+    open(words, places, limit, scale)
 }
 
 // A submission of station s, with the coordinates of its point.

@@ -2,12 +2,14 @@
 use mathlib.Core.Path.{_≡_, refl}
 use mathlib.Core.List.{List, [], _∷_, _++_}
 use Prim.Native.Nat.{ℕ}
+use native.Mathlib.Omega.{arith}
 use lib.ListN.{replicate}
-use Rattle.frames.specs.declared.frame.Frame.the-variants.{Step, Withdraw}
+use Rattle.frames.specs.declared.frame.Factors.{Factors}
+use Rattle.frames.specs.declared.frame.Frame.the-variants.{Open, Step, OpenScaled, Withdraw}
 use Rattle.frames.specs.declared.read.Reading.the-variants.{Read, Refused}
 use Rattle.numbers.specs.Bytes.{numberAt, bytesOf}
-use Rattle.frames.specs.Read.{isWhole, hasKind, ownLength, frameIn, readRest, readOf}
-use Rattle.frames.specs.Write.{headBytes, frameBytes, padded, writtenBytes, writtenOf}
+use Rattle.frames.specs.Read.{isWhole, hasKind, ownLength, factorsAt, frameIn, readRest, readOf}
+use Rattle.frames.specs.Write.{headBytes, openStart, factorsBytes, frameBytes, padded, writtenBytes, writtenOf}
 
 -- P7: step for station 2: bytes 03 00 03 00 02
 pub p7 : (writtenOf (Step 2) .bytes ≡ (3 ∷ 0 ∷ 3 ∷ 0 ∷ 2 ∷ []) ++ replicate 23 0) × (writtenOf (Step 2) .count ≡ 5)
@@ -29,10 +31,54 @@ pub withdrawal-read : (station : ℕ) → readOf (3 ∷ 0 ∷ 8 ∷ 0 ∷ statio
 unfolding readOf readRest isWhole hasKind ownLength frameIn numberAt
 withdrawal-read station = refl
 
--- kinds 6 and 7, length 3 and a byte for the station: 14
-pub kinds-between : (byte : ℕ) → (readOf (3 ∷ 0 ∷ 6 ∷ 0 ∷ byte ∷ []) 0 ≡ Refused 14) × (readOf (3 ∷ 0 ∷ 7 ∷ 0 ∷ byte ∷ []) 0 ≡ Refused 14)
+-- the factors 1, 1,000, 3 and 65,535
+abbrev pub factors : Factors
+factors = record { weight = 1; moisture = 1000; speed = 3; draw = 65535 }
+
+-- four ones
+abbrev pub ones : Factors
+ones = record { weight = 1; moisture = 1; speed = 1; draw = 1 }
+
+-- an opening with 64 places, limit 1,000 and these factors: 10 00 06 00, 40 00, e8 03 00 00, then 01 00, e8 03, 03 00, ff ff
+abbrev pub scaledBytes : List ℕ
+scaledBytes = 16 ∷ 0 ∷ 6 ∷ 0 ∷ 64 ∷ 0 ∷ 232 ∷ 3 ∷ 0 ∷ 0 ∷ 1 ∷ 0 ∷ 232 ∷ 3 ∷ 3 ∷ 0 ∷ 255 ∷ 255 ∷ []
+
+pub scaled-bytes : (writtenOf (OpenScaled 64 1000 factors) .bytes ≡ scaledBytes ++ replicate 10 0) × (writtenOf (OpenScaled 64 1000 factors) .count ≡ 18)
+unfolding writtenOf writtenBytes padded frameBytes openStart factorsBytes headBytes bytesOf
+scaled-bytes = (refl, refl)
+
+-- they are read as that opening, and the next position is past its eighteen bytes
+pub scaled-read : readOf scaledBytes 0 ≡ Read (OpenScaled 64 1000 factors) 18
+unfolding readOf readRest isWhole hasKind ownLength frameIn factorsAt numberAt
+scaled-read = refl
+
+-- with four ones: still the kind 6, and read as no opening of kind 1
+abbrev pub onesBytes : List ℕ
+onesBytes = 16 ∷ 0 ∷ 6 ∷ 0 ∷ 64 ∷ 0 ∷ 232 ∷ 3 ∷ 0 ∷ 0 ∷ 1 ∷ 0 ∷ 1 ∷ 0 ∷ 1 ∷ 0 ∷ 1 ∷ 0 ∷ []
+
+pub ones-bytes : (writtenOf (OpenScaled 64 1000 ones) .bytes ≡ onesBytes ++ replicate 10 0) × (writtenOf (OpenScaled 64 1000 ones) .count ≡ 18)
+unfolding writtenOf writtenBytes padded frameBytes openStart factorsBytes headBytes bytesOf
+ones-bytes = (refl, refl)
+
+pub ones-read : readOf onesBytes 0 ≡ Read (OpenScaled 64 1000 ones) 18
+unfolding readOf readRest isWhole hasKind ownLength frameIn factorsAt numberAt
+ones-read = refl
+
+pub ones-not-open : (places limit next : ℕ) → readOf onesBytes 0 ≡ Read (Open places limit) next → ⊥
+unfolding readOf readRest isWhole hasKind ownLength frameIn factorsAt numberAt
+ones-not-open places limit next e = let z : _≡_ {A = ℕ} 0 1 = cc in absurd (omega arith)
+
+-- an opening of kind 6 as long as one of kind 1, and one of kind 1 as long as one of kind 6: 15
+pub lengths-crossed :
+    (readOf (8 ∷ 0 ∷ 6 ∷ 0 ∷ 64 ∷ 0 ∷ 232 ∷ 3 ∷ 0 ∷ 0 ∷ []) 0 ≡ Refused 15)
+    × (readOf (16 ∷ 0 ∷ 1 ∷ 0 ∷ 64 ∷ 0 ∷ 232 ∷ 3 ∷ 0 ∷ 0 ∷ 1 ∷ 0 ∷ 1 ∷ 0 ∷ 1 ∷ 0 ∷ 1 ∷ 0 ∷ []) 0 ≡ Refused 15)
+unfolding readOf readRest isWhole hasKind ownLength numberAt
+lengths-crossed = (refl, refl)
+
+-- kind 7, length 3 and a byte for the station: 14
+pub kind-between : (byte : ℕ) → readOf (3 ∷ 0 ∷ 7 ∷ 0 ∷ byte ∷ []) 0 ≡ Refused 14
 unfolding readOf readRest isWhole hasKind numberAt
-kinds-between byte = (refl, refl)
+kind-between byte = refl
 
 -- kind 9, the same: 14
 pub kind-beyond : (byte : ℕ) → readOf (3 ∷ 0 ∷ 9 ∷ 0 ∷ byte ∷ []) 0 ≡ Refused 14

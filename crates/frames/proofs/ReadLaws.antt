@@ -16,11 +16,11 @@ use Rattle.numbers.proofs.SignedLaws.{unsigned-signed, signed-near}
 use Rattle.numbers.proofs.NumberLaws.{bytes-number, two-fits, four-fits}
 use Rattle.frames.specs.declared.frame.Frame.{Frame}
 use Rattle.frames.specs.declared.read.Reading.the-variants.{Read}
-use Rattle.frames.specs.Width.{InWidth, SubmissionInWidth}
+use Rattle.frames.specs.Width.{InWidth, SubmissionInWidth, FactorsInWidth}
 use Rattle.frames.specs.Shape as shape
-use Rattle.frames.specs.Read.{lengthIn, kindIn, hasKind, ownLength, submissionIn, frameIn, readOf}
+use Rattle.frames.specs.Read.{lengthIn, kindIn, hasKind, ownLength, submissionIn, factorsAt, frameIn, readOf}
 use Rattle.frames.specs.Outcome.{Passes}
-use Rattle.frames.specs.Write.{headBytes, submissionStart, submissionEnd, frameBytes, writtenOf}
+use Rattle.frames.specs.Write.{headBytes, openStart, factorsBytes, submissionStart, submissionEnd, frameBytes, writtenOf}
 use Rattle.frames.proofs.ShapeLaws.{by-kind}
 use Rattle.frames.proofs.QuestionLaws.{whole-there}
 use Rattle.frames.proofs.OutcomeLaws.{WasRead, was-read}
@@ -62,7 +62,7 @@ module _ (rest : List ℕ) (small : AllBytes rest) where
   same-head kind k s = λ i. bytesOf 2 (sym s i) ++ bytesOf 2 (sym k i)
 
   same-open : Same shape.kindOpen
-  unfolding frameIn frameBytes headBytes bytesOf numberAt parts total
+  unfolding frameIn frameBytes openStart headBytes bytesOf numberAt parts total
   same-open k s there =
       (λ i. same-head shape.kindOpen k s i ++ (bytesOf 2 (numberAt 2 rest shape.atPlaces) ++ bytesOf 4 (numberAt 4 rest shape.atLimit)))
       ∙ parts-taken rest 0 (2 ∷ 2 ∷ 2 ∷ 4 ∷ []) small there
@@ -76,6 +76,16 @@ module _ (rest : List ℕ) (small : AllBytes rest) where
       ++ (bytesOf 4 (signed-field rest shape.atMoisture small i)
       ++ (bytesOf 4 (signed-field rest shape.atSpeed small i) ++ (bytesOf 4 (signed-field rest shape.atDraw small i) ++ bytesOf 4 (numberAt 4 rest shape.atCurve))))))
       ∙ parts-taken rest 0 (2 ∷ 2 ∷ 1 ∷ 1 ∷ 2 ∷ 4 ∷ 4 ∷ 4 ∷ 4 ∷ 4 ∷ []) small there
+
+  same-scaled : Same shape.kindOpenScaled
+  unfolding frameIn factorsAt frameBytes openStart factorsBytes headBytes bytesOf numberAt parts total
+  same-scaled k s there =
+      (λ i.
+      (same-head shape.kindOpenScaled k s i ++ (bytesOf 2 (numberAt 2 rest shape.atPlaces) ++ bytesOf 4 (numberAt 4 rest shape.atLimit)))
+      ++ (bytesOf 2 (numberAt 2 rest shape.atWeightFactor)
+      ++ (bytesOf 2 (numberAt 2 rest shape.atMoistureFactor)
+      ++ (bytesOf 2 (numberAt 2 rest shape.atSpeedFactor) ++ bytesOf 2 (numberAt 2 rest shape.atDrawFactor)))))
+      ∙ parts-taken rest 0 (2 ∷ 2 ∷ 2 ∷ 4 ∷ 2 ∷ 2 ∷ 2 ∷ 2 ∷ []) small there
 
   -- of a kind with a station alone
   same-station : (kind : ℕ) → kindIn rest ≡ kind → lengthIn rest ≡ shape.lengthOf kind → 5 ≤ length rest → headBytes kind ++ (getD rest shape.atStation 0 ∷ []) ≡ take 5 rest
@@ -96,7 +106,7 @@ module _ (rest : List ℕ) (small : AllBytes rest) where
   same-bytes p =
       let own = own-size p in
       let there = whole-there rest (p .whole) in
-      by-kind Same same-open same-submit (same-station shape.kindStep) (same-station shape.kindTake) (same-station shape.kindRun) (same-station shape.kindWithdraw) (kindIn rest) (the-kind p) refl own (omega arith)
+      by-kind Same same-open same-submit (same-station shape.kindStep) (same-station shape.kindTake) (same-station shape.kindRun) same-scaled (same-station shape.kindWithdraw) (kindIn rest) (the-kind p) refl own (omega arith)
       ∙ ap (λ (n : ℕ). take (shape.sizeOf n) rest) (sym own)
 
   -- fields that are read are in width
@@ -120,9 +130,22 @@ module _ (rest : List ℕ) (small : AllBytes rest) where
     curve = four-fits rest shape.atCurve small;
   }
 
+  wide-factors : FactorsInWidth (factorsAt rest)
+  unfolding factorsAt
+  wide-factors = record {
+    weight = two-fits rest shape.atWeightFactor small;
+    moisture = two-fits rest shape.atMoistureFactor small;
+    speed = two-fits rest shape.atSpeedFactor small;
+    draw = two-fits rest shape.atDrawFactor small;
+  }
+
+  wide-scaled : Wide shape.kindOpenScaled
+  unfolding frameIn
+  wide-scaled = (two-fits rest shape.atPlaces small, four-fits rest shape.atLimit small, wide-factors)
+
   wide : Passes rest → InWidth (frameIn (kindIn rest) rest)
   unfolding frameIn
-  wide p = by-kind Wide wide-open wide-submit (small shape.atStation) (small shape.atStation) (small shape.atStation) (small shape.atStation) (kindIn rest) (the-kind p)
+  wide p = by-kind Wide wide-open wide-submit (small shape.atStation) (small shape.atStation) (small shape.atStation) wide-scaled (small shape.atStation) (kindIn rest) (the-kind p)
 
 -- bytes from a position on
 dropped : (bytes : List ℕ) (at : ℕ) → AllBytes bytes → AllBytes (drop at bytes)

@@ -12,18 +12,19 @@ use lib.Dec.{ltb, lit≤, lit<}
 use borrow.Author.Tests.{lt-ltb, le-leb, eq-eqb}
 use Rattle.points.proofs.Tests.{and-i}
 use Rattle.frames.specs.declared.frame.Submission.{Submission}
+use Rattle.frames.specs.declared.frame.Factors.{Factors}
 use Rattle.frames.specs.declared.frame.Frame.{Frame}
-use Rattle.frames.specs.declared.frame.Frame.the-variants.{Open, Submit, Step, Take, Run, Withdraw}
+use Rattle.frames.specs.declared.frame.Frame.the-variants.{Open, Submit, Step, Take, Run, OpenScaled, Withdraw}
 use Rattle.frames.specs.declared.read.Reading.the-variants.{Read}
 use Rattle.numbers.specs.Bytes.{numberAt, bytesOf}
 use Rattle.numbers.specs.Signed.{unsignedOf, signedOf}
 use Rattle.numbers.proofs.SignedLaws.{unsigned-fits, signed-unsigned}
 use Rattle.numbers.proofs.NumberLaws.{two-whole, four-whole}
-use Rattle.frames.specs.Width.{InWidth, SubmissionInWidth}
+use Rattle.frames.specs.Width.{InWidth, SubmissionInWidth, FactorsInWidth}
 use Rattle.frames.specs.Shape as shape
-use Rattle.frames.specs.Read.{lengthIn, kindIn, isWhole, hasKind, ownLength, submissionIn, frameIn, readRest, readOf}
+use Rattle.frames.specs.Read.{lengthIn, kindIn, isWhole, hasKind, ownLength, submissionIn, factorsAt, frameIn, readRest, readOf}
 use Rattle.frames.specs.Outcome.{Passes}
-use Rattle.frames.specs.Write.{headBytes, submissionStart, submissionEnd, frameBytes, padded, writtenBytes, writtenOf}
+use Rattle.frames.specs.Write.{headBytes, openStart, factorsBytes, submissionStart, submissionEnd, frameBytes, padded, writtenBytes, writtenOf}
 use Rattle.frames.proofs.OutcomeLaws.{read-passes}
 
 -- the bytes used are those of the frame
@@ -56,7 +57,7 @@ says-reads {rest} {f} {size} {kind} at s =
 
 -- the bytes of each frame, with any bytes after them
 open-says : (places limit : ℕ) (post : List ℕ) → places < 65536 → limit < 4294967296 → Says (frameBytes (Open places limit) ++ post) (Open places limit) (shape.lengthOf shape.kindOpen) shape.kindOpen
-unfolding frameBytes headBytes bytesOf numberAt frameIn
+unfolding frameBytes openStart headBytes bytesOf numberAt frameIn
 open-says places limit post p l = record {
   there = omega arith;
   says-size = refl;
@@ -65,6 +66,24 @@ open-says places limit post p l = record {
   is-kind = refl;
   enough = lit≤ tt;
   says-frame = λ i. Open (two-whole places p i) (four-whole limit l i);
+}
+
+scaled-says : (places limit : ℕ) (factors : Factors) (post : List ℕ) → places < 65536 → limit < 4294967296 → FactorsInWidth factors
+    → Says (frameBytes (OpenScaled places limit factors) ++ post) (OpenScaled places limit factors) (shape.lengthOf shape.kindOpenScaled) shape.kindOpenScaled
+unfolding frameBytes openStart factorsBytes headBytes bytesOf numberAt frameIn factorsAt
+scaled-says places limit factors post p l w = record {
+  there = omega arith;
+  says-size = refl;
+  says-kind = refl;
+  sized = refl;
+  is-kind = refl;
+  enough = lit≤ tt;
+  says-frame = λ i. OpenScaled (two-whole places p i) (four-whole limit l i) (record {
+    weight = two-whole (factors .weight) (w .weight) i;
+    moisture = two-whole (factors .moisture) (w .moisture) i;
+    speed = two-whole (factors .speed) (w .speed) i;
+    draw = two-whole (factors .draw) (w .draw) i;
+  });
 }
 
 -- four bytes of a signed number are read as the number
@@ -109,22 +128,24 @@ station-says kind station f post small size frame = record {
 
 -- the bytes of a frame in width, with any bytes after them, are read as the frame
 frame-reads : (f : Frame) → InWidth f → (post : List ℕ) (at : ℕ) → readRest (frameBytes f ++ post) at ≡ Read f (at + length (frameBytes f))
-unfolding frameBytes submissionStart submissionEnd headBytes bytesOf frameIn
+unfolding frameBytes openStart factorsBytes submissionStart submissionEnd headBytes bytesOf frameIn
 frame-reads (Open places limit) w post at = says-reads at (open-says places limit post (w .0) (w .1))
 frame-reads (Submit s) w post at = says-reads at (submit-says s post w)
 frame-reads (Step station) w post at = says-reads at (station-says shape.kindStep station (Step station) post (lit< tt) refl refl)
 frame-reads (Take station) w post at = says-reads at (station-says shape.kindTake station (Take station) post (lit< tt) refl refl)
 frame-reads (Run station) w post at = says-reads at (station-says shape.kindRun station (Run station) post (lit< tt) refl refl)
+frame-reads (OpenScaled places limit factors) w post at = says-reads at (scaled-says places limit factors post (w .0) (w .1) (w .2))
 frame-reads (Withdraw station) w post at = says-reads at (station-says shape.kindWithdraw station (Withdraw station) post (lit< tt) refl refl)
 
 -- a frame has at least its length bytes
 pub frame-length : (f : Frame) → 2 ≤ length (frameBytes f)
-unfolding frameBytes submissionStart submissionEnd headBytes bytesOf
+unfolding frameBytes openStart factorsBytes submissionStart submissionEnd headBytes bytesOf
 frame-length (Open places limit) = lit≤ tt
 frame-length (Submit s) = lit≤ tt
 frame-length (Step station) = lit≤ tt
 frame-length (Take station) = lit≤ tt
 frame-length (Run station) = lit≤ tt
+frame-length (OpenScaled places limit factors) = lit≤ tt
 frame-length (Withdraw station) = lit≤ tt
 
 -- the same among other bytes

@@ -5,8 +5,9 @@ use mathlib.Core.List.{List}
 use lib.ListN.{length, getD, drop}
 use lib.Dec.{eqb, leb, ltb}
 use Rattle.frames.specs.declared.frame.Submission.{Submission}
+use Rattle.frames.specs.declared.frame.Factors.{Factors}
 use Rattle.frames.specs.declared.frame.Frame.{Frame}
-use Rattle.frames.specs.declared.frame.Frame.the-variants.{Open, Submit, Step, Take, Run, Withdraw}
+use Rattle.frames.specs.declared.frame.Frame.the-variants.{Open, Submit, Step, Take, Run, OpenScaled, Withdraw}
 use Rattle.frames.specs.declared.read.Reading.{Reading}
 use Rattle.frames.specs.declared.read.Reading.the-variants.{Read, End, Refused}
 use Rattle.numbers.specs.Bytes.{numberAt}
@@ -25,7 +26,7 @@ kindIn rest = numberAt 2 rest shape.atKind
 unfoldable pub isWhole : List ℕ → Bool
 isWhole rest = leb 2 (length rest) && leb (shape.sizeOf (lengthIn rest)) (length rest)
 
--- Rules 7.1, question 14: "Is there a kind, 1 to 5 or 8?"; there is none "also for the lengths 0 and 1" (Rules 7.18)
+-- Rules 7.1, question 14: "Is there a kind, 1 to 6 or 8?"; there is none "also for the lengths 0 and 1" (Rules 7.18)
 unfoldable pub hasKind : List ℕ → Bool
 hasKind rest = leb 2 (lengthIn rest) && shape.isKind (kindIn rest)
 
@@ -46,7 +47,16 @@ submissionIn rest = record {
   curve = numberAt 4 rest shape.atCurve;
 }
 
--- the frame of a kind; any number but the first five kinds is taken for a withdrawal's
+-- Rules 9.3: "factors of weight, moisture, speed, draw 2 each"
+unfoldable pub factorsAt : List ℕ → Factors
+factorsAt rest = record {
+  weight = numberAt 2 rest shape.atWeightFactor;
+  moisture = numberAt 2 rest shape.atMoistureFactor;
+  speed = numberAt 2 rest shape.atSpeedFactor;
+  draw = numberAt 2 rest shape.atDrawFactor;
+}
+
+-- the frame of a kind; any number but the first six kinds is taken for a withdrawal's
 unfoldable pub frameIn : ℕ → List ℕ → Frame
 frameIn kind rest =
     cond (eqb kind shape.kindOpen) (Open (numberAt 2 rest shape.atPlaces) (numberAt 4 rest shape.atLimit))
@@ -54,7 +64,8 @@ frameIn kind rest =
     (cond (eqb kind shape.kindStep) (Step (getD rest shape.atStation 0))
     (cond (eqb kind shape.kindTake) (Take (getD rest shape.atStation 0))
     (cond (eqb kind shape.kindRun) (Run (getD rest shape.atStation 0))
-    (Withdraw (getD rest shape.atStation 0))))))
+    (cond (eqb kind shape.kindOpenScaled) (OpenScaled (numberAt 2 rest shape.atPlaces) (numberAt 4 rest shape.atLimit) (factorsAt rest))
+    (Withdraw (getD rest shape.atStation 0)))))))
 
 -- the first of questions 13 to 15 that fails, or 0
 unfoldable pub frameQuestion : List ℕ → ℕ

@@ -20,6 +20,9 @@ kindTake = 4
 abbrev pub kindRun : ℕ
 kindRun = 5
 
+abbrev pub kindOpenScaled : ℕ
+kindOpenScaled = 6
+
 abbrev pub kindWithdraw : ℕ
 kindWithdraw = 8
 
@@ -30,12 +33,25 @@ atLength = 0
 abbrev pub atKind : ℕ
 atKind = 2
 
--- Rules 9.3: "places 2, limit 4"
+-- Rules 9.3: "places 2, limit 4", in an opening with factors as in one without
 abbrev pub atPlaces : ℕ
 atPlaces = 4
 
 abbrev pub atLimit : ℕ
 atLimit = 6
+
+-- Rules 9.3: "places 2, limit 4, factors of weight, moisture, speed, draw 2 each"
+abbrev pub atWeightFactor : ℕ
+atWeightFactor = 10
+
+abbrev pub atMoistureFactor : ℕ
+atMoistureFactor = 12
+
+abbrev pub atSpeedFactor : ℕ
+atSpeedFactor = 14
+
+abbrev pub atDrawFactor : ℕ
+atDrawFactor = 16
 
 -- Rules 9.3: "station 1", in every frame that names one
 abbrev pub atStation : ℕ
@@ -85,10 +101,11 @@ lengthOf kind =
     (cond (eqb kind kindStep) 3
     (cond (eqb kind kindTake) 3
     (cond (eqb kind kindRun) 3
+    (cond (eqb kind kindOpenScaled) 16
     (cond (eqb kind kindWithdraw) 3
-    0)))))
+    0))))))
 
--- Rules 7.1, question 14: a kind, "1 to 5 or 8"; `ShapeLaws` says it so
+-- Rules 7.1, question 14: a kind, "1 to 6 or 8"; `ShapeLaws` says it so
 abbrev pub isKind : ℕ → Bool
 isKind kind = ltb 0 (lengthOf kind)
 

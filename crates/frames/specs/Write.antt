@@ -5,8 +5,9 @@ use mathlib.Core.List.{List, [], _∷_, _++_}
 use lib.ListN.{length, replicate}
 use lib.Dec.{eqb}
 use Rattle.frames.specs.declared.frame.Submission.{Submission}
+use Rattle.frames.specs.declared.frame.Factors.{Factors}
 use Rattle.frames.specs.declared.frame.Frame.{Frame}
-use Rattle.frames.specs.declared.frame.Frame.the-variants.{Open, Submit, Step, Take, Run, Withdraw}
+use Rattle.frames.specs.declared.frame.Frame.the-variants.{Open, Submit, Step, Take, Run, OpenScaled, Withdraw}
 use Rattle.frames.specs.declared.write.Written.{Written}
 use Rattle.frames.specs.declared.write.Fields.{Fields}
 use Rattle.frames.specs.declared.write.Writing.{Writing}
@@ -17,6 +18,15 @@ use Rattle.frames.specs.Shape as shape
 -- length and kind
 unfoldable pub headBytes : ℕ → List ℕ
 headBytes kind = bytesOf 2 (shape.lengthOf kind) ++ bytesOf 2 kind
+
+-- an opening of this kind up to its limit
+unfoldable pub openStart : ℕ → ℕ → ℕ → List ℕ
+openStart kind places limit = headBytes kind ++ (bytesOf 2 places ++ bytesOf 4 limit)
+
+-- the factors of an opening
+unfoldable pub factorsBytes : Factors → List ℕ
+factorsBytes factors =
+    bytesOf 2 (factors .weight) ++ (bytesOf 2 (factors .moisture) ++ (bytesOf 2 (factors .speed) ++ bytesOf 2 (factors .draw)))
 
 -- a submission up to its grade
 unfoldable pub submissionStart : Submission → List ℕ
@@ -31,11 +41,12 @@ submissionEnd s =
 
 -- the bytes of a frame
 unfoldable pub frameBytes : Frame → List ℕ
-frameBytes (Open places limit) = headBytes shape.kindOpen ++ (bytesOf 2 places ++ bytesOf 4 limit)
+frameBytes (Open places limit) = openStart shape.kindOpen places limit
 frameBytes (Submit s) = submissionStart s ++ submissionEnd s
 frameBytes (Step station) = headBytes shape.kindStep ++ (station ∷ [])
 frameBytes (Take station) = headBytes shape.kindTake ++ (station ∷ [])
 frameBytes (Run station) = headBytes shape.kindRun ++ (station ∷ [])
+frameBytes (OpenScaled places limit factors) = openStart shape.kindOpenScaled places limit ++ factorsBytes factors
 frameBytes (Withdraw station) = headBytes shape.kindWithdraw ++ (station ∷ [])
 
 -- with zeros behind, as many bytes as the longest frame has
@@ -71,7 +82,7 @@ submissionFrom fields = record {
   curve = fields .curve;
 }
 
--- the frame of a kind with its own of these fields; any number but the first five kinds is taken for a withdrawal's
+-- the frame of a kind with its own of these fields; any number but the first six kinds is taken for a withdrawal's
 unfoldable pub frameFrom : ℕ → Fields → Frame
 frameFrom kind fields =
     cond (eqb kind shape.kindOpen) (Open (fields .places) (fields .limit))
@@ -79,7 +90,8 @@ frameFrom kind fields =
     (cond (eqb kind shape.kindStep) (Step (fields .station))
     (cond (eqb kind shape.kindTake) (Take (fields .station))
     (cond (eqb kind shape.kindRun) (Run (fields .station))
-    (Withdraw (fields .station))))))
+    (cond (eqb kind shape.kindOpenScaled) (OpenScaled (fields .places) (fields .limit) (fields .factors))
+    (Withdraw (fields .station)))))))
 
 -- Rules 9.6: "The writer takes a kind (question 14) and fields of exactly these widths"
 unfoldable pub writeOf : ℕ → Fields → Writing

@@ -12,12 +12,36 @@ pub struct Submission {
     pub curve: u32,
 }
 
-// A frame, kinds 1 to 5 and 8 in this order.
+// The factors of an opening, for the axes 2 to 5.
+pub struct Factors {
+    pub weight: u16,
+    pub moisture: u16,
+    pub speed: u16,
+    pub draw: u16,
+}
+
+// A frame, kinds 1 to 6 and 8 in this order.
 pub enum Frame {
-    Open { places: u16, limit: u32 },
+    Open {
+        places: u16,
+        limit: u32,
+    },
     Submit(Submission),
-    Step { station: u8 },
-    Take { station: u8 },
-    Run { station: u8 },
-    Withdraw { station: u8 },
+    Step {
+        station: u8,
+    },
+    Take {
+        station: u8,
+    },
+    Run {
+        station: u8,
+    },
+    OpenScaled {
+        places: u16,
+        limit: u32,
+        factors: Factors,
+    },
+    Withdraw {
+        station: u8,
+    },
 }

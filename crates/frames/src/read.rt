@@ -1,4 +1,5 @@
 // Reading a frame: questions 13 to 15, then the frame and the position after it.
+use crate::frame::Factors;
 use crate::frame::Frame;
 use crate::frame::Submission;
 use crate::shape;
@@ -13,7 +14,7 @@ use words::word::pick;
 ghost use mathlib.Core.Path.{_≡_};
 ghost use Prim.Native.Nat.{_+_, _<_};
 ghost use lib.ListN.{length};
-ghost use Rattle.frames.specs.Read.{isWhole, hasKind, ownLength, frameQuestion, submissionIn, frameIn, readRest, readOf, positionAfter};
+ghost use Rattle.frames.specs.Read.{isWhole, hasKind, ownLength, frameQuestion, submissionIn, factorsAt, frameIn, readRest, readOf, positionAfter};
 
 // What reading at a position finds: a frame and the position after it, no byte, or the number of the first question that fails.
 pub enum Reading {
@@ -29,7 +30,7 @@ fn is_whole(rest: &[u8]) -> bool
     (2 <= rest.len()) & (size_of(two_at(rest, shape::AT_LENGTH)) <= rest.len())
 }
 
-// Question 14: there is a kind, 1 to 5 or 8.
+// Question 14: there is a kind, 1 to 6 or 8.
 fn has_kind(rest: &[u8]) -> bool
     ensures { λ r. ⌜ r ≡ hasKind (now (rest .entry)) ⌝ }
 {
@@ -69,7 +70,19 @@ fn submission_in(rest: &[u8]) -> Submission
     }
 }
 
-// The frame of a kind that starts the bytes. Any number but the first five kinds is taken for a withdrawal's.
+// The factors of the opening whose frame starts the bytes.
+fn factors_at(rest: &[u8]) -> Factors
+    ensures { λ r. ⌜ r ≡ factorsAt (now (rest .entry)) ⌝ }
+{
+    Factors {
+        weight: two_at(rest, shape::AT_WEIGHT_FACTOR),
+        moisture: two_at(rest, shape::AT_MOISTURE_FACTOR),
+        speed: two_at(rest, shape::AT_SPEED_FACTOR),
+        draw: two_at(rest, shape::AT_DRAW_FACTOR),
+    }
+}
+
+// The frame of a kind that starts the bytes. Any number but the first six kinds is taken for a withdrawal's.
 fn frame_in(kind: u16, rest: &[u8]) -> Frame
     ensures { λ r. ⌜ r ≡ frameIn kind (now (rest .entry)) ⌝ }
 {
@@ -87,6 +100,11 @@ fn frame_in(kind: u16, rest: &[u8]) -> Frame
         },
         shape::KIND_RUN => Frame::Run {
             station: one_at(rest, shape::AT_STATION),
+        },
+        shape::KIND_OPEN_SCALED => Frame::OpenScaled {
+            places: two_at(rest, shape::AT_PLACES),
+            limit: four_at(rest, shape::AT_LIMIT),
+            factors: factors_at(rest),
         },
         _ => Frame::Withdraw {
             station: one_at(rest, shape::AT_STATION),

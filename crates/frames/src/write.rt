@@ -1,4 +1,5 @@
 // Writing a frame: 28 bytes, unused ones zero, with the count used.
+use crate::frame::Factors;
 use crate::frame::Frame;
 use crate::frame::Submission;
 use crate::shape;
@@ -11,7 +12,7 @@ use numbers::put::put_signed;
 use numbers::put::put_two;
 ghost use mathlib.Core.Path.{_≡_};
 ghost use Rattle.frames.specs.declared.frame.Frame.{Frame};
-ghost use Rattle.frames.specs.Write.{headBytes, submissionStart, padded, counted, stationWritten, writtenOf, submissionFrom, frameFrom, writeOf};
+ghost use Rattle.frames.specs.Write.{headBytes, openStart, submissionStart, padded, counted, stationWritten, writtenOf, submissionFrom, frameFrom, writeOf};
 
 // The bytes of a frame, and how many of them are used.
 pub struct Written {
@@ -23,6 +24,7 @@ pub struct Written {
 pub struct Fields {
     pub places: u16,
     pub limit: u32,
+    pub factors: Factors,
     pub station: u8,
     pub call: u8,
     pub grade: u16,
@@ -59,14 +61,36 @@ fn counted(kind: u16, bytes: [u8; shape::LONGEST]) -> Written
     }
 }
 
-// An opening, written.
+// The bytes of an opening of this kind up to its limit.
+fn open_start(kind: u16, places: u16, limit: u32) -> [u8; shape::LONGEST]
+    ensures { λ r. ⌜ r ≡ padded (openStart kind places limit) ⌝ }
+{
+    let mut bytes = head_bytes(kind);
+    put_two(&mut bytes, shape::AT_PLACES, places);
+    put_four(&mut bytes, shape::AT_LIMIT, limit);
+    bytes
+}
+
+// An opening without factors, written.
 fn write_open(places: u16, limit: u32) -> Written
     ensures { λ r. ⌜ r ≡ writtenOf (Frame.Open places limit) ⌝ }
 {
-    let mut bytes = head_bytes(shape::KIND_OPEN);
-    put_two(&mut bytes, shape::AT_PLACES, places);
-    put_four(&mut bytes, shape::AT_LIMIT, limit);
-    counted(shape::KIND_OPEN, bytes)
+    counted(
+        shape::KIND_OPEN,
+        open_start(shape::KIND_OPEN, places, limit),
+    )
+}
+
+// An opening with factors, written.
+fn write_open_scaled(places: u16, limit: u32, factors: Factors) -> Written
+    ensures { λ r. ⌜ r ≡ writtenOf (Frame.OpenScaled places limit factors) ⌝ }
+{
+    let mut bytes = open_start(shape::KIND_OPEN_SCALED, places, limit);
+    put_two(&mut bytes, shape::AT_WEIGHT_FACTOR, factors.weight);
+    put_two(&mut bytes, shape::AT_MOISTURE_FACTOR, factors.moisture);
+    put_two(&mut bytes, shape::AT_SPEED_FACTOR, factors.speed);
+    put_two(&mut bytes, shape::AT_DRAW_FACTOR, factors.draw);
+    counted(shape::KIND_OPEN_SCALED, bytes)
 }
 
 // The bytes of a submission up to its grade.
@@ -112,6 +136,11 @@ pub fn write_frame(frame: Frame) -> Written
         Frame::Step { station } => write_station(shape::KIND_STEP, station),
         Frame::Take { station } => write_station(shape::KIND_TAKE, station),
         Frame::Run { station } => write_station(shape::KIND_RUN, station),
+        Frame::OpenScaled {
+            places,
+            limit,
+            factors,
+        } => write_open_scaled(places, limit, factors),
         Frame::Withdraw { station } => write_station(shape::KIND_WITHDRAW, station),
     }
 }
@@ -132,7 +161,7 @@ fn submission_from(fields: Fields) -> Submission
     }
 }
 
-// The frame of a kind with its own of these fields. Any number but the first five kinds is taken for a withdrawal's.
+// The frame of a kind with its own of these fields. Any number but the first six kinds is taken for a withdrawal's.
 fn frame_from(kind: u16, fields: Fields) -> Frame
     ensures { λ r. ⌜ r ≡ frameFrom kind fields ⌝ }
 {
@@ -151,6 +180,14 @@ fn frame_from(kind: u16, fields: Fields) -> Frame
         shape::KIND_RUN => Frame::Run {
             station: fields.station,
         },
+        shape::KIND_OPEN_SCALED => {
+            let factors = fields.factors;
+            Frame::OpenScaled {
+                places: fields.places,
+                limit: fields.limit,
+                factors: factors,
+            }
+        }
         _ => Frame::Withdraw {
             station: fields.station,
         },

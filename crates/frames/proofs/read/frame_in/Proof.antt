@@ -4,7 +4,7 @@ use Rattle.frames.proofs.read.frame_in.Statement.{statement}
 use Rattle.frames.proofs.read.frame_in.Tie as tie
 use borrow.Author.Tests.{ne-eqb}
 use mathlib.Core.Path.{ap}
-use Rattle.frames.specs.declared.frame.Frame.the-variants.{Submit, Step, Take, Run, Withdraw}
+use Rattle.frames.specs.declared.frame.Frame.the-variants.{Submit, Step, Take, Run, OpenScaled, Withdraw}
 use Rattle.frames.specs.Read.{frameIn}
 
 two-at-requires : tie.Need-two-at-requires
@@ -24,6 +24,15 @@ one-at-requires-2 c κs = search needs
 
 one-at-requires-3 : tie.Need-one-at-requires-3
 one-at-requires-3 c κs = search needs
+
+two-at-requires-2 : tie.Need-two-at-requires-2
+two-at-requires-2 c κs = search needs
+
+four-at-requires-2 : tie.Need-four-at-requires-2
+four-at-requires-2 c κs = search needs
+
+factors-at-requires : tie.Need-factors-at-requires
+factors-at-requires c κs = search needs
 
 one-at-requires-4 : tie.Need-one-at-requires-4
 one-at-requires-4 c κs = search needs
@@ -51,8 +60,21 @@ returns-5 c = rw (c .before .match .keys5) (ap Run (c .one-at3 .ensures))
 returns-6 : tie.Need-returns-6
 unfolding frameIn
 returns-6 c =
+    rw (c .before .before .before .match .keys6)
+    (λ i. OpenScaled (c .before .before .two-at2 .ensures i) (c .before .four-at2 .ensures i) (c .factors-at .ensures i))
+
+returns-7 : tie.Need-returns-7
+unfolding frameIn
+returns-7 c =
     let r = c .before .match .rest in
-    simp (ne-eqb _ _ (r .0 .0 .0 .0 .1), ne-eqb _ _ (r .0 .0 .0 .1), ne-eqb _ _ (r .0 .0 .1), ne-eqb _ _ (r .0 .1), ne-eqb _ _ (r .1)) (ap Withdraw (c .one-at4 .ensures))
+    simp (
+      ne-eqb _ _ (r .0 .0 .0 .0 .0 .1),
+      ne-eqb _ _ (r .0 .0 .0 .0 .1),
+      ne-eqb _ _ (r .0 .0 .0 .1),
+      ne-eqb _ _ (r .0 .0 .1),
+      ne-eqb _ _ (r .0 .1),
+      ne-eqb _ _ (r .1),
+    ) (ap Withdraw (c .one-at4 .ensures))
 
 pub frame-in-spec : {M : Type 1} → statement M
 frame-in-spec =
@@ -64,10 +86,14 @@ frame-in-spec =
     one-at-requires
     one-at-requires-2
     one-at-requires-3
+    two-at-requires-2
+    four-at-requires-2
+    factors-at-requires
     one-at-requires-4
     returns
     returns-2
     returns-3
     returns-4
     returns-5
-    returns-6)
+    returns-6
+    returns-7)

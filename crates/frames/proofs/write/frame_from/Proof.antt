@@ -32,10 +32,21 @@ returns-5 c = rw (c .match .keys5)
 
 returns-6 : tie.Need-returns-6
 unfolding frameFrom
-returns-6 c =
+returns-6 c = rw (c .before .match .keys6)
+
+returns-7 : tie.Need-returns-7
+unfolding frameFrom
+returns-7 c =
     let r = c .match .rest in
-    simp (ne-eqb _ _ (r .0 .0 .0 .0 .1), ne-eqb _ _ (r .0 .0 .0 .1), ne-eqb _ _ (r .0 .0 .1), ne-eqb _ _ (r .0 .1), ne-eqb _ _ (r .1))
+    simp (
+      ne-eqb _ _ (r .0 .0 .0 .0 .0 .1),
+      ne-eqb _ _ (r .0 .0 .0 .0 .1),
+      ne-eqb _ _ (r .0 .0 .0 .1),
+      ne-eqb _ _ (r .0 .0 .1),
+      ne-eqb _ _ (r .0 .1),
+      ne-eqb _ _ (r .1),
+    )
 
 pub frame-from-spec : {M : Type 1} → statement M
 frame-from-spec =
-    tie.close (tie.spec submission-from-requires returns returns-2 returns-3 returns-4 returns-5 returns-6)
+    tie.close (tie.spec submission-from-requires returns returns-2 returns-3 returns-4 returns-5 returns-6 returns-7)

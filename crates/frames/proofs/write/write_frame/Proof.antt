@@ -38,6 +38,12 @@ write-station-requires-3 c κs = search needs
 enum-known-frame-6 : tie.Need-enum-known-frame-6
 enum-known-frame-6 c = search needs
 
+write-open-scaled-requires : tie.Need-write-open-scaled-requires
+write-open-scaled-requires c κs = search needs
+
+enum-known-frame-7 : tie.Need-enum-known-frame-7
+enum-known-frame-7 c = search needs
+
 write-station-requires-4 : tie.Need-write-station-requires-4
 write-station-requires-4 c κs = search needs
 
@@ -60,8 +66,11 @@ unfolding writtenOf writtenBytes stationWritten counted frameBytes headBytes byt
 returns-5 c = rw (c .before .before .frame5 .given .1) (c .write-station3 .ensures)
 
 returns-6 : tie.Need-returns-6
+returns-6 c = rw (c .before .before .frame6 .given .1) (c .write-open-scaled .ensures)
+
+returns-7 : tie.Need-returns-7
 unfolding writtenOf writtenBytes stationWritten counted frameBytes headBytes bytesOf
-returns-6 c = rw (c .before .before .frame6 .given .1) (c .write-station4 .ensures)
+returns-7 c = rw (c .before .before .frame7 .given .1) (c .write-station4 .ensures)
 
 pub write-frame-spec : {M : Type 1} → statement M
 write-frame-spec =
@@ -78,10 +87,13 @@ write-frame-spec =
     enum-known-frame-5
     write-station-requires-3
     enum-known-frame-6
+    write-open-scaled-requires
+    enum-known-frame-7
     write-station-requires-4
     returns
     returns-2
     returns-3
     returns-4
     returns-5
-    returns-6)
+    returns-6
+    returns-7)

@@ -8,7 +8,6 @@ use Rattle.calls.specs.Open.{openOf}
 use Rattle.lines.specs.declared.apply.Applied.the-variants.{Number}
 use Rattle.lines.specs.Apply.{applyOf, applyWords}
 use mathlib.Core.Path.{_∙_}
-use Prim.Native.Nat.{ℕ}
 use denote.Ref.{now}
 use Rattle.calls.specs.Step.{stepOf}
 use Rattle.calls.specs.Run.{runOf}
@@ -17,11 +16,11 @@ use Rattle.calls.specs.Withdraw.{withdrawOf}
 enum-known-frame : tie.Need-enum-known-frame
 enum-known-frame c = search needs
 
-pair-as-word-requires : tie.Need-pair-as-word-requires
-pair-as-word-requires c κs = search needs
+plain-scale-requires : tie.Need-plain-scale-requires
+plain-scale-requires c κs = search needs
 
-open-requires : tie.Need-open-requires
-open-requires c κs = search needs
+open-all-requires : tie.Need-open-all-requires
+open-all-requires c κs = search needs
 
 enum-known-frame-2 : tie.Need-enum-known-frame-2
 enum-known-frame-2 c = search needs
@@ -62,6 +61,15 @@ run-requires c κs = search needs
 enum-known-frame-6 : tie.Need-enum-known-frame-6
 enum-known-frame-6 c = search needs
 
+scale-of-requires : tie.Need-scale-of-requires
+scale-of-requires c κs = search needs
+
+open-all-requires-2 : tie.Need-open-all-requires-2
+open-all-requires-2 c κs = search needs
+
+enum-known-frame-7 : tie.Need-enum-known-frame-7
+enum-known-frame-7 c = search needs
+
 byte-as-word-requires-4 : tie.Need-byte-as-word-requires-4
 byte-as-word-requires-4 c κs = search needs
 
@@ -76,7 +84,7 @@ unfolding applyOf applyWords
 returns c =
     let f = c .before .before .before .before .before .before .frame in
     let words = now (c .before .before .before .before .before .before .before .before .before .args .words) in
-    let e = c .before .before .«open» .ensures ∙ ap (λ (places : ℕ). openOf words places (f .given .0 .1 .0)) (c .before .before .before .pair-as-word .ensures) in
+    let e = c .before .before .open-all .ensures ∙ ap (openOf words (f .given .0 .0) (f .given .0 .1 .0)) (c .before .before .before .plain-scale .ensures) in
     rw (f .given .1) (ap (λ (r : Reply). Number (r .number)) e, ap (λ (r : Reply). r .words) e)
 
 same-length-2 : tie.Need-same-length-2
@@ -125,6 +133,17 @@ unfolding applyOf applyWords
 returns-6 c =
     let f = c .before .before .before .before .before .before .frame6 in
     let words = now (c .before .before .before .before .before .before .before .before .before .args .words) in
+    let e = c .before .before .open-all2 .ensures ∙ ap (openOf words (f .given .0 .0) (f .given .0 .1 .0)) (c .before .before .before .scale-of .ensures) in
+    rw (f .given .1) (ap (λ (r : Reply). Number (r .number)) e, ap (λ (r : Reply). r .words) e)
+
+same-length-7 : tie.Need-same-length-7
+same-length-7 c = search needs
+
+returns-7 : tie.Need-returns-7
+unfolding applyOf applyWords
+returns-7 c =
+    let f = c .before .before .before .before .before .before .frame7 in
+    let words = now (c .before .before .before .before .before .before .before .before .before .args .words) in
     let e = c .before .before .withdraw .ensures ∙ ap (withdrawOf words) (c .before .before .before .byte-as-word4 .ensures) in
     rw (f .given .1) (ap (λ (r : Reply). Number (r .number)) e, ap (λ (r : Reply). r .words) e)
 
@@ -133,8 +152,8 @@ apply-frame-spec =
     tie.close
     (tie.spec
     enum-known-frame
-    pair-as-word-requires
-    open-requires
+    plain-scale-requires
+    open-all-requires
     enum-known-frame-2
     submit-all-requires
     enum-known-frame-3
@@ -148,6 +167,9 @@ apply-frame-spec =
     byte-as-word-requires-3
     run-requires
     enum-known-frame-6
+    scale-of-requires
+    open-all-requires-2
+    enum-known-frame-7
     byte-as-word-requires-4
     withdraw-requires
     same-length
@@ -161,4 +183,6 @@ apply-frame-spec =
     same-length-5
     returns-5
     same-length-6
-    returns-6)
+    returns-6
+    same-length-7
+    returns-7)
