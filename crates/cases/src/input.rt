@@ -1,6 +1,7 @@
 // The text of the cases that are run: what stands on standard input, or the program's own, which are put together in its place.
 use crate::cases;
 use crate::counters;
+use crate::factors;
 use crate::grades;
 use crate::hold_up;
 use crate::tally::refuse;
@@ -47,6 +48,16 @@ fn counted(to: &mut [u8], at: usize) -> usize {
     counters::stored(to, end)
 }
 
+// Openings with factors, calls on the words of the factors, and searches that go by them.
+fn factored(to: &mut [u8], at: usize) -> usize {
+    let mut end = factors::opened(to, at);
+    end = factors::stored(to, end);
+    end = factors::framed(to, end);
+    end = factors::nearest(to, end);
+    end = factors::tied(to, end);
+    factors::beside(to, end)
+}
+
 // All the cases of the program.
 fn all(to: &mut [u8]) -> usize {
     let mut end = lone(to, 0);
@@ -55,6 +66,7 @@ fn all(to: &mut [u8]) -> usize {
     end = withdrawals::withdrawn(to, end);
     end = grades::shared(to, end);
     end = counted(to, end);
+    end = factored(to, end);
     random(to, end)
 }
 

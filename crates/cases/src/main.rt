@@ -1,6 +1,7 @@
 // Runs the cases that the claims of the index speak of, or those on standard input, against a plain list of records beside it, and prints a line for each.
 mod cases;
 mod counters;
+mod factors;
 mod grades;
 mod hold_up;
 mod input;

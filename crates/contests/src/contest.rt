@@ -4,6 +4,7 @@ use crate::disturb::searches;
 use crate::disturb::submit_change;
 use crate::stand;
 use paired::drive;
+use paired::factors::some_scale;
 use paired::history::some_curve;
 use paired::history::some_grade;
 use paired::script::turn;
@@ -11,6 +12,8 @@ use paired::stairs::weight_at;
 use plain_list::book::AT_PLACES;
 use plain_list::book::PlainPoint;
 use plain_list::reference;
+use plain_list::scale::PlainScale;
+use plain_list::scale::ones;
 use plain_list::seeds;
 use plain_list::verdict::judge;
 use plain_list::verdict::met;
@@ -229,25 +232,32 @@ fn turns(words: &mut [u32], book: &mut [u64], contest: Contest, count: u32) {
     }
 }
 
+// The factors of a contest's opening: drawn, or four ones.
+fn scale_for(book: &mut [u64], scaled: bool) -> PlainScale {
+    if scaled { some_scale(book) } else { ones() }
+}
+
 // The opening, and as many records as there are places.
-fn begin(words: &mut [u32], book: &mut [u64], contest: Contest, places: u32) {
-    drive::open(words, book, places, 500000000);
+fn begin(words: &mut [u32], book: &mut [u64], contest: Contest, places: u32, scaled: bool) {
+    let scale = scale_for(book, scaled);
+    drive::open(words, book, places, 500000000, scale);
     fill(words, book, contest, places);
 }
 
-// A contest in an index of so many places, with so many turns, and an audit at the end.
-fn played(words: &mut [u32], book: &mut [u64], places: u32, count: u32) {
+// A contest in an index of so many places, with factors or without, with so many turns, and an audit at the end.
+fn played(words: &mut [u32], book: &mut [u64], places: u32, scaled: bool, count: u32) {
     let contest = drawn(book);
-    begin(words, book, contest, places);
+    begin(words, book, contest, places, scaled);
     turns(words, book, contest, count);
     drive::judge_audit(words, book);
 }
 
-// A contest of a seed: the least number of its places, how many numbers they are drawn from, and its turns stand in the row.
+// A contest of a seed: the least number of its places, how many numbers they are drawn from, its turns, and 1 for factors stand in the row.
 fn one_contest(words: &mut [u32], book: &mut [u64], n: [u32; 9], number: u32) {
     seeds::begin(book, number);
     let more = low(below(book, n[1] as u64));
-    played(words, book, std::num::wrapping_add_u32(n[0], more), n[3]);
+    let places = std::num::wrapping_add_u32(n[0], more);
+    played(words, book, places, n[4] == 1, n[3]);
 }
 
 // So many contests of different seeds.

@@ -2,6 +2,8 @@
 use crate::choice::some_station;
 use calls::take::Taking;
 use points::point::Point;
+use points::scale::Scale;
+use points::scale::plain_scale;
 use points::word::point_at;
 use stations::answer::answer_sound;
 use trial::cells::low;
@@ -74,13 +76,45 @@ pub fn audit(words: &[u32]) -> u32 {
     }
 }
 
-// An opening that is refused.
+// A factor out of range: below the least, or above the greatest.
+fn bad_factor(book: &mut [u64]) -> u32 {
+    match below(book, 3) {
+        0 => 0,
+        1 => 1001,
+        _ => 4294967295,
+    }
+}
+
+// Factors of which one is out of range, on an axis that is drawn.
+fn bad_scale(book: &mut [u64]) -> Scale {
+    let bad = bad_factor(book);
+    let axis = below(book, 4);
+    Scale {
+        weight: if axis == 0 { bad } else { 1 },
+        moisture: if axis == 1 { bad } else { 7 },
+        speed: if axis == 2 { bad } else { 30 },
+        draw: if axis == 3 { bad } else { 1000 },
+    }
+}
+
+// An opening that is refused by question 1 or 2, the factors being wrong as well.
+fn open_early(words: &mut [u32], book: &mut [u64]) -> u32 {
+    let scale = bad_scale(book);
+    match below(book, 3) {
+        0 => openings::open::open(words, 0, 10, scale),
+        1 => openings::open::open(words, 4097, 10, scale),
+        _ => openings::open::open(words, 1, 0, scale),
+    }
+}
+
+// An opening that is refused: by the factors, the slice being long enough or too short, by the slice alone, or earlier.
 fn open(words: &mut [u32], book: &mut [u64]) -> u32 {
-    match below(book, 4) {
-        0 => openings::open::open(words, 0, 10),
-        1 => openings::open::open(words, 4097, 10),
-        2 => openings::open::open(words, 1, 0),
-        _ => openings::open::open(words, 4096, 10),
+    let scale = bad_scale(book);
+    match below(book, 8) {
+        0 => openings::open::open(words, 1, 10, scale),
+        1 => openings::open::open(words, 4096, 10, scale),
+        2 | 3 => openings::open::open(words, 4096, 10, plain_scale()),
+        _ => open_early(words, book),
     }
 }
 
@@ -109,6 +143,6 @@ pub fn is_allowed(kind: u64, number: u32) -> bool {
         3 => (number == 0) | (number == 4) | (number == 5) | (number == 12),
         5 => (number == 0) | (number == 4),
         6 => (number == 0) | (number == 4) | (number == NO),
-        _ => (1 <= number) & (number <= 3),
+        _ => ((1 <= number) & (number <= 3)) | (number == 17),
     }
 }

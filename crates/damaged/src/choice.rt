@@ -1,9 +1,33 @@
-// The kind of a call, and its station. Most calls go to a station at which there is something to do, so that few are refused for its state alone.
+// The factors of an opening; the kind of a call, and its station. Most calls go to a station at which there is something to do, so that few are refused for its state alone.
 use crate::attempts;
+use points::scale::Scale;
 use stations::station::read_state;
 use trial::cells::low;
 use trial::random::below;
 use trial::random::next;
+
+// A factor in range.
+fn some_factor(book: &mut [u64]) -> u32 {
+    match below(book, 4) {
+        0 => 1,
+        1 => 1000,
+        _ => 1 + low(below(book, 1000)) % 1000,
+    }
+}
+
+// Factors in range.
+pub fn some_scale(book: &mut [u64]) -> Scale {
+    let weight = some_factor(book);
+    let moisture = some_factor(book);
+    let speed = some_factor(book);
+    let draw = some_factor(book);
+    Scale {
+        weight: weight,
+        moisture: moisture,
+        speed: speed,
+        draw: draw,
+    }
+}
 
 // Any station; now and then one that there is not.
 fn any_station(book: &mut [u64]) -> u32 {

@@ -3,18 +3,26 @@
 mod attempts;
 mod choice;
 mod harm;
+mod tally;
 
 use attempts::call;
 use attempts::is_allowed;
 use choice::some_kind;
+use choice::some_scale;
 use libc::STDIN_FILENO;
 use libc::STDOUT_FILENO;
+use points::scale::Scale;
+use tally::AT_DAMAGED;
+use tally::count_call;
+use tally::judge;
+use tally::say;
+use tally::say_all;
 use trial::bytes::seed_in;
 use trial::cells::copy;
 use trial::cells::count;
 use trial::cells::fill;
-use trial::cells::get;
 use trial::cells::same;
+use trial::cells::word;
 use trial::random::below;
 use trial::random::seed;
 use words::layout::RECORDS;
@@ -24,6 +32,9 @@ use words::layout::ROW_SIZE;
 const START: usize = 100;
 
 const PLACES: u32 = 6;
+
+// Where its four factors begin.
+const FACTORS: usize = START + 48;
 
 // Where its rows begin, and where they end.
 const ROWS: usize = START + RECORDS;
@@ -40,39 +51,6 @@ const ROUNDS: u32 = 3000;
 const BEFORE: u32 = 60;
 
 const AFTER: u32 = 60;
-
-// Of the book: the checks, the wrong ones, the damaged words, the steps and runs refused with 10, the calls of a kind, and how often each number was given.
-const AT_CHECKS: usize = 1;
-
-const AT_WRONG: usize = 2;
-
-const AT_DAMAGED: usize = 3;
-
-const AT_REFUSED: usize = 4;
-
-const AT_CALLS: usize = 8;
-
-const AT_NUMBERS: usize = 16;
-
-const CELLS: usize = 128;
-
-// One check.
-fn judge(book: &mut [u64], right: bool) {
-    count(book, AT_CHECKS);
-    if !right {
-        count(book, AT_WRONG);
-    }
-}
-
-// An offset in the book, from a start.
-fn at(start: usize, n: u64) -> usize {
-    if n < 16 {
-        if start < CELLS {
-            return start + (n as usize);
-        }
-    }
-    CELLS
-}
 
 // A call of a kind on the middle part.
 fn call_within(whole: &mut [u32], book: &mut [u64], kind: u64) -> u32 {
@@ -94,23 +72,32 @@ fn outside_kept(whole: &[u32], copied: &[u32]) -> bool {
     same(whole, copied, 0, START) & same(whole, copied, END, WHOLE)
 }
 
+// Whether a word is a factor in range.
+fn is_factor(x: u32) -> bool {
+    (1 <= x) & (x <= 1000)
+}
+
+// Whether all four stored factors are in range.
+fn factors_stored(whole: &[u32]) -> bool {
+    is_factor(word(whole, FACTORS))
+        & is_factor(word(whole, FACTORS + 1))
+        & is_factor(word(whole, FACTORS + 2))
+        & is_factor(word(whole, FACTORS + 3))
+}
+
+// Whether a call on these words may give this number: 4 alone where a stored factor is out of range, unless it opens.
+fn may_give(copied: &[u32], kind: u64, number: u32) -> bool {
+    let asked = (kind != attempts::OPEN) & !factors_stored(copied);
+    is_allowed(kind, number) & (!asked | (number == 4))
+}
+
 // What is asked after a call: its number, the words around the slice, every word where it changes nothing, and the rows where it is a withdrawal.
 fn judge_call(whole: &[u32], copied: &[u32], book: &mut [u64], kind: u64, number: u32) {
     let kept = !changes_nothing(kind, number) | same(whole, copied, START, END);
     let rows_kept = (kind != attempts::WITHDRAW) | same(whole, copied, ROWS, END);
-    judge(book, is_allowed(kind, number));
+    judge(book, may_give(copied, kind, number));
     judge(book, outside_kept(whole, copied));
     judge(book, kept & rows_kept);
-}
-
-// A call is counted by its kind, and by its number; a step or a run of a station with no unfinished call once more.
-fn count_call(book: &mut [u64], kind: u64, number: u32) {
-    count(book, at(AT_CALLS, kind));
-    count(book, at(AT_NUMBERS, number as u64));
-    let moves = (kind == attempts::STEP) | (kind == attempts::RUN);
-    if moves & (number == 10) {
-        count(book, AT_REFUSED);
-    }
 }
 
 // A kind of call for the middle part.
@@ -146,11 +133,11 @@ fn some_damage(whole: &mut [u32], book: &mut [u64], often: u64) {
 }
 
 // The middle part is opened, whatever it holds. Gives the number of the opening, or that of the audit, which says yes.
-fn open_within(whole: &mut [u32]) -> u32 {
+fn open_within(whole: &mut [u32], scale: Scale) -> u32 {
     if whole.len() < END {
         return 99;
     }
-    let number = openings::open::open(&mut whole[START..END], PLACES, LIMIT);
+    let number = openings::open::open(&mut whole[START..END], PLACES, LIMIT, scale);
     if number != 0 {
         return number;
     }
@@ -159,8 +146,9 @@ fn open_within(whole: &mut [u32]) -> u32 {
 
 // An opening is accepted, and leaves the words around the middle part.
 fn judged_opening(whole: &mut [u32], copied: &mut [u32], book: &mut [u64]) {
+    let scale = some_scale(book);
     copy(whole, copied);
-    let number = open_within(whole);
+    let number = open_within(whole, scale);
     judge(book, number == 0);
     judge(book, outside_kept(whole, copied));
 }
@@ -190,59 +178,6 @@ fn rounds(whole: &mut [u32], copied: &mut [u32], book: &mut [u64]) {
     }
 }
 
-// A count and what it counts, on a line.
-fn say(name: &[u8], n: u64) {
-    io::write_all(STDOUT_FILENO, name);
-    io::print_decimal(STDOUT_FILENO, n);
-    io::write_all(STDOUT_FILENO, b"\n");
-}
-
-// A line for each number that a call can give.
-fn say_numbers(book: &[u64]) {
-    for number in 0..13u64 {
-        io::write_all(STDOUT_FILENO, b"calls that gave ");
-        io::print_decimal(STDOUT_FILENO, number);
-        say(b": ", get(book, at(AT_NUMBERS, number)));
-    }
-}
-
-// The calls of each kind.
-fn say_calls(book: &[u64]) {
-    say(b"words damaged: ", get(book, AT_DAMAGED));
-    say(b"submissions: ", get(book, at(AT_CALLS, attempts::SUBMIT)));
-    say(b"steps: ", get(book, at(AT_CALLS, attempts::STEP)));
-    say(b"runs: ", get(book, at(AT_CALLS, attempts::RUN)));
-    say(b"steps and runs refused with 10: ", get(book, AT_REFUSED));
-}
-
-// The rest of them.
-fn say_more_calls(book: &[u64]) {
-    say(b"takings: ", get(book, at(AT_CALLS, attempts::TAKE)));
-    say(
-        b"withdrawals: ",
-        get(book, at(AT_CALLS, attempts::WITHDRAW)),
-    );
-    say(b"reports: ", get(book, at(AT_CALLS, attempts::REPORT)));
-    say(b"audits: ", get(book, at(AT_CALLS, attempts::AUDIT)));
-    say(
-        b"openings that are refused: ",
-        get(book, at(AT_CALLS, attempts::OPEN)),
-    );
-}
-
-// The audits that said no, the checks, and the wrong ones.
-fn say_checks(book: &[u64]) {
-    say(
-        b"audits that said no: ",
-        get(book, at(AT_NUMBERS, attempts::NO as u64)),
-    );
-    say(
-        b"checks of a number, of the words outside, of the words kept: ",
-        get(book, AT_CHECKS),
-    );
-    say(b"wrong: ", get(book, AT_WRONG));
-}
-
 // The rounds from a seed, and what was counted.
 fn run(number: u32) {
     let mut whole = [0u32; 1000];
@@ -251,10 +186,7 @@ fn run(number: u32) {
     fill(&mut whole, 1515870810);
     seed(&mut book, number);
     rounds(&mut whole, &mut copied, &mut book);
-    say_calls(&book);
-    say_more_calls(&book);
-    say_numbers(&book);
-    say_checks(&book);
+    say_all(&book);
 }
 
 // The rounds from a seed that was given, which is told first. The generator cannot begin with 0.

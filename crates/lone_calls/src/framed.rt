@@ -13,14 +13,19 @@ fn number_of(line: Line) -> u32 {
 }
 
 // The lowest byte of a number.
-fn low(x: u32) -> u8 {
+pub fn low(x: u32) -> u8 {
     (x % 256) as u8
+}
+
+// The number of the line of the first frame.
+pub fn first_number(words: &mut [u32], bytes: &[u8]) -> u32 {
+    number_of(next_line(words, bytes, 0))
 }
 
 // The line of the first bytes, n of them, at most all.
 fn line_of_first(words: &mut [u32], bytes: &[u8], n: usize) -> u32 {
     if n <= bytes.len() {
-        number_of(next_line(words, &bytes[0..n], 0))
+        first_number(words, &bytes[0..n])
     } else {
         99
     }
@@ -33,6 +38,16 @@ pub fn framed(words: &mut [u32], n: u32, length: u32, kind: u32) -> u32 {
         low(length / 256),
         low(kind),
         low(kind / 256),
+        0,
+        0,
+        0,
+        0,
+        0,
+        0,
+        0,
+        0,
+        0,
+        0,
         0,
         0,
         0,

@@ -1,6 +1,8 @@
 // Calls on the index alone, from the items of a text: each gives the number that its item says, and a refused one leaves every word. An item has
-// a capital letter for the call, how many words it is lent, four arguments and the number.
+// a capital letter for the call, how many words it is lent, four arguments and the number; one that opens with factors, six arguments and the number.
 use crate::framed::framed;
+use crate::opened::opened_plain;
+use crate::opened::opened_scaled;
 use audits::audit::audit;
 use calls::take::Taking;
 use openings::open::open;
@@ -10,6 +12,8 @@ use plain_list::text::Item;
 use plain_list::verdict::judge;
 use plain_list::verdict::tried;
 use points::point::Point;
+use points::scale::Scale;
+use points::scale::plain_scale;
 use reports::report::read_report;
 use runs::run::run;
 use steps::step::step;
@@ -19,6 +23,7 @@ use takings::take::take;
 use trial::cells::copy;
 use trial::cells::put_word;
 use trial::cells::same_from;
+use trial::cells::word;
 use words::layout::words_for;
 ghost use Prim.Native.Nat.{_<_};
 
@@ -58,14 +63,28 @@ fn taken(words: &mut [u32], s: u32, code: u32) -> u32 {
     }
 }
 
-// The call of an item, and its number. Places and limit of an opening; station, kind, weight of a point of grade 12 and curve of a submission;
-// the station of a step, a run, a taking and a withdrawal (D), and of a taking the code that its answer may have, 0 where it may be any; the bytes there, the
-// length and the kind of a frame; an offset and the word that is written there.
+// The factors of an item, behind its places and its limit.
+fn scale_given(n: [u32; 9]) -> Scale {
+    Scale {
+        weight: n[3],
+        moisture: n[4],
+        speed: n[5],
+        draw: n[6],
+    }
+}
+
+// The call of an item, and its number. Places and limit of an opening (O, and J as a frame), and the four factors of one that has them (X, and G as a
+// frame); station, kind, weight of a point of grade 12 and curve of a submission; the station of a step, a run, a taking and a withdrawal (D), and of a
+// taking the code that its answer may have, 0 where it may be any; the bytes there, the length and the kind of a frame; an offset and the word that is
+// written there (W) or stands there (V).
 fn perform(words: &mut [u32], item: Item) -> u32 {
     let n = item.n;
     let letter = item.letter;
     match letter {
-        b'O' => open(words, n[1], n[2]),
+        b'O' => open(words, n[1], n[2], plain_scale()),
+        b'X' => open(words, n[1], n[2], scale_given(n)),
+        b'J' => opened_plain(words, n),
+        b'G' => opened_scaled(words, n),
         b'S' => submit(words, n[1], n[2], point_of(at_weight(12, n[3])), n[4]),
         b'T' => step(words, n[1]),
         b'R' => run(words, n[1]),
@@ -75,6 +94,7 @@ fn perform(words: &mut [u32], item: Item) -> u32 {
         b'A' => audited(words),
         b'F' => framed(words, n[1], n[2], n[3]),
         b'W' => write(words, n[1], n[2]),
+        b'V' => stands(words, n[1], n[2]),
         _ => NEVER,
     }
 }
@@ -83,6 +103,15 @@ fn perform(words: &mut [u32], item: Item) -> u32 {
 fn write(words: &mut [u32], at: u32, value: u32) -> u32 {
     put_word(words, at as usize, value);
     0
+}
+
+// Whether a word stands at an offset: 0, or a number that no call gives.
+fn stands(words: &[u32], at: u32, value: u32) -> u32 {
+    if word(words, at as usize) == value {
+        0
+    } else {
+        NEVER
+    }
 }
 
 // A word as a length.
@@ -100,25 +129,41 @@ fn perform_in(words: &mut [u32], length: usize, item: Item) -> u32 {
     perform(&mut words[0..length], item)
 }
 
+// Whether an item opens.
+fn opens(item: Item) -> bool {
+    (item.letter == b'O') | (item.letter == b'J') | opens_scaled(item)
+}
+
+// Whether an item opens with factors.
+fn opens_scaled(item: Item) -> bool {
+    (item.letter == b'X') | (item.letter == b'G')
+}
+
 // Where the words begin that a call must leave: all of them for a refusal, and those past its rows for an opening.
 fn kept_from(item: Item, number: u32) -> usize {
     if number != 0 {
         return 0;
     }
-    if item.letter != b'O' {
+    if !opens(item) {
         return usize::MAX;
     }
     let n = item.n;
     words_for(n[1])
 }
 
-// An item is judged: the number, which stands sixth, and the words kept. A letter that is none of these is wrong, whatever number it says.
+// The number that an item says.
+fn due_of(item: Item) -> u32 {
+    let n = item.n;
+    if opens_scaled(item) { n[7] } else { n[5] }
+}
+
+// An item is judged: the number, and the words kept. A letter that is none of these is wrong, whatever number it says.
 pub fn judged(words: &mut [u32], copied: &mut [u32], book: &mut [u64], item: Item) {
     let n = item.n;
     tried(book);
     copy(words, copied);
     let number = perform_in(words, length_of(n[0]), item);
-    judge(book, (number == n[5]) & (number != NEVER));
+    judge(book, (number == due_of(item)) & (number != NEVER));
     judge(book, same_from(words, copied, kept_from(item, number)));
 }
 
@@ -172,7 +217,7 @@ fn end_due(n: usize) -> u32 {
 
 // An add of a point at one of the ends, on a new index, which is copied before.
 fn end_number(words: &mut [u32], copied: &mut [u32], n: usize) -> u32 {
-    open(words, 1, 10);
+    open(words, 1, 10, plain_scale());
     copy(words, copied);
     submit(words, 3, 1, point_with(n / 4, end_at(&ENDS, n)), 41)
 }

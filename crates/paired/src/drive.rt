@@ -9,10 +9,13 @@ use plain_list::book::at_code;
 use plain_list::book::plain_of;
 use plain_list::book::point_of;
 use plain_list::book::same_plain;
+use plain_list::opening;
 use plain_list::own;
 use plain_list::reference;
+use plain_list::scale::PlainScale;
 use plain_list::stretch;
 use plain_list::verdict::judge;
+use points::scale::Scale;
 use reports::report::read_report;
 use stations::answer::Answer;
 use stations::answer::Waiting;
@@ -31,12 +34,31 @@ pub fn most_steps(book: &[u64]) -> u64 {
     }
 }
 
-// A new history of the index and of the table.
-pub fn open(words: &mut [u32], book: &mut [u64], places: u32, limit: u32) {
-    let number = openings::open::open(words, places, limit);
-    reference::begin(book, places, limit);
-    stretch::begin(book);
-    judge(book, number == 0);
+// The factors for a call of the index.
+fn scale_of(scale: PlainScale) -> Scale {
+    Scale {
+        weight: scale.weight,
+        moisture: scale.moisture,
+        speed: scale.speed,
+        draw: scale.draw,
+    }
+}
+
+// An opening. One that is accepted begins a new history of the index and of the table.
+pub fn open(
+    words: &mut [u32],
+    book: &mut [u64],
+    places: u32,
+    limit: u32,
+    scale: PlainScale,
+) -> u32 {
+    let number = openings::open::open(words, places, limit, scale_of(scale));
+    let due = opening::open(book, words.len(), places, limit, scale);
+    judge(book, number == due);
+    if number == 0 {
+        stretch::begin(book);
+    }
+    number
 }
 
 // A submission.

@@ -1,5 +1,6 @@
 // Long random histories over all eight stations, from the fixed generator, each event judged by the plain table.
 use crate::drive;
+use crate::factors::some_scale;
 use plain_list::book::AT_HELD;
 use plain_list::book::PlainPoint;
 use plain_list::list::record_point;
@@ -14,8 +15,9 @@ use trial::cells::same_from;
 use trial::random::below;
 use words::layout::words_for;
 
-// A kind of history: its opening, how many weights its points have, a code that must come up, how many histories and their events, whether
-// the audit is asked after each event, and after how many events each unfinished call is tried alone.
+// A kind of history: places and limit of its openings, how many weights its points have, a code that must come up, how many histories and their events,
+// whether the audit is asked after each event, after how many events each unfinished call is tried alone, and whether moisture, speed and draw are
+// drawn from all of their ranges, of which there are three of each else.
 pub struct Plan {
     pub places: u32,
     pub limit: u32,
@@ -25,6 +27,7 @@ pub struct Plan {
     pub events: u64,
     pub audited: bool,
     pub alone: u64,
+    pub spread: bool,
 }
 
 // A station; now and then one that there is not.
@@ -63,13 +66,18 @@ pub fn some_grade(book: &mut [u64]) -> u64 {
     }
 }
 
+// A coordinate of three, or of so many.
+fn some_coordinate(book: &mut [u64], spread: bool, count: u64) -> u64 {
+    below(book, if spread { count } else { 3 })
+}
+
 // A point of the plan; now and then one out of range.
 fn new_point(book: &mut [u64], plan: Plan) -> PlainPoint {
     let grade = some_grade(book);
     let weight = below(book, plan.weights);
-    let moisture = below(book, 3);
-    let speed = below(book, 3);
-    let draw = below(book, 3);
+    let moisture = some_coordinate(book, plan.spread, 10001);
+    let speed = some_coordinate(book, plan.spread, 30001);
+    let draw = some_coordinate(book, plan.spread, 4001);
     let past = below(book, 64) == 0;
     PlainPoint {
         grade: grade,
@@ -159,19 +167,41 @@ fn next_event(words: &mut [u32], copied: &mut [u32], book: &mut [u64], plan: Pla
     pause(words, copied, book, n, plan.alone);
 }
 
-// The events of a history that was begun, and an audit at the end.
-pub fn events(words: &mut [u32], copied: &mut [u32], book: &mut [u64], plan: Plan) {
-    for n in 0..plan.events {
+// The events of a history that was begun, from one number up to another, and an audit at the end.
+fn events(
+    words: &mut [u32],
+    copied: &mut [u32],
+    book: &mut [u64],
+    plan: Plan,
+    first: u64,
+    end: u64,
+) {
+    for n in first..end {
         next_event(words, copied, book, plan, n);
     }
     drive::judge_audit(words, book);
 }
 
-// A history from its opening.
+// The index is opened with factors that are drawn, whatever the stations are doing, and events follow.
+fn opened_events(
+    words: &mut [u32],
+    copied: &mut [u32],
+    book: &mut [u64],
+    plan: Plan,
+    first: u64,
+    end: u64,
+) {
+    let scale = some_scale(book);
+    drive::open(words, book, plan.places, plan.limit, scale);
+    events(words, copied, book, plan, first, end);
+}
+
+// A history from its opening. Half way it is opened again, with other factors.
 fn history(words: &mut [u32], copied: &mut [u32], book: &mut [u64], plan: Plan, number: u32) {
+    let end = plan.events;
     begin(book, number);
-    drive::open(words, book, plan.places, plan.limit);
-    events(words, copied, book, plan);
+    opened_events(words, copied, book, plan, 0, end / 2);
+    opened_events(words, copied, book, plan, end / 2, end);
 }
 
 // Histories of one plan with different seeds.
@@ -219,11 +249,12 @@ pub fn plan_of(n: [u32; 9]) -> Plan {
         events: n[5] as u64,
         audited: n[6] == 1,
         alone: n[7] as u64,
+        spread: n[8] == 1,
     }
 }
 
 // One history on the index as it is, of the plan of an item.
 pub fn busy(words: &mut [u32], copied: &mut [u32], book: &mut [u64], n: [u32; 9]) {
     begin(book, 2026);
-    events(words, copied, book, plan_of(n));
+    events(words, copied, book, plan_of(n), 0, n[5] as u64);
 }

@@ -1,6 +1,8 @@
 // Two parties, each with calls or single events in a section of a text: their events in every order.
 use crate::drive;
 use crate::script;
+use crate::script::Call;
+use crate::script::call_of;
 use plain_list::book::AT_PARTIES;
 use plain_list::reference;
 use plain_list::text::Item;
@@ -25,14 +27,15 @@ const ONE: u32 = 3;
 const OTHER: u32 = 4;
 
 // The next event of a whole call: its submission, a step, or its taking, which counts.
-fn call_event(words: &mut [u32], book: &mut [u64], n: [u32; 9], party: usize) {
-    match reference::state(book, n[0]) {
-        0 => script::submit(words, book, n),
+fn call_event(words: &mut [u32], book: &mut [u64], call: Call, party: usize) {
+    let s = call.station;
+    match reference::state(book, s) {
+        0 => script::submit(words, book, call),
         1 => {
-            drive::step(words, book, n[0]);
+            drive::step(words, book, s);
         }
         _ => {
-            script::take(words, book, n);
+            script::take(words, book, call);
             count(book, party);
         }
     }
@@ -52,12 +55,11 @@ fn single_event(words: &mut [u32], book: &mut [u64], item: Item, party: usize) {
 // The next event of a party; none where all its items are done.
 fn act(words: &mut [u32], book: &mut [u64], text: &[u8], section: u32, party: usize) {
     let item = next_item(book, text, section, party);
-    let n = item.n;
     let letter = item.letter;
     match letter {
         0 => {}
-        b'c' => {
-            call_event(words, book, n, party);
+        b'c' | b'f' => {
+            call_event(words, book, call_of(item), party);
             drive::judge_event(words, book);
         }
         _ => single_event(words, book, item, party),

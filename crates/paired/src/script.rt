@@ -1,18 +1,72 @@
 // Events on the index and on the plain table, from the items of a text. An item has a letter for the event, station, kind, grade, weight, curve,
-// and the one curve and the one code that the answer may have, 0 where it may be any.
+// and the one curve and the one code that the answer may have, 0 where it may be any. With the letters f and g it has a whole point: station, kind, grade,
+// weight, moisture, speed, draw counted from -2,000, curve, and the one curve that the answer may have.
 use crate::drive;
+use plain_list::book::PlainPoint;
 use plain_list::book::at_weight;
 use plain_list::reference;
+use plain_list::scale::PlainScale;
+use plain_list::scale::ones;
 use plain_list::text::Item;
 use plain_list::verdict::judge;
 use reports::report::read_report;
 use stations::answer::Waiting;
 use stations::answer::read_waiting;
 
-// The submission of an item.
-pub fn submit(words: &mut [u32], book: &mut [u64], n: [u32; 9]) {
+// The call of an item, with the one curve and the one code that its answer may have.
+pub struct Call {
+    pub station: u32,
+    pub kind: u32,
+    pub point: PlainPoint,
+    pub curve: u32,
+    pub only_curve: u32,
+    pub only_code: u32,
+}
+
+// The call of an item with a grade and a weight.
+fn short_call(n: [u32; 9]) -> Call {
+    Call {
+        station: n[0],
+        kind: n[1],
+        point: at_weight(n[2], n[3]),
+        curve: n[4],
+        only_curve: n[5],
+        only_code: n[6],
+    }
+}
+
+// The call of an item with a whole point.
+fn whole_call(n: [u32; 9]) -> Call {
     let p = at_weight(n[2], n[3]);
-    drive::submit(words, book, n[0], n[1], p, n[4]);
+    Call {
+        station: n[0],
+        kind: n[1],
+        point: PlainPoint {
+            grade: p.grade,
+            weight: p.weight,
+            moisture: n[4] as u64,
+            speed: n[5] as u64,
+            draw: n[6] as u64,
+        },
+        curve: n[7],
+        only_curve: n[8],
+        only_code: 0,
+    }
+}
+
+// The call of an item, by its letter.
+pub fn call_of(item: Item) -> Call {
+    let n = item.n;
+    if (item.letter == b'f') | (item.letter == b'g') {
+        whole_call(n)
+    } else {
+        short_call(n)
+    }
+}
+
+// The submission of a call.
+pub fn submit(words: &mut [u32], book: &mut [u64], call: Call) {
+    drive::submit(words, book, call.station, call.kind, call.point, call.curve);
 }
 
 // Whether the answer that waits at a station has this curve, or no record, and this code; any curve and any code where 0 is given.
@@ -26,18 +80,18 @@ fn may_answer(words: &[u32], s: u32, curve: u32, code: u32) -> bool {
     }
 }
 
-// The taking of an item, with the curve and the code that it may have.
-pub fn take(words: &mut [u32], book: &mut [u64], n: [u32; 9]) {
-    let s = n[0];
-    judge(book, may_answer(words, s, n[5], n[6]));
+// The taking of an answer, with the curve and the code that it may have.
+pub fn take(words: &mut [u32], book: &mut [u64], call: Call) {
+    let s = call.station;
+    judge(book, may_answer(words, s, call.only_curve, call.only_code));
     drive::take(words, book, s);
 }
 
-// The whole call of an item.
-fn call(words: &mut [u32], book: &mut [u64], n: [u32; 9]) {
-    submit(words, book, n);
-    drive::run(words, book, n[0]);
-    take(words, book, n);
+// A whole call.
+fn run_call(words: &mut [u32], book: &mut [u64], call: Call) {
+    submit(words, book, call);
+    drive::run(words, book, call.station);
+    take(words, book, call);
 }
 
 // The eight calls of an item, each at a weight that lies so far from the one before it.
@@ -90,6 +144,37 @@ fn judge_taken(words: &[u32], book: &mut [u64], n: u32) {
     judge(book, report.taken == n as u64);
 }
 
+// A number of so many millions and a rest.
+fn in_millions(millions: u32, rest: u32) -> u64 {
+    1000000 * (millions as u64) + (rest as u64)
+}
+
+// The answer that waits at a station has this square.
+fn judge_square(words: &[u32], book: &mut [u64], s: u32, square: u64) {
+    let right = match read_waiting(words, s) {
+        Waiting::Nothing => false,
+        Waiting::Given(answer) => answer.square == square,
+    };
+    judge(book, right);
+}
+
+// The factors of an opening: four ones where all four are left out.
+fn scale_given(n: [u32; 9]) -> PlainScale {
+    let none = (n[2] == 0) & (n[3] == 0) & (n[4] == 0) & (n[5] == 0);
+    let given = PlainScale {
+        weight: n[2],
+        moisture: n[3],
+        speed: n[4],
+        draw: n[5],
+    };
+    if none { ones() } else { given }
+}
+
+// An opening, accepted or not.
+fn opening(words: &mut [u32], book: &mut [u64], n: [u32; 9]) {
+    drive::open(words, book, n[0], n[1], scale_given(n));
+}
+
 // A single step.
 fn single_step(words: &mut [u32], book: &mut [u64], s: u32) {
     drive::step(words, book, s);
@@ -100,20 +185,21 @@ fn take_back(words: &mut [u32], book: &mut [u64], s: u32) {
     drive::withdraw(words, book, s);
 }
 
-// The event of an item: o an opening with its places and limit, c a whole call, s a submission, t a step, r a run, k a taking, w a withdrawal, n the
-// places taken, e eight calls at once, a turns of all stations. Any other letter is wrong.
+// The event of an item: o an opening with its places, limit and factors, c or f a whole call, s or g a submission, t a step, r a run, k a taking, w a
+// withdrawal, n the places taken, z the square that waits, in millions and the rest, e eight calls at once, a turns of all stations. Any other letter is wrong.
 fn perform(words: &mut [u32], book: &mut [u64], item: Item) {
     let n = item.n;
     let letter = item.letter;
     match letter {
-        b'o' => drive::open(words, book, n[0], n[1]),
-        b'c' => call(words, book, n),
-        b's' => submit(words, book, n),
+        b'o' => opening(words, book, n),
+        b'c' | b'f' => run_call(words, book, call_of(item)),
+        b's' | b'g' => submit(words, book, call_of(item)),
         b't' => single_step(words, book, n[0]),
         b'r' => drive::run(words, book, n[0]),
-        b'k' => take(words, book, n),
+        b'k' => take(words, book, call_of(item)),
         b'w' => take_back(words, book, n[0]),
         b'n' => judge_taken(words, book, n[0]),
+        b'z' => judge_square(words, book, n[0], in_millions(n[1], n[2])),
         b'e' => eight(words, book, n),
         b'a' => rounds(words, book, turns_of(n[0])),
         _ => judge(book, false),

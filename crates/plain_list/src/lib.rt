@@ -2,10 +2,12 @@
 pub mod book;
 pub mod given;
 pub mod list;
+pub mod opening;
 pub mod own;
 pub mod parts;
 pub mod reference;
 pub mod removals;
+pub mod scale;
 pub mod seeds;
 pub mod stretch;
 pub mod text;

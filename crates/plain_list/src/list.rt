@@ -6,6 +6,8 @@ use crate::book::at_record;
 use crate::book::put_point;
 use crate::book::read_point;
 use crate::book::same_plain;
+use crate::scale::PlainScale;
+use crate::scale::read_scale;
 use trial::cells::get;
 use trial::cells::less;
 use trial::cells::more;
@@ -65,12 +67,22 @@ fn squared(d: u64) -> u64 {
     if d < 4294967296 { d * d } else { 0 }
 }
 
-// The square of two points: the sum of the squared differences on axes 2 to 5.
-fn square(a: PlainPoint, b: PlainPoint) -> u64 {
-    let weight = squared(apart(a.weight, b.weight));
-    let moisture = squared(apart(a.moisture, b.moisture));
-    let speed = squared(apart(a.speed, b.speed));
-    let draw = squared(apart(a.draw, b.draw));
+// A squared difference as often as its factor says, 0 for numbers past every range.
+fn times(factor: u32, x: u64) -> u64 {
+    if factor < 1024 {
+        if x < 18014398509481984 {
+            return (factor as u64) * x;
+        }
+    }
+    0
+}
+
+// The square of two points: the sum of the squared differences on axes 2 to 5, each times its factor.
+fn square(scale: PlainScale, a: PlainPoint, b: PlainPoint) -> u64 {
+    let weight = times(scale.weight, squared(apart(a.weight, b.weight)));
+    let moisture = times(scale.moisture, squared(apart(a.moisture, b.moisture)));
+    let speed = times(scale.speed, squared(apart(a.speed, b.speed)));
+    let draw = times(scale.draw, squared(apart(a.draw, b.draw)));
     let first = std::num::wrapping_add_u64(weight, moisture);
     let second = std::num::wrapping_add_u64(speed, draw);
     std::num::wrapping_add_u64(first, second)
@@ -107,9 +119,9 @@ fn better(best: Due, p: PlainPoint, far: u64) -> bool {
 }
 
 // The best so far, or a record of the target's grade that is better.
-fn considered(book: &[u64], i: u64, target: PlainPoint, best: Due) -> Due {
+fn considered(book: &[u64], scale: PlainScale, i: u64, target: PlainPoint, best: Due) -> Due {
     let p = record_point(book, i);
-    let far = square(target, p);
+    let far = square(scale, target, p);
     if (p.grade == target.grade) & better(best, p, far) {
         Due {
             code: 8,
@@ -124,6 +136,7 @@ fn considered(book: &[u64], i: u64, target: PlainPoint, best: Due) -> Due {
 
 // The answer of a nearest for the records held now.
 pub fn nearest(book: &[u64], target: PlainPoint) -> Due {
+    let scale = read_scale(book);
     let mut best = Due {
         code: 9,
         point: target,
@@ -131,7 +144,7 @@ pub fn nearest(book: &[u64], target: PlainPoint) -> Due {
         square: 0,
     };
     for i in 0..get(book, AT_HELD) {
-        best = considered(book, i, target, best);
+        best = considered(book, scale, i, target, best);
     }
     best
 }

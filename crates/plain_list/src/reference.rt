@@ -28,23 +28,6 @@ pub const UNFINISHED: u64 = 1;
 
 pub const WAITING: u64 = 2;
 
-// A station is idle, and has made no change.
-fn begin_station(book: &mut [u64], s: u32) {
-    put(book, at_station(s, 0), IDLE);
-    put(book, at_changes(s), 0);
-}
-
-// Nothing is held or counted, and every station is idle.
-pub fn begin(book: &mut [u64], places: u32, limit: u32) {
-    put(book, AT_PLACES, places as u64);
-    put(book, AT_LIMIT, limit as u64);
-    put(book, AT_HELD, 0);
-    put(book, AT_AWAITED, 0);
-    for s in 0..8u32 {
-        begin_station(book, s);
-    }
-}
-
 // The state of a station.
 pub fn state(book: &[u64], s: u32) -> u64 {
     get(book, at_station(s, 0))

@@ -6,10 +6,10 @@ use lib.ListN.{length}
 use Prim.Native.Nat.{_-_}
 
 abbrev Inv-loop : tie.InvT-loop
-Inv-loop words₀ copied₀ book₀ plan n₀ n-end words copied book n = (length words ≡ length words₀) × (length copied ≡ length copied₀) × (length book ≡ length book₀)
+Inv-loop words₀ copied₀ book₀ plan first end n₀ words copied book n = (length words ≡ length words₀) × (length copied ≡ length copied₀) × (length book ≡ length book₀)
 
 abbrev μ-loop : tie.MeasureT-loop
-μ-loop words₀ copied₀ book₀ plan n₀ n-end words copied book n = n-end - n
+μ-loop words₀ copied₀ book₀ plan first end n₀ words copied book n = end - n
 
 loop-holds : tie.Need-loop-holds Inv-loop μ-loop
 loop-holds c = search needs

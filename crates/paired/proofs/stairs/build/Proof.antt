@@ -11,6 +11,9 @@ Inv-loop words₀ book₀ falling n₀ words book n = (length words ≡ length w
 abbrev μ-loop : tie.MeasureT-loop
 μ-loop words₀ book₀ falling n₀ words book n = 4096 - n
 
+ones-requires : tie.Need-ones-requires Inv-loop μ-loop
+ones-requires c κs = search needs
+
 open-requires : tie.Need-open-requires Inv-loop μ-loop
 open-requires c κs = search needs
 
@@ -50,6 +53,7 @@ build-spec =
     (tie.spec
     Inv-loop
     μ-loop
+    ones-requires
     open-requires
     loop-holds
     weight-at-requires

@@ -4,10 +4,13 @@ use Rattle.plain_list.proofs.list.nearest.Tie as tie
 use Prim.Native.Nat.{_-_}
 
 abbrev Inv-loop : tie.InvT-loop
-Inv-loop book target best₀ i₀ i-end best i = Unit {0}
+Inv-loop book target scale best₀ i₀ i-end best i = Unit {0}
 
 abbrev μ-loop : tie.MeasureT-loop
-μ-loop book target best₀ i₀ i-end best i = i-end - i
+μ-loop book target scale best₀ i₀ i-end best i = i-end - i
+
+read-scale-requires : tie.Need-read-scale-requires Inv-loop μ-loop
+read-scale-requires c κs = search needs
 
 get-requires : tie.Need-get-requires Inv-loop μ-loop
 get-requires c κs = search needs
@@ -36,6 +39,7 @@ nearest-spec =
     (tie.spec
     Inv-loop
     μ-loop
+    read-scale-requires
     get-requires
     loop-holds
     considered-requires

@@ -1,6 +1,6 @@
 use borrow.Author.Needs.{needs}
-use Rattle.plain_list.proofs.reference.begin.Statement.{statement}
-use Rattle.plain_list.proofs.reference.begin.Tie as tie
+use Rattle.plain_list.proofs.opening.begin.Statement.{statement}
+use Rattle.plain_list.proofs.opening.begin.Tie as tie
 use mathlib.Core.Path.{_≡_}
 use lib.ListN.{length}
 use Prim.Native.Nat.{_-_}
@@ -16,6 +16,9 @@ put-requires c κs = search needs
 
 put-requires-2 : tie.Need-put-requires-2 Inv-loop μ-loop
 put-requires-2 c κs = search needs
+
+put-scale-requires : tie.Need-put-scale-requires Inv-loop μ-loop
+put-scale-requires c κs = search needs
 
 put-requires-3 : tie.Need-put-requires-3 Inv-loop μ-loop
 put-requires-3 c κs = search needs
@@ -52,6 +55,7 @@ begin-spec =
     μ-loop
     put-requires
     put-requires-2
+    put-scale-requires
     put-requires-3
     put-requires-4
     loop-holds
