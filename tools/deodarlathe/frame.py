@@ -36,12 +36,15 @@ class Field(NamedTuple):
 
 
 class Shape:
-    """The shape of a kind of frame: name, number, fields, and the layout of its bytes."""
+    """The shape of a kind of frame: number, name, fields, and the layout of its bytes.
 
-    def __init__(self, name, kind, widths):
-        self.name, self.kind = name, kind
-        self.fields = [Field(field, *WIDTHS[width]) for field, width in widths.items()]
-        self.layout = struct.Struct("<HH" + "".join(widths.values()))
+    Its parts are what a line of text has: a word, and after it the fields of that part. The words are its name."""
+
+    def __init__(self, kind, **parts):
+        self.kind, self.name = kind, " ".join(parts)
+        self.parts = {word: [Field(field, *WIDTHS[width]) for field, width in part.items()] for word, part in parts.items()}
+        self.fields = [field for fields in self.parts.values() for field in fields]
+        self.layout = struct.Struct("<HH" + "".join(width for part in parts.values() for width in part.values()))
         self.length = self.layout.size - 2
 
 
@@ -58,15 +61,18 @@ class Stop(NamedTuple):
     number: int
 
 
+OPENING = {"places": "H", "limit": "I"}
+FACTORS = {"weight factor": "H", "moisture factor": "H", "speed factor": "H", "draw factor": "H"}
 STATION = {"station": "B"}
 POINT = {"grade": "H", "weight": "i", "moisture": "i", "speed": "i", "draw": "i"}
 SHAPES = (
-    Shape("open", 1, {"places": "H", "limit": "I"}),
-    Shape("submit", 2, {**STATION, "call": "B", **POINT, "curve": "I"}),
-    Shape("step", 3, STATION),
-    Shape("take", 4, STATION),
-    Shape("run", 5, STATION),
-    Shape("withdraw", 8, STATION),
+    Shape(1, open=OPENING),
+    Shape(2, submit={**STATION, "call": "B", **POINT, "curve": "I"}),
+    Shape(3, step=STATION),
+    Shape(4, take=STATION),
+    Shape(5, run=STATION),
+    Shape(6, open=OPENING, factors=FACTORS),
+    Shape(8, withdraw=STATION),
 )
 BY_NAME = {shape.name: shape for shape in SHAPES}
 BY_KIND = {shape.kind: shape for shape in SHAPES}

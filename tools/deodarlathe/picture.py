@@ -4,6 +4,7 @@ from . import boxes
 from .frame import CALL_NAMES, NEAREST
 from .index import IDLE, UNFINISHED
 from .placement import Box, queue_boxes, queue_groups, tree_boxes
+from .points import AXES, GRADE, ONES
 from .rows import Cut, Leaf
 from .svg import GREY, Drawing
 from .words import CODES, point_words
@@ -100,7 +101,7 @@ def tags(drawing, index, rows):
 
 
 def heading(drawing, title, subtitle, index):
-    """The title, what the frame did, and the counts."""
+    """The title, what the frame did, the counts, and the factors where they are not all 1: the squares shown go by them."""
     drawing.text(MARGIN, 36, title, font_size=18, font_weight="bold")
     drawing.text(MARGIN, 60, subtitle, font_size=14)
     counts = (
@@ -108,6 +109,9 @@ def heading(drawing, title, subtitle, index):
         f"changes {index.changes:,}, of them removals {index.removals:,}; change limit of each station {index.limit:,}"
     )
     drawing.text(MARGIN, 82, counts, fill=GREY)
+    if index.factors != ONES:
+        factors = ", ".join(f"{axis} {factor:,}" for axis, factor in zip(AXES[GRADE + 1:], index.factors))
+        drawing.text(MARGIN, 99, f"factors of the squared differences: {factors}", fill=GREY)
 
 
 def picture(index, title, subtitle):

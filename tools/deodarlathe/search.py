@@ -17,13 +17,14 @@ def search(index, station):
         if track.cursor is not None:
             tour(index, call, track)
     if track.cursor is None and track.missed is None:
-        finish(station)
+        finish(index, station)
 
 
-def consider(call, row):
+def consider(index, call, row):
     """A record that was held at the submission and is of the grade becomes the best where it is chosen over that."""
     if row.added <= call.asof and row.point[0] == call.point[0]:
-        if call.best is None or rank(call.point, row.point) < rank(call.point, call.best[0]):
+        target, factors = call.point, index.factors
+        if call.best is None or rank(target, row.point, factors) < rank(target, call.best[0], factors):
             call.best = row.point, row.curve
 
 
@@ -31,16 +32,18 @@ def look(index, call, track):
     """The first missed row is looked at; the cut that was freed with it is passed over."""
     row = index.rows[track.missed]
     if isinstance(row, Removed):
-        consider(call, row)
+        consider(index, call, row)
     track.missed = row.next
     if row.next is not None and isinstance(index.rows[row.next], Spare):
         track.missed = index.rows[row.next].next
 
 
-def far_open(call, cut, left):
+def far_open(index, call, cut, left):
     """The far side of a cut, whose near side is given, may have the grade and a record to choose."""
     best = call.best[0] if call.best else None
-    return slot_of(call.point) in cut.slots(not left) and not excluded(cut.axis, cut.sum, call.point, best)
+    if slot_of(call.point) not in cut.slots(not left):
+        return False
+    return not excluded(cut.axis, cut.sum, call.point, best, index.factors)
 
 
 def tour(index, call, track):
@@ -49,13 +52,13 @@ def tour(index, call, track):
     if track.up:
         climb(index, call, track, row.parent)
     elif isinstance(row, Leaf):
-        consider(call, row)
+        consider(index, call, row)
         track.up = True
     else:
         left = goes_left(row.axis, row.sum, call.point)
         if slot_of(call.point) in row.slots(left):
             track.cursor = row.child(left)
-        elif far_open(call, row, left):
+        elif far_open(index, call, row, left):
             track.cursor = row.child(not left)
         else:
             track.up = True
@@ -66,16 +69,16 @@ def climb(index, call, track, above):
     if above is not None:
         cut = index.rows[above]
         left = goes_left(cut.axis, cut.sum, call.point)
-        if track.cursor == cut.child(left) and far_open(call, cut, left):
+        if track.cursor == cut.child(left) and far_open(index, call, cut, left):
             track.cursor, track.up = cut.child(not left), False
             return
     track.cursor = above
 
 
-def finish(station):
+def finish(index, station):
     """The answer: the best record with its square, or that the grade has none."""
     call = station.call
     if call.best is None:
         station.answered(NONE_OF_GRADE, call.point)
     else:
-        station.answered(FOUND, *call.best, square(call.point, call.best[0]))
+        station.answered(FOUND, *call.best, square(call.point, call.best[0], index.factors))

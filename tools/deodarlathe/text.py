@@ -5,7 +5,10 @@ Widths alone are looked at: whether a number is in range is for the index to say
 from codecs import BOM_UTF8
 
 from .fault import Fault, listed, shown, whole
-from .frame import ADD, BY_NAME, CALL_NAMES, CALLS, MOST_BYTES, STOPS, Stop, frame_bytes, frames_in
+from .frame import ADD, BY_NAME, CALL_NAMES, CALLS, MOST_BYTES, SHAPES, STOPS, Stop, frame_bytes, frames_in
+
+# by the first word of a line the shape with the most parts; a line may leave out the last of them, which is another kind
+FULLEST = {next(iter(shape.parts)): shape for shape in sorted(SHAPES, key=lambda shape: len(shape.parts))}
 
 
 def lines_of(data):
@@ -61,17 +64,33 @@ def submission_of(words):
     return numbers if given == 8 else numbers + [0]
 
 
+def parts_of(words, shape):
+    """The name and the fields of a call: of a shape that has all parts, as many as its line has."""
+    said, numbers, before = [], [], []
+    for word, fields in shape.parts.items():
+        at = len(said) + len(numbers)
+        if at == len(words):
+            break
+        if words[at] != word:
+            raise Fault(f"word {at + 1}: after {listed(before)} comes {word} or nothing; {shown(words[at])} given")
+        names, given = [field.name for field in fields], len(words) - at - 1
+        last = len(numbers) + len(fields) == len(shape.fields)
+        if given < len(fields) or (last and given > len(fields)):
+            raise Fault(f"{word} takes {listed(names)}; {given} given")
+        said.append(word)
+        numbers += [number_of(words, place, field) for place, field in enumerate(fields, at + 1)]
+        before = names
+    return " ".join(said), numbers
+
+
 def frame_of(words):
     """The bytes of one call, given as the words of its line."""
-    shape = BY_NAME.get(words[0])
+    shape = FULLEST.get(words[0])
     if shape is None:
-        raise Fault(f"word 1: a call is {listed(list(BY_NAME), 'or')}; {shown(words[0])} given")
+        raise Fault(f"word 1: a call is {listed(list(FULLEST), 'or')}; {shown(words[0])} given")
     if shape.name == "submit":
         return frame_bytes("submit", submission_of(words))
-    fields = shape.fields
-    if len(words) - 1 != len(fields):
-        raise Fault(f"{shape.name} takes {listed([field.name for field in fields])}; {len(words) - 1} given")
-    return frame_bytes(shape.name, [number_of(words, at, field) for at, field in enumerate(fields, 1)])
+    return frame_bytes(*parts_of(words, shape))
 
 
 def numbered_frames(data):
@@ -103,9 +122,12 @@ def places_in(data, frames):
 
 
 def line_of(frame):
-    """A frame as a line of text. A curve is left out where the call is no add and the curve is 0."""
+    """A frame as a line of text. A curve is left out where the call is no add and the curve is 0; factors never are, since
+    an opening without them is another kind of frame."""
     if frame.name != "submit":
-        return f"{frame.name} {' '.join(map(str, frame.fields))}"
+        numbers = iter(frame.fields)
+        parts = BY_NAME[frame.name].parts.items()
+        return " ".join(f"{word} {' '.join(str(next(numbers)) for _ in fields)}" for word, fields in parts)
     station, call, *point, curve = frame.fields
     words = [station, CALL_NAMES.get(call, call), *point]
     if call == ADD or curve:

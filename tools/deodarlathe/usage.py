@@ -3,13 +3,14 @@
 WRITE_NOTE = """One call to a line:
 
   open PLACES LIMIT
+  open PLACES LIMIT factors WEIGHT MOISTURE SPEED DRAW
   submit STATION add GRADE WEIGHT MOISTURE SPEED DRAW CURVE
   submit STATION remove|contains|nearest GRADE WEIGHT MOISTURE SPEED DRAW
   step STATION, run STATION, take STATION or withdraw STATION
 
 What follows a '#' is a comment. Numbers are decimal; the call of a submission may be a number, 0 to
-255, and one that is no add may have a curve too. Widths alone are looked at: whether a number is in
-range is for the index to say."""
+255, and one that is no add may have a curve too. An opening without factors has four ones. Widths
+alone are looked at: whether a number is in range is for the index to say."""
 READ_NOTE = """The text writes back as the same bytes. Where the runner would stop, with 13, 14 or 15, a comment
 says so and the status is 1."""
 EXPLAIN_NOTE = """A sentence for each frame that the runner reads: what it did, or why it was refused."""
@@ -18,5 +19,5 @@ not looked at. Cells are parted by commas, semicolons or tabs, and are whole num
 (Rules 1.1, 1.2). The text has a submission, its run and its taking for each record; an opening goes
 before it."""
 CSV_NOTE = """Where no answer was taken its eight cells are empty."""
-DRAW_NOTE = """It shows the tree with its cuts, the queue, the eight stations and where their calls stand. The
-frames are played by a model of the rules."""
+DRAW_NOTE = """It shows the tree with its cuts, the queue, the eight stations and where their calls stand, and the
+factors where they are not all 1. The frames are played by a model of the rules."""

@@ -19,6 +19,7 @@ REFUSALS = {
     11: "what it reads is out of range",
     12: "no answer waits there",
     **STOPS,
+    17: "a factor is not 1 to 1,000",
 }
 
 # the codes of answers (Rules 2.4)
@@ -38,6 +39,7 @@ CODES = {
 # what an accepted frame did, by its name and fields; a submission and a taking have more to say
 DONE = {
     "open": "opened with places {} and limit {}",
+    "open factors": "opened with places {} and limit {}, and factors weight {}, moisture {}, speed {} and draw {}",
     "step": "station {} made a step",
     "run": "station {} ran until it was answered",
     "withdraw": "station {} withdrew its call",

@@ -1,22 +1,30 @@
 """A plain list of records with the calls of eight stations, to judge the model by. It knows no row, no tree and no queue."""
 
 from deodarlathe.frame import ADD, CONTAINS, NEAREST, REMOVE
-from deodarlathe.points import rank, square
+from deodarlathe.points import ONES
+
+
+def square(target, point, factors):
+    """The square, axis by axis: each difference times itself times the factor of its axis."""
+    weight, moisture, speed, draw = (given - held for given, held in zip(target[1:], point[1:]))
+    of_weight, of_moisture, of_speed, of_draw = factors
+    return of_weight * weight * weight + of_moisture * moisture * moisture + of_speed * speed * speed + of_draw * draw * draw
 
 
 class Plain:
     """The records held, the changes of each station, and each removal with the searches that were unfinished at its moment."""
 
-    def __init__(self, places, limit):
-        self.places, self.limit = places, limit
+    def __init__(self, places, limit, factors=ONES):
+        self.places, self.limit, self.factors = places, limit, factors
         self.held, self.changes, self.awaited, self.searches = {}, [0] * 8, [], {}
 
     def submitted(self, station, kind, point):
         """The answer of a nearest is that of its submission."""
         if kind == NEAREST:
             near = [held for held in self.held if held[0] == point[0]]
-            best = min(near, key=lambda held: rank(point, held), default=None)
-            self.searches[station] = (8, best, self.held[best], square(point, best)) if best else (9, point, 0, 0)
+            best = min(near, key=lambda held: (square(point, held, self.factors), -held[1], held), default=None)
+            found = best and (8, best, self.held[best], square(point, best, self.factors))
+            self.searches[station] = found or (9, point, 0, 0)
 
     def ended(self, station):
         """A search is answered or withdrawn: it awaits nothing any more."""

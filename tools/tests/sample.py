@@ -1,4 +1,4 @@
-"""What the tests share: where things are, and the examples with the lines that the runner printed for them."""
+"""What the tests share: where things are, and the examples with the lines of the runner for them."""
 
 from pathlib import Path
 

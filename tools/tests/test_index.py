@@ -8,17 +8,22 @@ from deodarlathe.index import IDLE, UNFINISHED, WAITING, Index
 from deodarlathe.lines import printed
 from deodarlathe.placement import queue_rows
 from deodarlathe.play import play
-from deodarlathe.points import cut_between, goes_left, rank, square
+from deodarlathe.points import ONES, RANGES, cut_between, excluded, goes_left, rank, square
 from deodarlathe.rows import Leaf
 from deodarlathe.text import written
 
 from .plain import Plain
-from .sample import with_lines
+from .sample import EXAMPLES, with_lines
 
 
 def lines_for(text):
     """What the model prints for a text."""
     return printed(played.line for played in play(written(text.encode())))
+
+
+def results_for(text):
+    """The results that the model prints for a text."""
+    return [line.split()[1] for line in lines_for(text).splitlines()[1:]]
 
 
 def leaves_below(index, row):
@@ -55,8 +60,7 @@ class Runner(unittest.TestCase):
             + ["submit 0 5 1 1 0 0 0", "submit 0 nearest 0 1 0 0 0", "submit 0 add 1 1 0 0 0 0", "step 0", "withdraw 0"]
             + ["submit 0 nearest 1 1 0 0 0", "submit 0 nearest 1 1 0 0 0"]
         )
-        results = [line.split()[1] for line in lines_for(text).splitlines()[1:]]
-        self.assertEqual(results, "4 4 1 1 2 2 3 0 5 12 7 8 9 10 10 0 6".split())
+        self.assertEqual(results_for(text), "4 4 1 1 2 2 3 0 5 12 7 8 9 10 10 0 6".split())
 
     def test_no_more_than_the_runner_takes(self):
         lines = lines_for("step 1\n" * 20_000).splitlines()
@@ -128,17 +132,89 @@ class Changes(unittest.TestCase):
         self.assertEqual(self.codes(index, (0, ADD, 1), (0, ADD, 2)), [1, 4])
 
 
+class Factors(unittest.TestCase):
+    """Each squared difference is multiplied by the factor of its axis."""
+
+    RECORDS = "submit 0 add 12 8000 550 9000 0 41\nrun 0\ntake 0\nsubmit 0 add 12 8030 560 9000 0 42\nrun 0\ntake 0\n"
+
+    def nearest(self, opening, target):
+        """What the nearest of two records is answered with."""
+        text = f"{opening}\n{self.RECORDS}submit 7 nearest {target}\nrun 7\ntake 7"
+        return lines_for(text).splitlines()[-1].split(" ", 2)[2]
+
+    def test_nearest(self):
+        target = "12 8020 556 9000 0"
+        plain = "8 12 8030 560 9000 0 42 116"
+        self.assertEqual(self.nearest("open 2 10", target), plain)
+        self.assertEqual(self.nearest("open 2 10 factors 1 1 1 1", target), plain)
+        self.assertEqual(self.nearest("open 2 10 factors 1 100 1 1", target), "8 12 8030 560 9000 0 42 1700")
+        target = "12 8020 554 9000 0"
+        self.assertEqual(self.nearest("open 2 10", target), "8 12 8030 560 9000 0 42 136")
+        self.assertEqual(self.nearest("open 2 10 factors 1 100 1 1", target), "8 12 8000 550 9000 0 41 2000")
+        self.assertEqual(self.nearest("open 2 10 factors 1 100 5 1", "12 8020 554 9001 0"), "8 12 8000 550 9000 0 41 2005")
+
+    def test_the_example_of_a_tissue_machine(self):
+        answers = [played.line.answer for played in play((EXAMPLES / "tissue.frames").read_bytes()) if played.line.answer]
+        self.assertEqual([(answer.curve, answer.square) for answer in answers if answer.code == 8], [(62, 5725), (61, 277000), (61, 277000)])
+
+    def test_a_tie_by_factors(self):
+        self.assertEqual(self.nearest("open 2 10 factors 1 1 1 9", "12 8015 555 9000 0"), "8 12 8030 560 9000 0 42 250")
+        self.assertEqual(self.nearest("open 2 10 factors 1 3 1 1", "12 8020 550 9000 0"), "8 12 8030 560 9000 0 42 400")
+
+    def test_questions(self):
+        text = "\n".join(
+            ["open 1 1 factors 0 1 1 1", "open 1 1 factors 1 0 1 1", "open 1 1 factors 1 1 1001 1", "open 1 1 factors 1 1 1 65535", "step 0"]
+            + ["open 1 0 factors 0 1 1 1", "open 0 0 factors 0 1 1 1", "open 257 1 factors 1 1 1 0", "open 257 1 factors 1 1 1 1"]
+            + ["open 256 1 factors 1000 1 1 1000", "step 0"]
+        )
+        self.assertEqual(results_for(text), "17 17 17 17 4 2 1 17 3 0 10".split())
+
+    def test_a_refused_opening_leaves_the_factors(self):
+        index = Index()
+        self.assertEqual([index.open(4, 10, (1, 9, 1, 4)), index.open(4, 10, (1, 0, 1, 4))], [0, 17])
+        self.assertEqual(index.factors, (1, 9, 1, 4))
+        self.assertEqual((index.open(4, 10), index.factors), (0, ONES))
+
+    def test_greatest_square(self):
+        low, high = zip(*RANGES)
+        self.assertEqual(square(low, high, ONES), 11_015_800_001)
+        self.assertEqual(square(low, high, (1_000,) * 4), 11_015_800_001_000)
+        text = "open 1 1 factors 1000 1000 1000 1000\nsubmit 0 add 1 1 0 0 -2000 1\nrun 0\ntake 0\n"
+        lines = lines_for(text + "submit 0 nearest 1 100000 10000 30000 2000\nrun 0\ntake 0")
+        self.assertEqual(lines.split()[-1], "11015800001000")
+
+    def test_exclusion_goes_by_the_factor_of_its_axis(self):
+        target, best = (1, 100, 0, 0, 0), (1, 90, 0, 0, 0)
+        for axis in (2, 3, 4):
+            own = tuple(5 if axis == other else 1 for other in range(1, 5))
+            others = tuple(1 if axis == other or other == 1 else 5 for other in range(1, 5))
+            self.assertTrue(excluded(axis, 10, target, best, own))
+            for total, factors in ((10, ONES), (8, own), (10, others)):
+                self.assertFalse(excluded(axis, total, target, best, factors))
+            self.assertTrue(excluded(axis, 21, target, best, others))
+            self.assertFalse(excluded(axis, 20, target, best, others))
+
+    def test_cuts_do_not_see_the_factors(self):
+        index = Index()
+        self.assertEqual(index.open(2, 2, (1, 1_000, 1, 1)), 0)
+        for point in ((1, 1, 0, 0, 0), (1, 4, 2, 0, 0)):
+            index.submit(0, ADD, point, 7)
+            index.run(0)
+            index.take(0)
+        self.assertEqual((index.rows[index.root].axis, index.rows[index.root].sum), (1, 5))
+
+
 class Points(unittest.TestCase):
     """The cases P1 to P5 of Rules 13."""
 
     def test_cases(self):
-        self.assertEqual(square((1, 1, 0, 0, -3), (1, 1, 0, 0, 4)), 49)
+        self.assertEqual(square((1, 1, 0, 0, -3), (1, 1, 0, 0, 4), ONES), 49)
         self.assertEqual(cut_between((1, 3, 0, 0, 0), (1, 4, 0, 0, 0)), (1, 7))
         self.assertTrue(goes_left(1, 7, (1, 3, 0, 0, 0)) and not goes_left(1, 7, (1, 4, 0, 0, 0)))
         self.assertTrue(goes_left(4, -7, (1, 1, 0, 0, -4)) and not goes_left(4, -7, (1, 1, 0, 0, -3)))
         self.assertEqual(cut_between((1, 1, 0, 0, 0), (1, 6, 0, 5, 0)), (1, 7))
         target = (1, 9000, 0, 0, 0)
-        self.assertLess(rank(target, (1, 9010, 0, 0, 0)), rank(target, (1, 8990, 0, 0, 0)))
+        self.assertLess(rank(target, (1, 9010, 0, 0, 0), ONES), rank(target, (1, 8990, 0, 0, 0), ONES))
 
 
 class Histories(unittest.TestCase):
@@ -172,8 +248,9 @@ class Histories(unittest.TestCase):
         rng = random.Random(5)
         for _ in range(60):
             places, limit = rng.choice([1, 2, 5, 12, 40]), rng.choice([1, 4, 500_000_000])
-            index, plain = Index(), Plain(places, limit)
-            self.assertEqual(index.open(places, limit), 0)
+            factors = rng.choice([ONES, tuple(rng.choice([1, 2, 9, 1_000]) for _ in range(4))])
+            index, plain = Index(), Plain(places, limit, factors)
+            self.assertEqual(index.open(places, limit, factors), 0)
             for _ in range(400):
                 self.event(rng, index, plain, rng.randrange(8))
             records, rows = leaves_below(index, index.root)

@@ -101,6 +101,12 @@ class Any(unittest.TestCase):
         self.assertEqual([word for word in words if "↓" in word][:8], [f"{s} ↓" for s in range(8)])
         self.assertEqual(len(set(COLOURS)), 8)
 
+    def test_factors_are_told_where_they_are_not_all_one(self):
+        told = "factors of the squared differences: weight 1, moisture 1,000, speed 2, draw 4"
+        self.assertIn(told, words_in(drawn(written(b"open 2 9 factors 1 1000 2 4"), 1)[0]))
+        for text in (b"open 2 9", b"open 2 9 factors 1 1 1 1"):
+            self.assertFalse([word for word in words_in(drawn(written(text), 1)[0]) if word.startswith("factors")])
+
     def test_odd_sum(self):
         self.assertEqual(cut_words(Cut(None, 4, -7, 0, 1)), "draw < -3.5")
         self.assertEqual(cut_words(Cut(None, 1, 20_001, 0, 1)), "weight < 10,000.5")

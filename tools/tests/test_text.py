@@ -11,10 +11,21 @@ from deodarlathe.text import lines_of, places_in, read_back, written
 from .sample import EXAMPLES, with_lines
 
 NEAREST = "submit 2 nearest 12 11500 580 8300 10"
+FOUR = "weight factor, moisture factor, speed factor and draw factor"
 # each text with the fault that it has
 FAULTS = {
     "open 4": "line 1: open takes places and limit; 1 given",
-    "open 4 100 1": "line 1: open takes places and limit; 3 given",
+    "open 4 100 1": "line 1: word 4: after places and limit comes factors or nothing; '1' given",
+    "open 4 100 Factors 1 1 1 1": "line 1: word 4: after places and limit comes factors or nothing; 'Factors' given",
+    "open 4 factors 1 1 1 1": "line 1: word 3: limit is a whole number from 0 to 4,294,967,295; 'factors' given",
+    "open 4 100 factors": f"line 1: factors takes {FOUR}; 0 given",
+    "open 4 100 factors 1 9 1": f"line 1: factors takes {FOUR}; 3 given",
+    "open 4 100 factors 1 9 1 4 1": f"line 1: factors takes {FOUR}; 5 given",
+    "open 4 100 factors 65536 9 1 4": "line 1: word 5: weight factor is a whole number from 0 to 65,535; '65536' given",
+    "open 4 100 factors 1 -9 1 4": "line 1: word 6: moisture factor is a whole number from 0 to 65,535; '-9' given",
+    "open 4 100 factors 1 9 1.5 4": "line 1: word 7: speed factor is a whole number from 0 to 65,535; '1.5' given",
+    "open 4 100 factors 1 9 1 x": "line 1: word 8: draw factor is a whole number from 0 to 65,535; 'x' given",
+    "factors 1 1 1 1": "line 1: word 1: a call is open, submit, step, take, run or withdraw; 'factors' given",
     "step": "line 1: step takes station; 0 given",
     "\n# x\njump 3": "line 3: word 1: a call is open, submit, step, take, run or withdraw; 'jump' given",
     "Open 4 100": "line 1: word 1: a call is open, submit, step, take, run or withdraw; 'Open' given",
@@ -55,6 +66,12 @@ class Write(unittest.TestCase):
 
     def test_step_of_station_2(self):
         self.assertEqual(written(b"step 2"), bytes([3, 0, 3, 0, 2]))
+
+    def test_factors(self):
+        scaled = bytes([16, 0, 6, 0, 64, 0, 0xE8, 3, 0, 0, 1, 0, 9, 0, 1, 0, 4, 0])
+        self.assertEqual(written(b"open 64 1000 factors 1 9 1 4  # much for moisture"), scaled)
+        self.assertEqual(written(b"open 64 1000"), bytes([8, 0, 1]) + scaled[3:10])
+        self.assertEqual(written(b"open 64 1000 factors 1 1000 0 65535")[10:], bytes([1, 0, 0xE8, 3, 0, 0, 0xFF, 0xFF]))
 
     def test_kinds_by_number(self):
         self.assertEqual(written(NEAREST.encode()), written(NEAREST.replace("nearest", "4").encode()))
@@ -104,6 +121,7 @@ class Read(unittest.TestCase):
     def test_text_of_each_kind(self):
         lines = ["open 4 100", "submit 0 add 12 8000 550 9000 0 41", NEAREST, "submit 7 nearest 1 1 0 0 -5 9", "submit 1 9 0 0 0 0 0"]
         lines += ["submit 1 add 0 0 0 0 0 0", "step 9", "take 0", "run 255", "withdraw 1"]
+        lines += ["open 64 1000 factors 1 9 1 4", "open 4 100 factors 1 1 1 1", "open 0 0 factors 0 1001 2 65535"]
         self.assertEqual(read_back(written("\n".join(lines).encode())), (lines, None))
 
     def test_stops(self):
@@ -113,7 +131,10 @@ class Read(unittest.TestCase):
             b"\x03\x00\x03\x00": (13, "the frame is cut short"),
             b"\x00\x00": (14, "there is no such kind of frame"),
             b"\x01\x00\x07": (14, "there is no such kind of frame"),
-            b"\x03\x00\x06\x00\x02": (14, "there is no such kind of frame"),
+            b"\x03\x00\x07\x00\x02": (14, "there is no such kind of frame"),
+            b"\x03\x00\x06\x00\x02": (15, "the length is not that of its kind"),
+            b"\x08\x00\x06\x00\x04\x00\x64\x00\x00\x00": (15, "the length is not that of its kind"),
+            b"\x10\x00\x06\x00\x04\x00\x64\x00\x00\x00\x01\x00\x09\x00\x01\x00\x04": (13, "the frame is cut short"),
             b"\x04\x00\x03\x00\x02\x00": (15, "the length is not that of its kind"),
         }
         for end, (number, wrong) in ends.items():

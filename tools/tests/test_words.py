@@ -80,6 +80,12 @@ class Explain(unittest.TestCase):
         self.assertEqual(words[0], "frame 1: open 2 500000001: refused: 2, the change limit is not 1 to 500,000,000")
         self.assertEqual(words[-1], "frame 8: station 3 took: the station's changes are used up: 1 2 0 0 0")
 
+    def test_factors(self):
+        data = written(b"open 2 1 factors 1 9 1 1001\nopen 2 1 factors 1 9 1 4")
+        words = list(explained(data, [played.line for played in play(data)]))
+        self.assertEqual(words[0], "frame 1: open 2 1 factors 1 9 1 1001: refused: 17, a factor is not 1 to 1,000")
+        self.assertEqual(words[1], "frame 2: opened with places 2 and limit 1, and factors weight 1, moisture 9, speed 1 and draw 4")
+
     def test_more_than_the_runner_takes(self):
         data = written(b"step 1\n" * 20_000)
         words = list(explained(data, [played.line for played in play(data)]))
@@ -87,7 +93,7 @@ class Explain(unittest.TestCase):
 
     def test_every_code_and_refusal_has_words(self):
         self.assertEqual(sorted(CODES), [*range(1, 10), 11])
-        self.assertEqual(sorted(REFUSALS), list(range(1, 16)))
+        self.assertEqual(sorted(REFUSALS), [*range(1, 16), 17])
         for code in CODES:
             answer = Answer(code, (12, 8000, 550, 9000, 0), 0, 0)
             self.assertIn("12 8000 550 9000 0", frame_words(Frame("take", (3,)), Line(1, 0, answer)))
