@@ -11,8 +11,10 @@
 // The words changed one after another before the index is audited and built anew.
 #define AT_ONCE 20
 
-// Mark, places and limit: where one of these is out of range every call is refused with 4, so they stay.
+// Mark, places and limit, and the factors: where one of these is out of range every call is refused with 4, so they stay.
 #define OPENING_WORDS 3
+#define FACTORS 48
+#define FACTOR_WORDS 4
 #define GRADE 12
 
 // The set of grades of a cut has so many slots; grade g is in slot (g - 1) mod SLOTS.
@@ -139,11 +141,21 @@ static void some_call(struct index index, uint32_t records)
     }
 }
 
-// A word of the records or of some row of an index of FEW places becomes another.
+// Whether question 4 asks for a word: mark, places and limit, and the factors.
+static bool asked_first(uint32_t at)
+{
+    return at < OPENING_WORDS || (FACTORS <= at && at < FACTORS + FACTOR_WORDS);
+}
+
+// A word of the records or of some row of an index of FEW places becomes another; none that question 4 asks for.
 static void damage(struct index index)
 {
     uint32_t end = (uint32_t)words_for(random_below(2) ? 0 : FEW);
-    index.words[OPENING_WORDS + random_below(end - OPENING_WORDS)] = random_below(2) ? random_below(64) : NONE;
+    uint32_t at;
+    do
+        at = random_below(end);
+    while (asked_first(at));
+    index.words[at] = random_below(2) ? random_below(64) : NONE;
 }
 
 // Calls on an index of FEW places in which words are changed.
