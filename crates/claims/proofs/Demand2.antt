@@ -4,7 +4,7 @@
 -- [heavier] wins by Rules 1.7; the counts are those of Rules 3; the squared distance goes by the factors of the opening (Rules 1.5).
 -- First the plain table's answers, one by one; then `demand-2`, that a call run alone after any history gives them; then frames.
 use Prim.Native.Nat.{ℕ, suc, _+_, _-_, _*_, _<_}
-use mathlib.Core.Path.{_≡_, refl}
+use mathlib.Core.Path.{_≡_, refl, ap, _∙_}
 use mathlib.Core.Logic.{_↔_, _⊎_, inl, inr}
 use mathlib.Core.Bool.{true}
 use mathlib.Core.List.{List, _++_, List·Memᴰ}
@@ -18,6 +18,7 @@ use Rattle.table.proofs.Answers
 use Rattle.table.specs.Record.{nearestOf}
 use Rattle.table.specs.Call.{nearestAnswer}
 use Rattle.table.proofs.Nearest.{nearest-some, nearest-none}
+use Rattle.table.proofs.Scale.{opened-scale, ends-scale}
 use Rattle.history.proofs.Demand2.{demand-2 as demand-2-alone}
 use Rattle.frames.proofs.WrittenLaws
 use Rattle.frames.proofs.ReadLaws
@@ -122,6 +123,8 @@ pub record AnswersAsTable (start : List ℕ) (places limit : ℕ) (scale : Scale
   pub unfinished : (s : ℕ) → s < 8 → isUnfinished (stateAt (after evs start) s) ≡ busy (history .table evs .stations s)
   -- the counter of a station is the number of changes that the table has counted for it
   pub counters : (s : ℕ) → s < 8 → counterAt (after evs start) s ≡ history .table evs .counters s
+  -- and it goes by the factors of the opening
+  pub factors : history .table evs .scale ≡ scale
   pub alone : (s kind : ℕ) (p : Point) (c : ℕ) → submitOf (after evs start) s kind p c .number ≡ 0 → RunsAlone (after evs start) (history .table evs) places s kind p c
 
 -- "Each call run alone answers as a plain table of records does": after every history from an accepted opening.
@@ -137,6 +140,7 @@ demand-2 words places limit scale e evs =
       submits = λ s kind p c. rw same (x .submits s kind p c);
       unfinished = λ s l. rw same (x .unfinished s l);
       counters = λ s l. rw same (x .counters s l);
+      factors = ap (λ (t : Table). t .scale) same ∙ ends-scale wordIndex evs (x .moments) start (opened places limit scale) (x .table) (x .ends) ∙ opened-scale places limit scale;
       alone = λ s kind p c a.
           let y = x .alone s kind p c a in
           let b : List ℕ = begun (after evs start) s kind p c in
