@@ -1,5 +1,6 @@
 // The moves of a nearest: looks and tours.
 mod look;
 mod progress;
+mod reached;
 pub mod search;
 mod tour;

@@ -1,7 +1,7 @@
 // One step of a nearest call: the tour goes on by five rows, or a missed record is looked at and the tour goes on by three, and the call is answered where nothing
 // is left.
 use crate::look::look;
-use crate::tour::reached_at;
+use crate::reached::reached_at;
 use crate::tour::tour;
 use calls::aim::Aim;
 use calls::progress::Progress;

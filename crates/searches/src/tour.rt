@@ -4,12 +4,14 @@
 // in line.
 use crate::progress::may_find;
 use crate::progress::onward;
-use crate::progress::strayed;
+use crate::reached::NO_SQUARE;
+use crate::reached::go_to;
+use crate::reached::go_up;
+use crate::reached::refused;
 use calls::aim::Aim;
 use calls::progress::Progress;
 use calls::reached::Reached;
 use links::link::is_tree;
-use links::link::parent_of;
 use points::choice::chosen_at;
 use points::choice::far_side_excluded;
 use points::cut::Cut;
@@ -25,55 +27,8 @@ use stations::call::Best;
 use words::layout::NONE;
 use words::word::pick;
 ghost use mathlib.Core.Path.{_≡_};
-ghost use Rattle.calls.specs.Tour.{bestSquare, shutAt};
-ghost use Rattle.calls.specs.Reached.{aboveOf, reachedAt, goTo, goUp, refused, pastNear, pastFar, pastSide, visitSides, visitCut, prevailsAt, downLeaf, visitLeaf, visitRow, atTop, moveTo, moved};
-
-// The best square while there is no best: only a cut on axis 1 excludes its far side then.
-const NO_SQUARE: u64 = 18446744073709551615;
-
-// Down to a child.
-fn go_to(p: Progress, square: u64, child: u32) -> Reached
-    ensures { λ r. ⌜ r ≡ goTo p square child ⌝ }
-{
-    Reached {
-        above: NONE,
-        square: square,
-        progress: onward(p, child, 0, p.best),
-    }
-}
-
-// Up from a row of that parent.
-fn go_up(p: Progress, square: u64, x: u32, parent: u32) -> Reached
-    ensures { λ r. ⌜ r ≡ goUp p square x parent ⌝ }
-{
-    Reached {
-        above: parent,
-        square: square,
-        progress: onward(p, x, 1, p.best),
-    }
-}
-
-// No further.
-fn refused(p: Progress, square: u64, above: u32) -> Reached
-    ensures { λ r. ⌜ r ≡ refused p square above ⌝ }
-{
-    Reached {
-        above: above,
-        square: square,
-        progress: strayed(p),
-    }
-}
-
-// The best square.
-fn best_square(aim: Aim, best: Best) -> u64
-    ensures { λ r. ⌜ r ≡ bestSquare aim best ⌝ }
-{
-    if best.curve == 0 {
-        NO_SQUARE
-    } else {
-        square(aim.scale, aim.point, best.point)
-    }
-}
+ghost use Rattle.calls.specs.Tour.{shutAt};
+ghost use Rattle.calls.specs.Reached.{pastNear, pastFar, pastSide, visitSides, visitCut, prevailsAt, downLeaf, visitLeaf, visitRow, atTop, moveTo, moved};
 
 // Whether the far side of the cut in row x is shut: the target's slot is not among its grades, or it is excluded.
 fn shut_at(words: &[u32], slot: u32, aim: Aim, square: u64, x: u32, cut: Cut, goes: bool) -> bool
@@ -303,27 +258,5 @@ pub(crate) fn tour(words: &[u32], rows: u32, slot: u32, aim: Aim, reached: Reach
     } else {
         let x = pick(p.phase == 0, p.cursor, reached.above);
         move_to(words, rows, slot, aim, reached, x)
-    }
-}
-
-// The parent link of the row where a search stands on its way up.
-fn above_of(words: &[u32], rows: u32, p: Progress) -> u32
-    ensures { λ r. ⌜ r ≡ aboveOf (now (words .entry)) rows p ⌝ }
-{
-    if p.phase == 0 {
-        NONE
-    } else {
-        parent_of(read_row(words, rows, p.cursor))
-    }
-}
-
-// Where the moves of a step begin.
-pub(crate) fn reached_at(words: &[u32], rows: u32, aim: Aim, p: Progress) -> Reached
-    ensures { λ r. ⌜ r ≡ reachedAt (now (words .entry)) rows aim p ⌝ }
-{
-    Reached {
-        above: above_of(words, rows, p),
-        square: best_square(aim, p.best),
-        progress: p,
     }
 }

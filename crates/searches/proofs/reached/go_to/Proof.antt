@@ -1,7 +1,7 @@
--- `searches::tour::go_to` meets its contract. Assumes nothing.
+-- `searches::reached::go_to` meets its contract. Assumes nothing.
 use borrow.Author.Needs.{needs}
-use Rattle.searches.proofs.tour.go_to.Statement.{statement}
-use Rattle.searches.proofs.tour.go_to.Tie as tie
+use Rattle.searches.proofs.reached.go_to.Statement.{statement}
+use Rattle.searches.proofs.reached.go_to.Tie as tie
 use mathlib.Core.Path.{ap}
 use Rattle.calls.specs.declared.progress.Progress.{Progress}
 use Rattle.points.specs.Word.{NONE}

@@ -1,7 +1,7 @@
--- `searches::tour::above_of` meets its contract. Assumes nothing.
+-- `searches::reached::above_of` meets its contract. Assumes nothing.
 use borrow.Author.Needs.{needs}
-use Rattle.searches.proofs.tour.above_of.Statement.{statement}
-use Rattle.searches.proofs.tour.above_of.Tie as tie
+use Rattle.searches.proofs.reached.above_of.Statement.{statement}
+use Rattle.searches.proofs.reached.above_of.Tie as tie
 use borrow.Author.Tests.{eq-eqb, ne-eqb}
 use Rattle.calls.specs.Reached.{aboveOf}
 

@@ -1,7 +1,7 @@
--- `searches::tour::reached_at` meets its contract. Assumes nothing.
+-- `searches::reached::reached_at` meets its contract. Assumes nothing.
 use borrow.Author.Needs.{needs}
-use Rattle.searches.proofs.tour.reached_at.Statement.{statement}
-use Rattle.searches.proofs.tour.reached_at.Tie as tie
+use Rattle.searches.proofs.reached.reached_at.Statement.{statement}
+use Rattle.searches.proofs.reached.reached_at.Tie as tie
 
 above-of-requires : tie.Need-above-of-requires
 above-of-requires c κs = search needs

@@ -1,7 +1,7 @@
--- `searches::tour::refused` meets its contract. Assumes nothing.
+-- `searches::reached::refused` meets its contract. Assumes nothing.
 use borrow.Author.Needs.{needs}
-use Rattle.searches.proofs.tour.refused.Statement.{statement}
-use Rattle.searches.proofs.tour.refused.Tie as tie
+use Rattle.searches.proofs.reached.refused.Statement.{statement}
+use Rattle.searches.proofs.reached.refused.Tie as tie
 use mathlib.Core.Path.{ap}
 use Rattle.calls.specs.declared.progress.Progress.{Progress}
 use Rattle.calls.specs.Reached.{reaching}

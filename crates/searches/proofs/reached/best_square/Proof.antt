@@ -1,7 +1,7 @@
--- `searches::tour::best_square` meets its contract. Assumes nothing.
+-- `searches::reached::best_square` meets its contract. Assumes nothing.
 use borrow.Author.Needs.{needs}
-use Rattle.searches.proofs.tour.best_square.Statement.{statement}
-use Rattle.searches.proofs.tour.best_square.Tie as tie
+use Rattle.searches.proofs.reached.best_square.Statement.{statement}
+use Rattle.searches.proofs.reached.best_square.Tie as tie
 use borrow.Author.Tests.{eq-eqb, ne-eqb}
 
 square-requires : tie.Need-square-requires
