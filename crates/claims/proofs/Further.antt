@@ -1,6 +1,6 @@
 -- What the rules say besides the demands: what an opening leaves (`opening-fresh`, `opening-again`, `opening-beyond`, `opening-kept`), the changes of each station (`changes-counted`), the report (`report-after`), the
 -- audit (`audit-says`, `audit-exact`, `audit-after`), question 11 (`never-11`), runs (`run-is-steps`, `run-after`), the bytes of the frame runner (`runner-places`, `runner-prints`, `runner-ends`), ranges
--- (`point-ranges`, `factor-ranges`), squares (`square-sum`, `square-most`) and the comparison of points (`comparison-tells`).
+-- (`point-ranges`, `factor-ranges`), squares (`square-sum`, `square-most`, `plain-most`) and the comparison of points (`comparison-tells`).
 use Prim.Native.Nat.{ℕ, _+_, _*_, _≤_, _<_}
 use mathlib.Core.Path.{_≡_, refl, sym, ap, _∙_, subst}
 use mathlib.Core.Logic.{_⊎_, _↔_}
@@ -12,7 +12,7 @@ use lib.IntN.{pos, negsuc}
 use lib.Signed.{leZ}
 use lib.Dec.{leb}
 use Rattle.stations.specs.declared.counts.Counts.{Counts}
-use Rattle.claims.specs.Definitions.{Scale, factorsIn, Point, inRange, squaredOf, squareOf, orderOf, comparedOf, Looked}
+use Rattle.claims.specs.Definitions.{Scale, factorsIn, plainScale, Point, inRange, squaredOf, squareOf, orderOf, comparedOf, Looked}
 use Rattle.claims.specs.Definitions.{get, rowAt, Spare, countsAt, counterAt, isIdle, isUnfinished, stateAt, Record, Table, opened, eight, total, taken, Event}
 use Rattle.claims.specs.Definitions.{limitIn, Opened, openedIn, openOf, stepOf, runOf, takeOf, numberOf, reportOf, auditOf, verdictOf, heldIn, recordOf, after, firstNo, Audited, outputOf, begun, printed, lastOutput}
 use Rattle.points.proofs.PointLaws
@@ -195,6 +195,17 @@ square-sum = SquareLaws.square-sum
 
 pub square-most : (scale : Scale) (a b : Point) → factorsIn scale ≡ true → inRange a ≡ true → inRange b ≡ true → squareOf scale a b ≤ 11015800001000
 square-most = SquareLaws.square-le
+
+-- with factors of one it is at most 11,015,800,001: a thousandth of what it is with factors of 1,000
+pub plain-most : (a b : Point) → inRange a ≡ true → inRange b ≡ true → squareOf plainScale a b ≤ 11015800001
+plain-most a b e f =
+    let k : Scale = record { weight = 1000; moisture = 1000; speed = 1000; draw = 1000 } in
+    omega (
+      arith,
+      square-sum plainScale a b (factor-ranges plainScale) e f,
+      square-sum k a b (factor-ranges k) e f,
+      square-most k a b (factor-ranges k) e f,
+    )
 
 -- ---- the comparison of points
 
