@@ -18,6 +18,7 @@ use Rattle.points.specs.declared.cut.Cut.{Cut}
 use Rattle.points.specs.declared.order.Order.{Order}
 use Rattle.points.specs.declared.order.Order.the-variants.{Less, Equal, Greater}
 use Rattle.points.specs.Point.{rangeOf, coordinateOf}
+use Rattle.points.specs.Number.{numberOf}
 use Rattle.points.specs.Order.{byAxis, tieOf, isLess, isEqual}
 use Rattle.points.specs.Square.{gapOf, topped}
 use Rattle.points.specs.Cut.{goesLeft}
@@ -151,10 +152,10 @@ unfolding farGap gapOf goesLeft
 far-gap-le k t p far = go (ltZ (x +ℤ x) s) refl
   where
     x : ℤ
-    x = coordinateOf t (k .axis)
+    x = numberOf t (k .axis)
 
     y : ℤ
-    y = coordinateOf p (k .axis)
+    y = numberOf p (k .axis)
 
     s : ℤ
     s = k .sum
@@ -209,7 +210,7 @@ count-double c d = ap (λ x. c * x) (double-square d) ∙ mul-left-comm c 4 (d *
 
 -- a cut on axis 1 sends points of one grade to one side
 grade-side : (k : Cut) (t p : Point) → k .axis ≡ 1 → sameGrade t p ≡ true → goesLeft k p ≡ goesLeft k t
-unfolding goesLeft
+unfolding goesLeft numberOf
 grade-side k t p e g = rw (e, grade-equal t p g)
 
 not-self : (b : Bool) → b ≡ not b → ⊥

@@ -1,117 +1,150 @@
--- Law 1: two different points get different sides of their cut (`cut-parts`); and that cut can be stored (`cut-in-range`).
+-- Law 1: two different points in range get different sides of their cut, under either rule (`cut-parts`); and that cut can be stored (`cut-in-range`).
 -- Assumes nothing.
 use mathlib.Core.Path.{_≡_, refl, sym, ap, _∙_}
-use mathlib.Core.Bool.{Bool, true, false, not}
+use mathlib.Core.Bool.{Bool, true, false, not, _||_}
 use Prim.Native.Nat.{ℕ, suc, _+_, _≤_, _<_}
 use native.Mathlib.Omega.{arith}
-use borrow.Author.Tests.{ltb-true, ltb-false, lt-ltb, le-ltb, le-leb}
+use borrow.Author.Tests.{ltb-true, ltb-false, lt-ltb, le-ltb, le-leb, eqb-false}
 use native.Mathlib.Decide.{decLe}
-use lib.Dec.{ltb, lit<, lit≤}
-use lib.IntN.{ℤ, pos, negsuc, _+ℤ_}
+use lib.Dec.{ltb, eqb, lit≤}
+use lib.IntN.{ℤ, _+ℤ_}
 use Rattle.points.specs.declared.point.Point.{Point}
-use Rattle.points.specs.declared.cut.Cut.{Cut}
 use Rattle.points.specs.declared.cut.Spread.{Spread}
-use Rattle.points.specs.Signed.{cappedOf}
-use Rattle.points.specs.Point.{rangeOf, coordinateOf, inRange}
+use Rattle.points.specs.Number.{numberOf, numberRangeOf, inRangeBy}
+use Rattle.points.specs.Rule.{shiftOf, axisOf, isAxisBy}
 use Rattle.points.specs.Square.{gapOf}
 use Rattle.points.specs.Cut.{pickSpread, widerOf, spreadOf, widestOf, cutOf, goesLeft}
 use Rattle.points.specs.Word.{sumRangeOf, cutInRange}
 use Rattle.points.proofs.Tests.{and-i}
-use Rattle.points.proofs.IntegerLaws.{raise, Near, near-add, near-more, near-lt, raise-add, raise-inj, ltZ-raise, apart-raise}
-use Rattle.points.proofs.PointLaws.{reach, Within, within-true, range-sound, sum-range-sound, axis-within, coordinates-equal}
+use Rattle.points.proofs.IntegerLaws.{raise, Near, near-add, near-more, raise-add, raise-inj, ltZ-raise, apart-raise}
+use Rattle.points.proofs.PointLaws.{reach, Within, within-true, number-range-sound, sum-range-sound}
+use Rattle.points.proofs.NumberLaws.{capped-plain, number-within, numbers-equal}
 
 -- ---- the widest axis
 
--- a spread of the two points, on an axis from 1 to n
-record Spreads (a b : Point) (n : ℕ) (s : Spread) : Type 0 where
+-- a spread of the two points, on one of the first n axes of the rule
+record Spreads (rule : ℕ) (a b : Point) (n : ℕ) (s : Spread) : Type 0 where
   own : s .gap ≡ gapOf a b (s .axis)
-  least : 1 ≤ s .axis
-  most : s .axis ≤ n
-  widest : (j : ℕ) → 1 ≤ j → j ≤ n → gapOf a b j ≤ s .gap
+  place : ℕ
+  least : 1 ≤ place
+  most : place ≤ n
+  on : s .axis ≡ axisOf rule place
+  widest : (j : ℕ) → 1 ≤ j → j ≤ n → gapOf a b (axisOf rule j) ≤ s .gap
 
-first : (a b : Point) → Spreads a b 1 (spreadOf a b 1)
-unfolding spreadOf
-first a b = record { own = refl; least = omega arith; most = omega arith; widest = λ j h k. let e : j ≡ 1 = omega arith in rw e (omega arith) }
+module _ (rule : ℕ) (a b : Point) where
+  first : Spreads rule a b 1 (spreadOf a b (axisOf rule 1))
+  unfolding spreadOf
+  first = record {
+    own = refl;
+    place = 1;
+    least = omega arith;
+    most = omega arith;
+    on = refl;
+    widest = λ j h k. let e : j ≡ 1 = omega arith in rw e (omega arith);
+  }
 
-next : (a b : Point) (n : ℕ) (s : Spread) → Spreads a b n s → Spreads a b (suc n) (widerOf s (spreadOf a b (suc n)))
-unfolding widerOf spreadOf
-next a b n s w = go (ltb (s .gap) (gapOf a b (suc n))) refl
-  where
-    new : Spread
-    new = record { axis = suc n; gap = gapOf a b (suc n) }
+  next : (n : ℕ) (s : Spread) → Spreads rule a b n s → Spreads rule a b (suc n) (widerOf s (spreadOf a b (axisOf rule (suc n))))
+  unfolding widerOf spreadOf
+  next n s w = go (ltb (s .gap) (gapOf a b (axisOf rule (suc n)))) refl
+    where
+      new : Spread
+      new = record { axis = axisOf rule (suc n); gap = gapOf a b (axisOf rule (suc n)) }
 
-    wider-new : s .gap < gapOf a b (suc n) → (j : ℕ) → 1 ≤ j → j ≤ suc n → gapOf a b j ≤ gapOf a b (suc n)
-    wider-new h j l m = by (decLe j n)
-      where
-        by : Dec (j ≤ n) → gapOf a b j ≤ gapOf a b (suc n)
-        by (yes k) = omega (arith, w .widest j l k)
-        by (no k) = let e : j ≡ suc n = omega arith in rw e (omega arith)
+      wider-new : s .gap < gapOf a b (axisOf rule (suc n)) → (j : ℕ) → 1 ≤ j → j ≤ suc n → gapOf a b (axisOf rule j) ≤ gapOf a b (axisOf rule (suc n))
+      wider-new h j l m = by (decLe j n)
+        where
+          by : Dec (j ≤ n) → gapOf a b (axisOf rule j) ≤ gapOf a b (axisOf rule (suc n))
+          by (yes k) = omega (arith, w .widest j l k)
+          by (no k) = let e : j ≡ suc n = omega arith in rw e (omega arith)
 
-    wider-old : gapOf a b (suc n) ≤ s .gap → (j : ℕ) → 1 ≤ j → j ≤ suc n → gapOf a b j ≤ s .gap
-    wider-old h j l m = by (decLe j n)
-      where
-        by : Dec (j ≤ n) → gapOf a b j ≤ s .gap
-        by (yes k) = w .widest j l k
-        by (no k) = let e : j ≡ suc n = omega arith in rw e h
+      wider-old : gapOf a b (axisOf rule (suc n)) ≤ s .gap → (j : ℕ) → 1 ≤ j → j ≤ suc n → gapOf a b (axisOf rule j) ≤ s .gap
+      wider-old h j l m = by (decLe j n)
+        where
+          by : Dec (j ≤ n) → gapOf a b (axisOf rule j) ≤ s .gap
+          by (yes k) = w .widest j l k
+          by (no k) = let e : j ≡ suc n = omega arith in rw e h
 
-    go : (t : Bool) → ltb (s .gap) (gapOf a b (suc n)) ≡ t → Spreads a b (suc n) (pickSpread t new s)
-    go true e = record { own = refl; least = omega arith; most = omega arith; widest = wider-new (ltb-true (s .gap) (gapOf a b (suc n)) e) }
-    go false e = record { own = w .own; least = w .least; most = omega (arith, w .most); widest = wider-old (ltb-false (s .gap) (gapOf a b (suc n)) e) }
+      go : (t : Bool) → ltb (s .gap) (gapOf a b (axisOf rule (suc n))) ≡ t → Spreads rule a b (suc n) (pickSpread t new s)
+      go true e = record {
+        own = refl;
+        place = suc n;
+        least = omega arith;
+        most = omega arith;
+        on = refl;
+        widest = wider-new (ltb-true (s .gap) (gapOf a b (axisOf rule (suc n))) e);
+      }
+      go false e = record {
+        own = w .own;
+        place = w .place;
+        least = w .least;
+        most = omega (arith, w .most);
+        on = w .on;
+        widest = wider-old (ltb-false (s .gap) (gapOf a b (axisOf rule (suc n))) e);
+      }
 
--- what the widest axis is: from 1 to 5, with a gap that no other passes
-pub record Widest (a b : Point) (axis : ℕ) : Type 0 where
-  pub least : 1 ≤ axis
-  pub most : axis ≤ 5
-  pub widest : (j : ℕ) → 1 ≤ j → j ≤ 5 → gapOf a b j ≤ gapOf a b axis
+-- what the widest axis is: the k-th of the rule, with a gap that no other of the five passes
+pub record Widest (rule : ℕ) (a b : Point) (axis : ℕ) : Type 0 where
+  pub place : ℕ
+  pub least : 1 ≤ place
+  pub most : place ≤ 5
+  pub on : axis ≡ axisOf rule place
+  pub widest : (j : ℕ) → 1 ≤ j → j ≤ 5 → gapOf a b (axisOf rule j) ≤ gapOf a b axis
 
-pub widest-axis : (a b : Point) → Widest a b (widestOf a b)
+pub widest-axis : (rule : ℕ) (a b : Point) → Widest rule a b (widestOf rule a b)
 unfolding widestOf
-widest-axis a b =
-    let w = next a b 4 _ (next a b 3 _ (next a b 2 _ (next a b 1 _ (first a b)))) in
-    record { least = w .least; most = w .most; widest = λ j h k. rw (w .own) at (w .widest j h k) }
+widest-axis rule a b =
+    let w = next rule a b 4 _ (next rule a b 3 _ (next rule a b 2 _ (next rule a b 1 _ (first rule a b)))) in
+    record { place = w .place; least = w .least; most = w .most; on = w .on; widest = λ j h k. rw (w .own) at (w .widest j h k) }
+
+-- an axis of a rule is one
+axis-by : (rule k : ℕ) → 1 ≤ k → k ≤ 5 → isAxisBy rule (axisOf rule k) ≡ true
+unfolding axisOf
+axis-by rule k h l = go (eqb k 1) refl
+  where
+    go : (t : Bool) → eqb k 1 ≡ t → isAxisBy rule (axisOf rule k) ≡ true
+    go true e = rw e
+    go false e =
+        let n = eqb-false k 1 e in
+        let m : 2 ≤ k = omega (arith, n) in
+        rw (e, le-leb (2 + shiftOf rule) (k + shiftOf rule) (omega arith), le-leb (k + shiftOf rule) (5 + shiftOf rule) (omega arith)) (or-true (eqb (k + shiftOf rule) 1))
+      where
+        or-true : (t : Bool) → (t || true) ≡ true
+        or-true true = refl
+        or-true false = refl
 
 -- ---- the sum
-
--- a number that 32 bits hold is not capped
-pub capped-plain : (z : ℤ) → Near 2147483648 z → cappedOf z ≡ z
-unfolding cappedOf
-capped-plain z n =
-    let low : Near 2147483648 (negsuc 2147483647) = record { near = lit< tt } in
-    let high : Near 2147483648 (pos 2147483647) = record { near = lit< tt } in
-    rw (ltZ-raise z (negsuc 2147483647) n low ∙ le-ltb (raise 2147483648 z) 0 (omega arith), ltZ-raise (pos 2147483647) z high n ∙ le-ltb 4294967295 (raise 2147483648 z) (omega (arith, near-lt z n)))
-
-module _ (a b : Point) (ra : inRange a ≡ true) (rb : inRange b ≡ true) where
+module _ (rule : ℕ) (a b : Point) (ra : inRangeBy rule a ≡ true) (rb : inRangeBy rule b ≡ true) where
   axis : ℕ
-  axis = widestOf a b
+  axis = widestOf rule a b
 
   x : ℤ
-  x = coordinateOf a axis
+  x = numberOf a axis
 
   y : ℤ
-  y = coordinateOf b axis
+  y = numberOf b axis
 
-  wx : Within reach (rangeOf axis) x
-  unfolding x
-  wx = axis-within a ra axis
+  wx : Within reach (numberRangeOf axis) x
+  unfolding x axis
+  wx = let w = widest-axis rule a b in rw (w .on) (number-within rule a ra (w .place) (w .least) (w .most))
 
-  wy : Within reach (rangeOf axis) y
-  unfolding y
-  wy = axis-within b rb axis
+  wy : Within reach (numberRangeOf axis) y
+  unfolding y axis
+  wy = let w = widest-axis rule a b in rw (w .on) (number-within rule b rb (w .place) (w .least) (w .most))
 
   near-sum : Near (reach + reach) (x +ℤ y)
   near-sum = near-add x y (wx .near) (wy .near)
 
   -- the cut of points in range keeps the sum itself
-  pub cut-plain : cutOf a b ≡ record { axis = widestOf a b; sum = coordinateOf a (widestOf a b) +ℤ coordinateOf b (widestOf a b) }
+  pub cut-plain : cutOf rule a b ≡ record { axis = widestOf rule a b; sum = numberOf a (widestOf rule a b) +ℤ numberOf b (widestOf rule a b) }
   unfolding cutOf x y axis
-  cut-plain = λ i. record { axis = widestOf a b; sum = capped-plain (x +ℤ y) (near-more 2147483648 (lit≤ tt) near-sum) i }
+  cut-plain = λ i. record { axis = widestOf rule a b; sum = capped-plain (x +ℤ y) (near-more 2147483648 (lit≤ tt) near-sum) i }
 
   -- a cut's test of a point, over raised numbers
-  side : (p : Point) → Within reach (rangeOf axis) (coordinateOf p axis)
-      → goesLeft (cutOf a b) p ≡ ltb (raise reach (coordinateOf p axis) + raise reach (coordinateOf p axis)) (raise reach x + raise reach y)
+  side : (p : Point) → Within reach (numberRangeOf axis) (numberOf p axis)
+      → goesLeft (cutOf rule a b) p ≡ ltb (raise reach (numberOf p axis) + raise reach (numberOf p axis)) (raise reach x + raise reach y)
   unfolding goesLeft x y axis
   side p w =
-      let z = coordinateOf p (widestOf a b) in
+      let z = numberOf p (widestOf rule a b) in
       rw cut-plain
       (ltZ-raise (z +ℤ z) (x +ℤ y) (near-add z z (w .near) (w .near)) near-sum
       ∙ (λ i. ltb (raise-add z z (w .near) (w .near) i) (raise-add x y (wx .near) (wy .near) i)))
@@ -119,19 +152,19 @@ module _ (a b : Point) (ra : inRange a ≡ true) (rb : inRange b ≡ true) where
   -- different points differ on the widest axis
   differ : ¬ (a ≡ b) → raise reach x ≡ raise reach y → ⊥
   unfolding x y axis gapOf
-  differ n e = n (coordinates-equal a b same)
+  differ n e = n (numbers-equal rule a b ra rb same)
     where
-      gap : gapOf a b (widestOf a b) ≡ 0
-      gap = omega (arith, apart-raise (coordinateOf a (widestOf a b)) (coordinateOf b (widestOf a b)) (wx .near) (wy .near))
+      gap : gapOf a b (widestOf rule a b) ≡ 0
+      gap = omega (arith, apart-raise (numberOf a (widestOf rule a b)) (numberOf b (widestOf rule a b)) (wx .near) (wy .near))
 
-      same : (j : ℕ) → 1 ≤ j → j ≤ 5 → coordinateOf a j ≡ coordinateOf b j
+      same : (j : ℕ) → 1 ≤ j → j ≤ 5 → numberOf a (axisOf rule j) ≡ numberOf b (axisOf rule j)
       same j h k =
-          let u = axis-within a ra j in
-          let v = axis-within b rb j in
-          raise-inj (coordinateOf a j) (coordinateOf b j) (u .near) (v .near)
-          (omega (arith, apart-raise (coordinateOf a j) (coordinateOf b j) (u .near) (v .near), widest-axis a b .widest j h k, gap))
+          let u = number-within rule a ra j h k in
+          let v = number-within rule b rb j h k in
+          raise-inj (numberOf a (axisOf rule j)) (numberOf b (axisOf rule j)) (u .near) (v .near)
+          (omega (arith, apart-raise (numberOf a (axisOf rule j)) (numberOf b (axisOf rule j)) (u .near) (v .near), widest-axis rule a b .widest j h k, gap))
 
-  pub cut-parts : ¬ (a ≡ b) → goesLeft (cutOf a b) b ≡ not (goesLeft (cutOf a b) a)
+  pub cut-parts : ¬ (a ≡ b) → goesLeft (cutOf rule a b) b ≡ not (goesLeft (cutOf rule a b) a)
   unfolding x y axis
   cut-parts n = side b wy ∙ go (ltb m k) refl ∙ sym (ap not (side a wx))
     where
@@ -148,17 +181,18 @@ module _ (a b : Point) (ra : inRange a ≡ true) (rb : inRange b ≡ true) where
           let l : k < m = omega (arith, differ n) in
           lt-ltb (k + k) (m + k) (omega arith) ∙ sym (ap not (le-ltb (m + m) (m + k) (omega arith)))
 
-  pub cut-in-range : cutInRange (cutOf a b) ≡ true
+  pub cut-in-range : cutInRange rule (cutOf rule a b) ≡ true
   unfolding cutInRange sumRangeOf x y axis
   cut-in-range =
-      let k = widestOf a b in
-      let w = widest-axis a b in
-      let r = range-sound k in
+      let k = widestOf rule a b in
+      let w = widest-axis rule a b in
+      let r = number-range-sound k in
+      let one : isAxisBy rule k ≡ true = rw (w .on) (axis-by rule (w .place) (w .least) (w .most)) in
       rw cut-plain
-      (and-i (and-i (le-leb 1 k (w .least)) (le-leb k 5 (w .most)))
+      (and-i one
       (within-true (sumRangeOf k) (x +ℤ y) (sum-range-sound k)
       (record {
         near = near-sum;
-        from = omega (arith, raise-add x y (wx .near) (wy .near), raise-add (rangeOf k .low) (rangeOf k .low) (r .low) (r .low), wx .from, wy .from);
-        to = omega (arith, raise-add x y (wx .near) (wy .near), raise-add (rangeOf k .high) (rangeOf k .high) (r .high) (r .high), wx .to, wy .to);
+        from = omega (arith, raise-add x y (wx .near) (wy .near), raise-add (numberRangeOf k .low) (numberRangeOf k .low) (r .low) (r .low), wx .from, wy .from);
+        to = omega (arith, raise-add x y (wx .near) (wy .near), raise-add (numberRangeOf k .high) (numberRangeOf k .high) (r .high) (r .high), wx .to, wy .to);
       })))

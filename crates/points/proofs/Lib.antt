@@ -2,6 +2,7 @@ pub mod Tests
 pub mod IntegerLaws
 pub mod MachineLaws
 pub mod PointLaws
+pub mod NumberLaws
 pub mod OrderLaws
 pub mod ComparedLaws
 pub mod TieLaws
@@ -9,5 +10,6 @@ pub mod SquareLaws
 pub mod CutLaws
 pub mod ChoiceLaws
 pub mod ScaleLaws
+pub mod RangeLaws
 pub mod WordLaws
 pub mod Cases

@@ -1,23 +1,24 @@
--- What a point in range says of each of its coordinates, over raised numbers.
+-- The ranges of coordinates, of numbers and of sums, and what a point in range says of each of its coordinates, over raised numbers.
 -- Assumes nothing.
 use mathlib.Core.Path.{_≡_, refl, sym, _∙_}
-use mathlib.Core.Bool.{true, cond, _&&_}
+use mathlib.Core.Bool.{Bool, true, false, cond, _&&_}
 use Prim.Native.Nat.{ℕ, zero, suc, _+_, _≤_, _<_}
 use native.Mathlib.Omega.{arith}
-use lib.Dec.{eqb, lit<, lit≤}
-use lib.IntN.{ℤ, pos, negsuc}
+use lib.Dec.{eqb, leb, lit<, lit≤}
+use lib.IntN.{ℤ, pos, negsuc, _+ℤ_}
 use lib.Signed.{leZ}
-use borrow.Author.Tests.{ne-eqb, leb-true, le-leb}
+use borrow.Author.Tests.{ne-eqb, leb-true, le-leb, lt-leb}
 use Rattle.points.specs.declared.point.Point.{Point}
 use Rattle.points.specs.declared.point.Range.{Range}
 use Rattle.points.specs.Point.{indexOf, rangeOf, coordinateOf, withinRange, onAxis, inRange}
+use Rattle.points.specs.Number.{pickRange, numberRangeOf}
 use Rattle.points.specs.Word.{sumRangeOf}
 use Rattle.points.proofs.Tests.{no!, and-l, and-r, and-i}
-use Rattle.points.proofs.IntegerLaws.{raise, Near, near-add, raise-add, leZ-raise}
+use Rattle.points.proofs.IntegerLaws.{raise, Near, near-add, near-more, near-lt, near-raise, raise-add, leZ-raise}
 
--- every coordinate in range and every end of a range lies from -reach to reach - 1; the sums of two, from twice that
+-- every number of a point in range and every end of a range lies from -reach to reach - 1; the sums of two, from twice that
 abbrev pub reach : ℕ
-reach = 524288
+reach = 1073741824
 
 -- a range whose ends are near and in order
 pub record Sound (b : ℕ) (r : Range) : Type 0 where
@@ -94,34 +95,122 @@ index-lt (suc (suc (suc zero))) = lit< tt
 index-lt (suc (suc (suc (suc zero)))) = lit< tt
 index-lt (suc (suc (suc (suc (suc n))))) = lit< tt
 
--- every axis's range is sound
-pub range-sound : (axis : ℕ) → Sound reach (rangeOf axis)
-unfolding rangeOf indexOf
-range-sound zero = record { low = record { near = lit< tt }; high = record { near = lit< tt }; order = lit≤ tt }
-range-sound (suc zero) = record { low = record { near = lit< tt }; high = record { near = lit< tt }; order = lit≤ tt }
-range-sound (suc (suc zero)) = record { low = record { near = lit< tt }; high = record { near = lit< tt }; order = lit≤ tt }
-range-sound (suc (suc (suc zero))) = record { low = record { near = lit< tt }; high = record { near = lit< tt }; order = lit≤ tt }
-range-sound (suc (suc (suc (suc zero)))) = record { low = record { near = lit< tt }; high = record { near = lit< tt }; order = lit≤ tt }
-range-sound (suc (suc (suc (suc (suc n))))) = record { low = record { near = lit< tt }; high = record { near = lit< tt }; order = lit≤ tt }
+-- every axis's range is sound, and its ends are at most 100,000
+abbrev pub narrow : ℕ
+narrow = 100001
 
--- and so is the range of its sums
-pub sum-range-sound : (axis : ℕ) → Sound (reach + reach) (sumRangeOf axis)
-unfolding sumRangeOf
-sum-range-sound axis =
-    let r = range-sound axis in
+pub range-narrow : (axis : ℕ) → Sound narrow (rangeOf axis)
+unfolding rangeOf indexOf
+range-narrow zero = record { low = record { near = lit< tt }; high = record { near = lit< tt }; order = lit≤ tt }
+range-narrow (suc zero) = record { low = record { near = lit< tt }; high = record { near = lit< tt }; order = lit≤ tt }
+range-narrow (suc (suc zero)) = record { low = record { near = lit< tt }; high = record { near = lit< tt }; order = lit≤ tt }
+range-narrow (suc (suc (suc zero))) = record { low = record { near = lit< tt }; high = record { near = lit< tt }; order = lit≤ tt }
+range-narrow (suc (suc (suc (suc zero)))) = record { low = record { near = lit< tt }; high = record { near = lit< tt }; order = lit≤ tt }
+range-narrow (suc (suc (suc (suc (suc n))))) = record { low = record { near = lit< tt }; high = record { near = lit< tt }; order = lit≤ tt }
+
+pub range-sound : (axis : ℕ) → Sound reach (rangeOf axis)
+range-sound axis =
+    let s = range-narrow axis in
     let l = rangeOf axis .low in
     let h = rangeOf axis .high in
     record {
-      low = near-add l l (r .low) (r .low);
-      high = near-add h h (r .high) (r .high);
-      order = omega (arith, raise-add l l (r .low) (r .low), raise-add h h (r .high) (r .high), r .order);
+      low = near-more reach (lit≤ tt) (s .low);
+      high = near-more reach (lit≤ tt) (s .high);
+      order = omega (arith, near-raise l (s .low) 1073641823, near-raise h (s .high) 1073641823, s .order);
     }
 
--- any word of an axis but 0 to 3 is taken for that of axis 5
-pub sum-range-rest : (axis : ℕ) → (axis ≡ 0 → ⊥) → (axis ≡ 1 → ⊥) → (axis ≡ 2 → ⊥) → (axis ≡ 3 → ⊥) → sumRangeOf (axis + 1) ≡ sumRangeOf 5
-unfolding sumRangeOf rangeOf indexOf
-sum-range-rest axis one two three four =
-    rw (index-rest (axis + 1) (λ e. one (omega arith)) (λ e. two (omega arith)) (λ e. three (omega arith)) (λ e. four (omega arith)))
+-- the ranges of the numbers, one by one
+number-ranges : (P : Range → Type 0) → ((axis : ℕ) → P (rangeOf axis)) → P (numberRangeOf 6) → P (numberRangeOf 7) → P (numberRangeOf 8) → P (numberRangeOf 9)
+    → (axis : ℕ) → P (numberRangeOf axis)
+unfolding numberRangeOf
+number-ranges P plain dry moisture speed draw axis = go (leb axis 5) (eqb axis 6) (eqb axis 7) (eqb axis 8)
+  where
+    go : (five six seven eight : Bool)
+        → P (pickRange five (rangeOf axis) (pickRange six (numberRangeOf 6) (pickRange seven (numberRangeOf 7) (pickRange eight (numberRangeOf 8) (numberRangeOf 9)))))
+    go true six seven eight = plain axis
+    go false true seven eight = dry
+    go false false true eight = moisture
+    go false false false true = speed
+    go false false false false = draw
+
+pub number-range-sound : (axis : ℕ) → Sound reach (numberRangeOf axis)
+unfolding numberRangeOf
+number-range-sound =
+    number-ranges (Sound reach) range-sound (record { low = record { near = lit< tt }; high = record { near = lit< tt }; order = lit≤ tt })
+    (record { low = record { near = lit< tt }; high = record { near = lit< tt }; order = lit≤ tt })
+    (record { low = record { near = lit< tt }; high = record { near = lit< tt }; order = lit≤ tt })
+    (record { low = record { near = lit< tt }; high = record { near = lit< tt }; order = lit≤ tt })
+
+-- a coordinate is below the number that is in no range, and none of the numbers passes 1,000,000,000
+pub range-below : (axis : ℕ) → raise reach (rangeOf axis .high) < 2147483647 + reach
+range-below axis = let s = range-narrow axis in omega (arith, near-raise (rangeOf axis .high) (s .high) 1073641823, near-lt (rangeOf axis .high) (s .high))
+
+record Ends (r : Range) : Type 0 where
+  top : raise reach (r .high) ≤ 1000000000 + reach
+  span : raise reach (r .high) ≤ raise reach (r .low) + 1000000000
+
+ends : (axis : ℕ) → Ends (numberRangeOf axis)
+unfolding numberRangeOf
+ends = number-ranges Ends narrow-ends (record { top = lit≤ tt; span = lit≤ tt }) (record { top = lit≤ tt; span = lit≤ tt }) (record { top = lit≤ tt; span = lit≤ tt })
+    (record { top = lit≤ tt; span = lit≤ tt })
+  where
+    narrow-ends : (axis : ℕ) → Ends (rangeOf axis)
+    narrow-ends axis =
+        let s = range-narrow axis in
+        let l = rangeOf axis .low in
+        let h = rangeOf axis .high in
+        let low = near-raise l (s .low) 1073641823 in
+        let high = near-raise h (s .high) 1073641823 in
+        record { top = omega (arith, high, near-lt h (s .high)); span = omega (arith, low, high, near-lt h (s .high)) }
+
+-- and so it is with the ranges of sums
+module _ (axis : ℕ) where
+  l : ℤ
+  l = numberRangeOf axis .low
+
+  h : ℤ
+  h = numberRangeOf axis .high
+
+  low-sum : raise (reach + reach) (l +ℤ l) ≡ raise reach l + raise reach l
+  unfolding l
+  low-sum = raise-add l l (number-range-sound axis .low) (number-range-sound axis .low)
+
+  high-sum : raise (reach + reach) (h +ℤ h) ≡ raise reach h + raise reach h
+  unfolding h
+  high-sum = raise-add h h (number-range-sound axis .high) (number-range-sound axis .high)
+
+  pub sum-range-sound : Sound (reach + reach) (sumRangeOf axis)
+  unfolding sumRangeOf l h
+  sum-range-sound =
+      let r = number-range-sound axis in
+      record { low = near-add l l (r .low) (r .low); high = near-add h h (r .high) (r .high); order = omega (arith, low-sum, high-sum, r .order) }
+
+  pub sum-range-below : raise (reach + reach) (sumRangeOf axis .high) < 2147483647 + (reach + reach)
+  unfolding sumRangeOf h
+  sum-range-below = omega (arith, high-sum, ends axis .top)
+
+  pub sum-range-span : raise (reach + reach) (sumRangeOf axis .high) ≤ raise (reach + reach) (sumRangeOf axis .low) + 2000000000
+  unfolding sumRangeOf l h
+  sum-range-span = omega (arith, low-sum, high-sum, ends axis .span)
+
+-- any word of an axis but 0 to 7 is taken for that of axis 9
+pub sum-range-rest : (axis : ℕ) → (axis ≡ 0 → ⊥) → (axis ≡ 1 → ⊥) → (axis ≡ 2 → ⊥) → (axis ≡ 3 → ⊥) → (axis ≡ 4 → ⊥) → (axis ≡ 5 → ⊥) → (axis ≡ 6 → ⊥) → (axis ≡ 7 → ⊥)
+    → sumRangeOf (axis + 1) ≡ sumRangeOf 9
+unfolding sumRangeOf numberRangeOf
+sum-range-rest axis a b c d e f g h =
+    let most : 8 ≤ axis = past axis a b c d e f g h in
+    rw (lt-leb (axis + 1) 5 (omega arith), ne-eqb (axis + 1) 6 (λ i. omega arith), ne-eqb (axis + 1) 7 (λ i. omega arith), ne-eqb (axis + 1) 8 (λ i. omega arith))
+  where
+    past : (k : ℕ) → (k ≡ 0 → ⊥) → (k ≡ 1 → ⊥) → (k ≡ 2 → ⊥) → (k ≡ 3 → ⊥) → (k ≡ 4 → ⊥) → (k ≡ 5 → ⊥) → (k ≡ 6 → ⊥) → (k ≡ 7 → ⊥) → 8 ≤ k
+    past zero a b c d e f g h = absurd (a refl)
+    past (suc zero) a b c d e f g h = absurd (b refl)
+    past (suc (suc zero)) a b c d e f g h = absurd (c refl)
+    past (suc (suc (suc zero))) a b c d e f g h = absurd (d refl)
+    past (suc (suc (suc (suc zero)))) a b c d e f g h = absurd (e refl)
+    past (suc (suc (suc (suc (suc zero))))) a b c d e f g h = absurd (f refl)
+    past (suc (suc (suc (suc (suc (suc zero)))))) a b c d e f g h = absurd (g refl)
+    past (suc (suc (suc (suc (suc (suc (suc zero))))))) a b c d e f g h = absurd (h refl)
+    past (suc (suc (suc (suc (suc (suc (suc (suc n)))))))) a b c d e f g h = omega arith
 
 -- the five tests of a point in range
 record Tests (p : Point) : Type 0 where

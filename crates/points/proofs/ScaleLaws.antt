@@ -1,30 +1,55 @@
--- The scale of an opening: the range of its factors (`factor-ranges`), and laws 3 and 4 by it, which are those of `ChoiceLaws` for the square with its factors.
+-- The scale of an opening: the range of its factors (`factor-ranges`) and of its rule (`rule-exact`), and laws 3 and 4 by it, which are those of `ChoiceLaws` for the square with its factors.
 -- Assumes nothing.
 use mathlib.Core.Path.{_≡_, refl}
-use mathlib.Core.Logic.{_↔_}
-use mathlib.Core.Bool.{true, false, not, _&&_}
-use lib.Dec.{leb}
+use mathlib.Core.Logic.{_↔_, _⊎_, inl, inr}
+use mathlib.Core.Bool.{true, false, not, cond, _&&_}
+use Prim.Native.Nat.{ℕ, _≤_}
+use native.Mathlib.Omega.{arith}
+use native.Mathlib.Decide.{decLe}
+use borrow.Author.Tests.{leb-true}
+use lib.Dec.{eqb, leb}
 use Rattle.points.specs.declared.point.Point.{Point}
 use Rattle.points.specs.declared.cut.Cut.{Cut}
 use Rattle.points.specs.declared.scale.Scale.{Scale}
-use Rattle.points.specs.Scale.{countOf, factorsIn}
+use Rattle.points.specs.Rule.{plainRule, dryRule, ruleIn}
+use Rattle.points.specs.Scale.{countOf, mostFactor, factorsIn}
 use Rattle.points.specs.Square.{squareOf}
 use Rattle.points.specs.Cut.{goesLeft}
 use Rattle.points.specs.Choice.{sameGrade, chosenAt, chosenBy, chosenOver, Chosen, excluded, noSquare}
+use Rattle.points.proofs.Tests.{and-l, and-r}
 use Rattle.points.proofs.SquareLaws.{scale-bounds}
 use Rattle.points.proofs.ChoiceLaws.{chosen-exact, chosen-irrefl, chosen-asym, chosen-trans, chosen-total, chosen-stays, far-loses, far-none}
 
 -- ---- the factors
 
--- each is from 1 to 1,000
+-- each is from 1 to the greatest under the rule
 pub factor-ranges : (scale : Scale)
     → factorsIn scale
-    ≡ ((((leb 1 (scale .weight) && leb (scale .weight) 1000)
-    && (leb 1 (scale .moisture) && leb (scale .moisture) 1000))
-    && (leb 1 (scale .speed) && leb (scale .speed) 1000))
-    && (leb 1 (scale .draw) && leb (scale .draw) 1000))
+    ≡ ((((leb 1 (scale .weight) && leb (scale .weight) (mostFactor (scale .rule)))
+    && (leb 1 (scale .moisture) && leb (scale .moisture) (mostFactor (scale .rule))))
+    && (leb 1 (scale .speed) && leb (scale .speed) (mostFactor (scale .rule))))
+    && (leb 1 (scale .draw) && leb (scale .draw) (mostFactor (scale .rule))))
 unfolding factorsIn
 factor-ranges scale = refl
+
+-- which is 16 under rule 2, else 1,000
+pub factor-most : (rule : ℕ) → mostFactor rule ≡ cond (eqb rule dryRule) 16 1000
+unfolding mostFactor
+factor-most rule = refl
+
+-- ---- the rule
+
+-- it is 1 or 2
+pub rule-exact : (rule : ℕ) → (ruleIn rule ≡ true) ↔ ((rule ≡ plainRule) ⊎ (rule ≡ dryRule))
+rule-exact rule = (λ e. tells (decLe rule 1) e, told)
+  where
+    tells : Dec (rule ≤ 1) → ruleIn rule ≡ true → (rule ≡ plainRule) ⊎ (rule ≡ dryRule)
+    tells (yes h) e = inl (omega (arith, leb-true 1 rule (and-l (leb 1 rule) (leb rule 2) e)))
+    tells (no h) e = inr (omega (arith, leb-true rule 2 (and-r (leb 1 rule) (leb rule 2) e)))
+
+    told : (rule ≡ plainRule) ⊎ (rule ≡ dryRule) → ruleIn rule ≡ true
+    told (inl e) = rw e
+    told (inr e) = rw e
 
 -- ---- the choice
 

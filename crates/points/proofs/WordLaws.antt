@@ -1,138 +1,52 @@
 -- Law 6: a point is in range exactly if each of its words is at most high − low (`in-range-words`), and storing then loading gives it back
--- (`point-at-words`); the same for the point of five words, and for cuts. One argument over any range serves coordinates and sums.
+-- (`point-at-words`); the same for the point of five words, under a rule too (`point-at-by`), and for cuts.
 -- Assumes nothing.
 use mathlib.Core.Path.{_≡_, refl, sym, ap, _∙_}
-use mathlib.Core.Bool.{Bool, true, false, _&&_}
-use Prim.Native.Nat.{ℕ, suc, _+_, _-_, _≤_}
+use mathlib.Core.Bool.{Bool, true, false, not, _&&_, _||_}
+use Prim.Native.Nat.{ℕ, zero, suc, _+_, _-_, _≤_}
 use native.Mathlib.Omega.{arith}
-use borrow.Author.Tests.{leb-true, le-leb, lt-leb}
-use lib.Dec.{leb, lit≤}
-use lib.IntN.{ℤ, pos, _+ℤ_}
-use lib.Signed.{leZ}
+use borrow.Author.Tests.{leb-true, leb-false, le-leb, lt-leb, eqb-true, ne-eqb}
+use lib.Dec.{eqb, leb, ltb, lit≤}
+use lib.IntN.{pos, _+ℤ_}
+use lib.Signed.{ltZ}
 use Rattle.points.specs.declared.point.Point.{Point}
-use Rattle.points.specs.declared.point.Range.{Range}
 use Rattle.points.specs.declared.cut.Cut.{Cut}
 use Rattle.points.specs.Point.{indexOf, rangeOf, withinRange, coordinateOf, onAxis, inRange}
-use Rattle.points.specs.Word.{NONE, outside, storedIn, loadedIn, sumRangeOf, spanIn, spanOf, sumSpanOf, wordOf, coordinateAt, pointAt, isAxis, cutInRange, axisWordOf, sumWordOf, cutAt}
-use Rattle.points.proofs.Tests.{and-l, and-r, leb-cong}
-use Rattle.points.proofs.IntegerLaws.{raise, Near, near-add, near-raise, near-more, near-less, near-lt, raise-add, raise-inj, leZ-raise, apart-raise}
-use Rattle.points.proofs.PointLaws.{reach, Sound, Within, within, within-true, range-sound, sum-range-sound, in-range-axis}
-
--- ---- any range
-module _ {b : ℕ} (r : Range) (s : Sound b r) (small : b ≤ 1048576) where
-  span-raise : spanIn r + raise b (r .low) ≡ raise b (r .high)
-  unfolding spanIn
-  span-raise = omega (arith, apart-raise (r .high) (r .low) (s .high) (s .low), s .order)
-
-  pub span-le : spanIn r ≤ 2097151
-  span-le = omega (arith, span-raise, near-lt (r .high) (s .high))
-
-  -- a number of the range as its word
-  stored-plain : (x : ℤ) → Within b r x → storedIn r x + raise b (r .low) ≡ raise b x
-  unfolding storedIn
-  stored-plain x w = rw (within-true r x s w) (omega (arith, apart-raise x (r .low) (w .near) (s .low), w .from))
-
-  pub stored-le : (x : ℤ) → withinRange r x ≡ true → storedIn r x ≤ spanIn r
-  stored-le x e = let w = within r x s e in omega (arith, stored-plain x w, span-raise, w .to)
-
-  -- the greatest number of the range has the greatest word
-  pub stored-high : storedIn r (r .high) ≡ spanIn r
-  unfolding storedIn spanIn
-  stored-high = rw (within-true r (r .high) s (record { near = s .high; from = s .order; to = omega arith }))
-
-  -- the test of a word
-  loaded-test : (w : ℕ) → leZ (r .low +ℤ pos w) (r .high) ≡ leb w (spanIn r)
-  loaded-test w =
-      let n : Near (suc w) (pos w) = record { near = omega arith } in
-      leZ-raise (r .low +ℤ pos w) (r .high) (near-add (r .low) (pos w) (s .low) n) (near-more (b + suc w) (omega arith) (s .high))
-      ∙ (λ i. leb (raise-add (r .low) (pos w) (s .low) n i) (near-raise (r .high) (s .high) (suc w) i))
-      ∙ leb-cong (raise b (r .low) + (w + suc w)) (raise b (r .high) + suc w) w (spanIn r) (λ h. omega (arith, span-raise)) (λ h. omega (arith, span-raise))
-
-  loaded-is : (w : ℕ) → w ≤ spanIn r → loadedIn r w ≡ r .low +ℤ pos w
-  unfolding loadedIn
-  loaded-is w h = rw (loaded-test w ∙ le-leb w (spanIn r) h)
-
-  record Loaded (w : ℕ) : Type 0 where
-    near : Near b (r .low +ℤ pos w)
-    raised : raise b (r .low +ℤ pos w) ≡ raise b (r .low) + w
-
-  loaded : (w : ℕ) → w ≤ spanIn r → Loaded w
-  loaded w h =
-      let z = r .low +ℤ pos w in
-      let n : Near (suc w) (pos w) = record { near = omega arith } in
-      let f = near-add (r .low) (pos w) (s .low) n in
-      let e = raise-add (r .low) (pos w) (s .low) n in
-      let g = near-less (suc w) z f (omega (arith, e)) (omega (arith, e, span-raise, near-lt (r .high) (s .high))) in
-      record { near = g; raised = omega (arith, e, near-raise z g (suc w)) }
-
-  loaded-within : (w : ℕ) → w ≤ spanIn r → Within b r (loadedIn r w)
-  loaded-within w h =
-      let l = loaded w h in
-      rw (loaded-is w h) (record { near = l .near; from = omega (arith, l .raised); to = omega (arith, l .raised, span-raise) })
-
-  -- storing then loading, and loading then storing
-  pub loaded-stored : (x : ℤ) → withinRange r x ≡ true → loadedIn r (storedIn r x) ≡ x
-  loaded-stored x e =
-      let w = within r x s e in
-      let h = stored-le x e in
-      let l = loaded (storedIn r x) h in
-      loaded-is (storedIn r x) h ∙ raise-inj (r .low +ℤ pos (storedIn r x)) x (l .near) (w .near) (omega (arith, l .raised, stored-plain x w))
-
-  pub stored-loaded : (w : ℕ) → w ≤ spanIn r → storedIn r (loadedIn r w) ≡ w
-  stored-loaded w h =
-      let l = loaded w h in
-      omega (arith, stored-plain (loadedIn r w) (loaded-within w h), ap (raise b) (loaded-is w h), l .raised)
-
-  -- in range exactly if the word is at most the span
-  pub within-stored : (x : ℤ) → withinRange r x ≡ leb (storedIn r x) (spanIn r)
-  unfolding storedIn
-  within-stored x = go (withinRange r x) refl
-    where
-      go : (t : Bool) → withinRange r x ≡ t → withinRange r x ≡ leb (storedIn r x) (spanIn r)
-      go true e = e ∙ sym (le-leb (storedIn r x) (spanIn r) (stored-le x e))
-      go false e = e ∙ sym (rw e (lt-leb NONE (spanIn r) (omega (arith, span-le))))
-
-  pub within-loaded : (w : ℕ) → withinRange r (loadedIn r w) ≡ leb w (spanIn r)
-  unfolding loadedIn
-  within-loaded w = go (leb w (spanIn r)) refl
-    where
-      never : (t : Bool) → withinRange r outside ≡ t → t ≡ false
-      never true e = absurd (omega (arith, within r outside s e .near .near))
-      never false e = refl
-
-      go : (t : Bool) → leb w (spanIn r) ≡ t → withinRange r (loadedIn r w) ≡ leb w (spanIn r)
-      go true e = within-true r (loadedIn r w) s (loaded-within w (leb-true w (spanIn r) e)) ∙ sym e
-      go false e = rw (loaded-test w ∙ e) (never (withinRange r outside) refl) ∙ sym e
+use Rattle.points.specs.Rule.{dryRule, shiftOf, isAxisBy}
+use Rattle.points.specs.Number.{inRangeBy}
+use Rattle.points.specs.Word.{storedIn, loadedIn, sumRangeOf, spanIn, spanOf, sumSpanOf, wordOf, coordinateAt, pointAt, isAxis, cutInRange, axisWordOf, sumWordOf, cutAt}
+use Rattle.points.proofs.Tests.{no!, and-l, and-r, and-i, leb-cong}
+use Rattle.points.proofs.IntegerLaws.{Near}
+use Rattle.points.proofs.PointLaws.{reach, range-sound, range-below, sum-range-sound, sum-range-below, sum-range-span, in-range-axis}
+use Rattle.points.proofs.NumberLaws.{shift-le}
+use Rattle.points.proofs.RangeLaws.{span-raise, stored-le, loaded-is, loaded, loaded-stored, stored-loaded, within-stored, within-loaded}
 
 -- ---- points
 
--- the range of an axis, and that of its sums, are such
+-- the range of an axis is such
 module _ (axis : ℕ) where
-  half : reach ≤ 1048576
+  half : reach ≤ 2147483648
   half = lit≤ tt
-
-  whole : reach + reach ≤ 1048576
-  whole = lit≤ tt
 
   pub word-le-span : (p : Point) → onAxis p axis ≡ true → wordOf p axis ≤ spanOf axis
   unfolding wordOf onAxis
-  word-le-span p e = stored-le (rangeOf axis) (range-sound axis) half (coordinateOf p axis) e
+  word-le-span p e = stored-le (rangeOf axis) (range-sound axis) half (range-below axis) (coordinateOf p axis) e
 
   pub on-axis-word : (p : Point) → onAxis p axis ≡ leb (wordOf p axis) (spanOf axis)
   unfolding wordOf onAxis
-  on-axis-word p = within-stored (rangeOf axis) (range-sound axis) half (coordinateOf p axis)
+  on-axis-word p = within-stored (rangeOf axis) (range-sound axis) half (range-below axis) (coordinateOf p axis)
 
   coordinate-back : (p : Point) → onAxis p axis ≡ true → coordinateAt axis (wordOf p axis) ≡ coordinateOf p axis
   unfolding wordOf onAxis coordinateAt
-  coordinate-back p e = loaded-stored (rangeOf axis) (range-sound axis) half (coordinateOf p axis) e
+  coordinate-back p e = loaded-stored (rangeOf axis) (range-sound axis) half (range-below axis) (coordinateOf p axis) e
 
   word-back : (w : ℕ) → w ≤ spanOf axis → storedIn (rangeOf axis) (coordinateAt axis w) ≡ w
   unfolding coordinateAt
-  word-back w h = stored-loaded (rangeOf axis) (range-sound axis) half w h
+  word-back w h = stored-loaded (rangeOf axis) (range-sound axis) half (range-below axis) w h
 
   word-test : (w : ℕ) → withinRange (rangeOf axis) (coordinateAt axis w) ≡ leb w (spanOf axis)
   unfolding coordinateAt
-  word-test w = within-loaded (rangeOf axis) (range-sound axis) half w
+  word-test w = within-loaded (rangeOf axis) (range-sound axis) half (range-below axis) w
 
   word-again : (w : ℕ) → withinRange (rangeOf axis) (coordinateAt axis w) ≡ true → storedIn (rangeOf axis) (coordinateAt axis w) ≡ w
   word-again w e = word-back w (leb-true w (spanOf axis) (sym (word-test w) ∙ e))
@@ -163,12 +77,50 @@ point-at-words p e = λ i. record {
   draw = coordinate-back 5 p (in-range-axis p e 5) i;
 }
 
+-- the moisture of a word
+moisture-test : (w : ℕ) → w ≤ spanOf 3 → ltZ (coordinateAt 3 w) (pos 10000) ≡ ltb w 10000
+unfolding coordinateAt rangeOf indexOf
+moisture-test w h =
+    let plain : 0 + w ≡ w = omega arith in
+    ap (λ z. ltZ z (pos 10000)) (loaded-is (rangeOf 3) (range-sound 3) (lit≤ tt) (range-below 3) w h) ∙ ap (λ n. ltb n 10000) plain
+
+and-false : (a : Bool) → (a && false) ≡ false
+and-false true = refl
+and-false false = refl
+
+-- the last of four tests, as the second
+and-last : (a b c d : Bool) → (((a && b) && c) && d) ≡ (((a && d) && b) && c)
+and-last false b c d = refl
+and-last true true true true = refl
+and-last true true true false = refl
+and-last true true false true = refl
+and-last true true false false = refl
+and-last true false c true = refl
+and-last true false c false = refl
+
 module _ (grade weight moisture speed draw : ℕ) where
   -- the point of five words is in range exactly if each is at most high − low
   pub point-at-in-range : inRange (pointAt grade weight moisture speed draw)
       ≡ ((((leb grade (spanOf 1) && leb weight (spanOf 2)) && leb moisture (spanOf 3)) && leb speed (spanOf 4)) && leb draw (spanOf 5))
   unfolding inRange onAxis pointAt coordinateOf
   point-at-in-range = λ i. (((word-test 1 grade i && word-test 2 weight i) && word-test 3 moisture i) && word-test 4 speed i) && word-test 5 draw i
+
+  -- and under a rule, if the moisture's is one that the rule lets pass
+  pub point-at-by : (rule : ℕ) → inRangeBy rule (pointAt grade weight moisture speed draw)
+      ≡ (((((leb grade (spanOf 1) && leb weight (spanOf 2)) && leb moisture (spanOf 3)) && (not (eqb rule dryRule) || ltb moisture 10000)) && leb speed (spanOf 4)) && leb draw (spanOf 5))
+  unfolding inRangeBy pointAt
+  point-at-by rule = ap (λ t. t && (not (eqb rule dryRule) || ltZ (coordinateAt 3 moisture) (pos 10000))) point-at-in-range ∙ go (leb moisture (spanOf 3)) refl
+    where
+      first : Bool
+      first = leb grade (spanOf 1) && leb weight (spanOf 2)
+
+      go : (t : Bool) → leb moisture (spanOf 3) ≡ t
+          → ((((first && leb moisture (spanOf 3)) && leb speed (spanOf 4)) && leb draw (spanOf 5)) && (not (eqb rule dryRule) || ltZ (coordinateAt 3 moisture) (pos 10000)))
+          ≡ ((((first && leb moisture (spanOf 3)) && (not (eqb rule dryRule) || ltb moisture 10000)) && leb speed (spanOf 4)) && leb draw (spanOf 5))
+      go true e =
+          rw (moisture-test moisture (leb-true moisture (spanOf 3) e))
+          (and-last (first && leb moisture (spanOf 3)) (leb speed (spanOf 4)) (leb draw (spanOf 5)) (not (eqb rule dryRule) || ltb moisture 10000))
+      go false e = rw (e, and-false first)
 
   -- the words of that point, where it is in range
   pub record Words (p : Point) : Type 0 where
@@ -192,53 +144,88 @@ module _ (grade weight moisture speed draw : ℕ) where
 
 -- ---- cuts
 axis-back : (axis : ℕ) → isAxis axis ≡ true → axis - 1 + 1 ≡ axis
-axis-back axis e = omega (arith, leb-true 1 axis (and-l (leb 1 axis) (leb axis 5) e))
+axis-back axis e = omega (arith, leb-true 1 axis (and-l (leb 1 axis) (leb axis 9) e))
 
-axis-word : (axis : ℕ) → isAxis axis ≡ true → leb (axis - 1) 4 ≡ true
-axis-word axis e = le-leb (axis - 1) 4 (omega (arith, leb-true axis 5 (and-r (leb 1 axis) (leb axis 5) e)))
+axis-word : (axis : ℕ) → isAxis axis ≡ true → leb (axis - 1) 8 ≡ true
+axis-word axis e = le-leb (axis - 1) 8 (omega (arith, leb-true axis 9 (and-r (leb 1 axis) (leb axis 9) e)))
+
+-- an axis that a rule goes by is one of the nine
+axis-one : (rule axis : ℕ) → isAxisBy rule axis ≡ true → isAxis axis ≡ true
+axis-one rule axis e = go (eqb axis 1) refl (leb (2 + shiftOf rule) axis) refl (leb axis (5 + shiftOf rule)) refl e
+  where
+    both : 1 ≤ axis → axis ≤ 9 → isAxis axis ≡ true
+    both h k = and-i (le-leb 1 axis h) (le-leb axis 9 k)
+
+    go : (p : Bool) → eqb axis 1 ≡ p → (q : Bool) → leb (2 + shiftOf rule) axis ≡ q → (r : Bool) → leb axis (5 + shiftOf rule) ≡ r
+        → (p || (q && r)) ≡ true → isAxis axis ≡ true
+    go true f q g r h k = let one = eqb-true axis 1 f in both (omega arith) (omega arith)
+    go false f true g true h k = both (omega (arith, leb-true (2 + shiftOf rule) axis g)) (omega (arith, leb-true axis (5 + shiftOf rule) h, shift-le rule))
+    go false f true g false h k = no! k
+    go false f false g r h k = no! k
+
+-- by the word of the axis, one less than its number
+pub axis-by-word : (rule axis : ℕ) → isAxisBy rule (axis + 1) ≡ (eqb axis 0 || (leb (1 + shiftOf rule) axis && leb axis (4 + shiftOf rule)))
+axis-by-word rule zero = refl
+axis-by-word rule (suc n) =
+    let by = shiftOf rule in
+    let low = leb-cong (2 + by) (suc n + 1) (1 + by) (suc n) (λ h. omega arith) (λ h. omega arith) in
+    let high = leb-cong (suc n + 1) (5 + by) (suc n) (4 + by) (λ h. omega arith) (λ h. omega arith) in
+    rw (ne-eqb (suc n + 1) 1 (λ e. omega arith), ne-eqb (suc n) 0 (λ e. omega arith)) (λ i. low i && high i)
 
 -- storing then loading gives the cut back
-pub cut-at-words : (k : Cut) → cutInRange k ≡ true → cutAt (axisWordOf k) (sumWordOf k) ≡ k
+pub cut-at-words : (rule : ℕ) (k : Cut) → cutInRange rule k ≡ true → cutAt (axisWordOf k) (sumWordOf k) ≡ k
 unfolding cutInRange cutAt axisWordOf sumWordOf
-cut-at-words k e =
-    let a = and-l (isAxis (k .axis)) (withinRange (sumRangeOf (k .axis)) (k .sum)) e in
-    let s = and-r (isAxis (k .axis)) (withinRange (sumRangeOf (k .axis)) (k .sum)) e in
+cut-at-words rule k e =
+    let a = axis-one rule (k .axis) (and-l (isAxisBy rule (k .axis)) (withinRange (sumRangeOf (k .axis)) (k .sum)) e) in
+    let s = and-r (isAxisBy rule (k .axis)) (withinRange (sumRangeOf (k .axis)) (k .sum)) e in
     let back = axis-back (k .axis) a in
-    let sum : loadedIn (sumRangeOf (k .axis)) (storedIn (sumRangeOf (k .axis)) (k .sum)) ≡ k .sum = loaded-stored (sumRangeOf (k .axis)) (sum-range-sound (k .axis)) (lit≤ tt) (k .sum) s in
+    let r = sumRangeOf (k .axis) in
+    let sum : loadedIn r (storedIn r (k .sum)) ≡ k .sum = loaded-stored r (sum-range-sound (k .axis)) (lit≤ tt) (sum-range-below (k .axis)) (k .sum) s in
     rw (a, axis-word (k .axis) a, back) (λ i. record { axis = k .axis; sum = sum i })
 
--- the cut of two words is in range exactly if each is at most its greatest
-pub cut-at-in-range : (axis sum : ℕ) → cutInRange (cutAt axis sum) ≡ (leb axis 4 && leb sum (sumSpanOf (axis + 1)))
+-- the cut of two words is in range exactly if each is at most its greatest, and the axis is one that the rule goes by
+pub cut-at-in-range : (rule axis sum : ℕ) → cutInRange rule (cutAt axis sum) ≡ (isAxisBy rule (axis + 1) && leb sum (sumSpanOf (axis + 1)))
 unfolding cutInRange cutAt
-cut-at-in-range axis sum = go (leb axis 4) refl
+cut-at-in-range rule axis sum = go (leb axis 8) refl
   where
-    go : (t : Bool) → leb axis 4 ≡ t → cutInRange (cutAt axis sum) ≡ (leb axis 4 && leb sum (sumSpanOf (axis + 1)))
-    go true e =
-        let h = leb-true axis 4 e in
-        rw (e, le-leb 1 (axis + 1) (omega arith), le-leb (axis + 1) 5 (omega arith))
-        (within-loaded (sumRangeOf (axis + 1)) (sum-range-sound (axis + 1)) (lit≤ tt) sum)
-    go false e = rw e
+    none : (t : Bool) → isAxisBy rule (axis + 1) ≡ t → leb axis 8 ≡ false → t ≡ false
+    none true e f = absurd (omega (arith, leb-false axis 8 f, leb-true (axis + 1) 9 (and-r (leb 1 (axis + 1)) (leb (axis + 1) 9) (axis-one rule (axis + 1) e))))
+    none false e f = refl
 
--- that cut, where it is in range: the next axis, and the least sum there with the word added
+    go : (t : Bool) → leb axis 8 ≡ t → cutInRange rule (cutAt axis sum) ≡ (isAxisBy rule (axis + 1) && leb sum (sumSpanOf (axis + 1)))
+    go true e = rw e (λ i. isAxisBy rule (axis + 1) && within-loaded (sumRangeOf (axis + 1)) (sum-range-sound (axis + 1)) (lit≤ tt) (sum-range-below (axis + 1)) sum i)
+    go false e = rw (e, none (isAxisBy rule (axis + 1)) refl e, lt-leb (2 + shiftOf rule) 0 (omega arith))
+
+-- so both words are in range whatever the rule
+pub cut-words-tell : (rule axis sum : ℕ) → cutInRange rule (cutAt axis sum) ≡ true → (axis ≤ 8) × (sum ≤ sumSpanOf (axis + 1))
+cut-words-tell rule axis sum e =
+    let a = isAxisBy rule (axis + 1) in
+    let b = leb sum (sumSpanOf (axis + 1)) in
+    let pair : (a && b) ≡ true = sym (cut-at-in-range rule axis sum) ∙ e in
+    let h = leb-true (axis + 1) 9 (and-r (leb 1 (axis + 1)) (leb (axis + 1) 9) (axis-one rule (axis + 1) (and-l a b pair))) in
+    (omega arith, leb-true sum (sumSpanOf (axis + 1)) (and-r a b pair))
+
+-- that cut, where its words are: the next axis, and the least sum there with the word added, all of which 32 bits hold
 pub record SoundCut (axis sum : ℕ) : Type 0 where
-  pub axis-small : axis ≤ 4
-  pub small : sum ≤ 2097151
+  pub axis-small : axis ≤ 8
+  pub small : sum ≤ 2000000000
+  pub low : Near (reach + reach) (sumRangeOf (axis + 1) .low)
   pub near : Near (reach + reach) (sumRangeOf (axis + 1) .low +ℤ pos sum)
   pub is : cutAt axis sum ≡ record { axis = axis + 1; sum = sumRangeOf (axis + 1) .low +ℤ pos sum }
 
-pub cut-plainly : (axis sum : ℕ) → cutInRange (cutAt axis sum) ≡ true → SoundCut axis sum
+pub cut-plainly : (axis sum : ℕ) → axis ≤ 8 → sum ≤ sumSpanOf (axis + 1) → SoundCut axis sum
 unfolding cutAt
-cut-plainly axis sum e =
-    let both = sym (cut-at-in-range axis sum) ∙ e in
-    let first = and-l (leb axis 4) (leb sum (sumSpanOf (axis + 1))) both in
-    let second = leb-true sum (sumSpanOf (axis + 1)) (and-r (leb axis 4) (leb sum (sumSpanOf (axis + 1))) both) in
+cut-plainly axis sum h second =
+    let first = le-leb axis 8 h in
     let r = sumRangeOf (axis + 1) in
     let s = sum-range-sound (axis + 1) in
-    let plain = loaded-is r s (lit≤ tt) sum second in
+    let t = sum-range-below (axis + 1) in
+    let plain = loaded-is r s (lit≤ tt) t sum second in
     record {
-      axis-small = leb-true axis 4 first;
-      small = omega (arith, second, span-le r s (lit≤ tt));
-      near = loaded r s (lit≤ tt) sum second .near;
+      axis-small = h;
+      small = omega (arith, second, span-raise r s (lit≤ tt) t, sum-range-span (axis + 1));
+      low = s .low;
+      near = loaded r s (lit≤ tt) t sum second .near;
       is = rw first (λ i. record { axis = axis + 1; sum = plain i });
     }
 
@@ -247,15 +234,14 @@ pub record CutWords (axis sum : ℕ) (k : Cut) : Type 0 where
   pub axis-part : axisWordOf k ≡ axis
   pub sum-part : sumWordOf k ≡ sum
 
-pub words-of-cut : (axis sum : ℕ) → cutInRange (cutAt axis sum) ≡ true → CutWords axis sum (cutAt axis sum)
+pub words-of-cut : (rule axis sum : ℕ) → cutInRange rule (cutAt axis sum) ≡ true → CutWords axis sum (cutAt axis sum)
 unfolding cutAt axisWordOf sumWordOf
-words-of-cut axis sum e =
-    let both = sym (cut-at-in-range axis sum) ∙ e in
-    let first = and-l (leb axis 4) (leb sum (sumSpanOf (axis + 1))) both in
-    let h = leb-true axis 4 first in
+words-of-cut rule axis sum e =
+    let tell = cut-words-tell rule axis sum e in
+    let first = le-leb axis 8 (tell .0) in
+    let one : isAxis (axis + 1) ≡ true = and-i (le-leb 1 (axis + 1) (omega arith)) (le-leb (axis + 1) 9 (omega (arith, tell .0))) in
     let minus : axis + 1 - 1 ≡ axis = omega arith in
-    let second = leb-true sum (sumSpanOf (axis + 1)) (and-r (leb axis 4) (leb sum (sumSpanOf (axis + 1))) both) in
     record {
-      axis-part = rw (first, le-leb 1 (axis + 1) (omega arith), le-leb (axis + 1) 5 (omega arith)) minus;
-      sum-part = rw first (stored-loaded (sumRangeOf (axis + 1)) (sum-range-sound (axis + 1)) (lit≤ tt) sum second);
+      axis-part = rw (first, one) minus;
+      sum-part = rw first (stored-loaded (sumRangeOf (axis + 1)) (sum-range-sound (axis + 1)) (lit≤ tt) (sum-range-below (axis + 1)) sum (tell .1));
     }

@@ -9,7 +9,7 @@ use Rattle.points.specs.declared.point.Point.{Point}
 use Rattle.points.specs.declared.cut.Cut.{Cut}
 use Rattle.points.specs.declared.order.Order.the-variants.{Less}
 use Rattle.points.specs.declared.scale.Scale.{Scale}
-use Rattle.points.specs.Point.{coordinateOf}
+use Rattle.points.specs.Number.{numberOf}
 use Rattle.points.specs.Order.{byAxis, orderOf, tieOf, isLess, isEqual}
 use Rattle.points.specs.Scale.{countOf}
 use Rattle.points.specs.Square.{squaredOf, topped, squareOf}
@@ -41,7 +41,7 @@ chosenOver scale target a b = chosenBy (squareOf scale) target a b
 -- twice the least distance of the target from the far side, on the cut's axis
 unfoldable pub farGap : Cut → Point → ℕ
 farGap cut target =
-    let x = coordinateOf target (cut .axis) in
+    let x = numberOf target (cut .axis) in
     cond (goesLeft cut target) (natAbs (cut .sum -ℤ (x +ℤ x))) (suc (natAbs (x +ℤ x -ℤ cut .sum)))
 
 -- no record beyond the cut can be chosen over one at the best square: always on axis 1, where the far side has other grades;
@@ -50,7 +50,7 @@ unfoldable pub excludedBy : (ℕ → ℕ) → Cut → Point → ℕ → Bool
 excludedBy count cut target best =
     cond (eqb (cut .axis) 1) true (ltb (topped (4 * best)) (topped (count (cut .axis) * (farGap cut target * farGap cut target))))
 
--- by the factors of the opening
+-- by the rule and the factors of the opening
 unfoldable pub excluded : Scale → Cut → Point → ℕ → Bool
 excluded scale cut target best = excludedBy (countOf scale) cut target best
 

@@ -8,7 +8,8 @@ use Rattle.points.specs.declared.point.Point.{Point}
 use Rattle.points.specs.declared.cut.Cut.{Cut}
 use Rattle.points.specs.declared.cut.Spread.{Spread}
 use Rattle.points.specs.Signed.{cappedOf}
-use Rattle.points.specs.Point.{coordinateOf}
+use Rattle.points.specs.Number.{numberOf}
+use Rattle.points.specs.Rule.{axisOf}
 use Rattle.points.specs.Square.{gapOf}
 
 -- one of two spreads
@@ -24,14 +25,18 @@ widerOf first second = pickSpread (ltb (first .gap) (second .gap)) second first
 unfoldable pub spreadOf : Point → Point → ℕ → Spread
 spreadOf a b axis = record { axis = axis; gap = gapOf a b axis }
 
--- the axis of the greatest difference, the lowest axis on a tie
-unfoldable pub widestOf : Point → Point → ℕ
-widestOf a b = widerOf (widerOf (widerOf (widerOf (spreadOf a b 1) (spreadOf a b 2)) (spreadOf a b 3)) (spreadOf a b 4)) (spreadOf a b 5) .axis
+-- of the axes that a rule goes by, that of the greatest difference, the lowest on a tie
+unfoldable pub widestOf : ℕ → Point → Point → ℕ
+widestOf rule a b =
+    let on : ℕ → Spread = λ k. spreadOf a b (axisOf rule k) in
+    widerOf (widerOf (widerOf (widerOf (on 1) (on 2)) (on 3)) (on 4)) (on 5) .axis
 
 -- the cut between two points keeps the sum of that axis; a sum of points in range is never capped (`cut-plain`)
-unfoldable pub cutOf : Point → Point → Cut
-cutOf a b = record { axis = widestOf a b; sum = cappedOf (coordinateOf a (widestOf a b) +ℤ coordinateOf b (widestOf a b)) }
+unfoldable pub cutOf : ℕ → Point → Point → Cut
+cutOf rule a b =
+    let axis = widestOf rule a b in
+    record { axis = axis; sum = cappedOf (numberOf a axis +ℤ numberOf b axis) }
 
--- a point goes left exactly if twice its coordinate is less than the sum
+-- a point goes left exactly if twice its number on the axis is less than the sum
 unfoldable pub goesLeft : Cut → Point → Bool
-goesLeft cut p = ltZ (coordinateOf p (cut .axis) +ℤ coordinateOf p (cut .axis)) (cut .sum)
+goesLeft cut p = ltZ (numberOf p (cut .axis) +ℤ numberOf p (cut .axis)) (cut .sum)

@@ -1,6 +1,8 @@
 pub mod Signed
 pub mod Point
 pub mod Order
+pub mod Rule
+pub mod Number
 pub mod Scale
 pub mod Square
 pub mod Cut

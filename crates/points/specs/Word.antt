@@ -8,6 +8,8 @@ use Rattle.points.specs.declared.point.Point.{Point}
 use Rattle.points.specs.declared.point.Range.{Range}
 use Rattle.points.specs.declared.cut.Cut.{Cut}
 use Rattle.points.specs.Point.{rangeOf, withinRange, coordinateOf}
+use Rattle.points.specs.Rule.{isAxisBy}
+use Rattle.points.specs.Number.{numberRangeOf}
 
 -- the word for none, which stands for no number of a range
 abbrev pub NONE : ℕ
@@ -25,9 +27,9 @@ storedIn r x = cond (withinRange r x) (natAbs (x -ℤ r .low)) NONE
 unfoldable pub loadedIn : Range → ℕ → ℤ
 loadedIn r w = cond (leZ (r .low +ℤ pos w) (r .high)) (r .low +ℤ pos w) outside
 
--- the range of the sums of two coordinates of an axis
+-- the range of the sums of two numbers of an axis
 unfoldable pub sumRangeOf : ℕ → Range
-sumRangeOf axis = record { low = rangeOf axis .low +ℤ rangeOf axis .low; high = rangeOf axis .high +ℤ rangeOf axis .high }
+sumRangeOf axis = record { low = numberRangeOf axis .low +ℤ numberRangeOf axis .low; high = numberRangeOf axis .high +ℤ numberRangeOf axis .high }
 
 -- the greatest word of a range, of an axis's coordinates and of its sums
 unfoldable pub spanIn : Range → ℕ
@@ -57,13 +59,13 @@ pointAt grade weight moisture speed draw = record {
   draw = coordinateAt 5 draw;
 }
 
--- an axis from 1 to 5
+-- an axis from 1 to 9
 abbrev pub isAxis : ℕ → Bool
-isAxis axis = leb 1 axis && leb axis 5
+isAxis axis = leb 1 axis && leb axis 9
 
--- an axis, and a sum that two points in range can have there
-unfoldable pub cutInRange : Cut → Bool
-cutInRange cut = isAxis (cut .axis) && withinRange (sumRangeOf (cut .axis)) (cut .sum)
+-- an axis that the rule goes by, and a sum that two points in range can have there
+unfoldable pub cutInRange : ℕ → Cut → Bool
+cutInRange rule cut = isAxisBy rule (cut .axis) && withinRange (sumRangeOf (cut .axis)) (cut .sum)
 
 -- the word of a cut's axis
 unfoldable pub axisWordOf : Cut → ℕ
@@ -73,6 +75,6 @@ axisWordOf cut = cond (isAxis (cut .axis)) (cut .axis - 1) NONE
 unfoldable pub sumWordOf : Cut → ℕ
 sumWordOf cut = storedIn (sumRangeOf (cut .axis)) (cut .sum)
 
--- the cut of two words; no axis where the first is above 4
+-- the cut of two words; no axis where the first is above 8
 unfoldable pub cutAt : ℕ → ℕ → Cut
-cutAt axis sum = cond (leb axis 4) (record { axis = axis + 1; sum = loadedIn (sumRangeOf (axis + 1)) sum }) (record { axis = 0; sum = pos 0 })
+cutAt axis sum = cond (leb axis 8) (record { axis = axis + 1; sum = loadedIn (sumRangeOf (axis + 1)) sum }) (record { axis = 0; sum = pos 0 })

@@ -1,5 +1,6 @@
 // The choice of the nearest: which of two records a target chooses, and when a far side holds none that it would.
 use crate::cut::Cut;
+use crate::number::picked_number;
 use crate::order::by_axis;
 use crate::order::tie;
 use crate::point::Point;
@@ -13,6 +14,7 @@ use crate::square::square;
 ghost use mathlib.Core.Path.{_≡_};
 ghost use Prim.Native.Nat.{_*_};
 ghost use Rattle.points.specs.Square.{topped};
+ghost use Rattle.points.specs.Cut.{goesLeft};
 ghost use Rattle.points.specs.Choice.{sameGrade, chosenAt, chosenOver, farGap, excluded};
 
 // Whether two points have one grade.
@@ -42,11 +44,18 @@ pub fn chosen_over(scale: Scale, target: Point, a: Point, b: Point) -> bool
     chosen_at(square(scale, target, a), square(scale, target, b), a, b)
 }
 
+// Whether a cut sends a target left: exactly if twice its number on the axis is less than the sum.
+pub fn aims_left(cut: Cut, target: Point) -> bool
+    ensures { λ r. ⌜ r ≡ goesLeft cut target ⌝ }
+{
+    twice(picked_number(target, cut.axis)) < extended(cut.sum)
+}
+
 // Twice the least distance of a target from the far side of a cut, on the cut's axis.
 fn far_gap(cut: Cut, target: Point) -> u64
     ensures { λ r. ⌜ r ≡ farGap cut target ⌝ }
 {
-    let double = twice(target.coordinate(cut.axis));
+    let double = twice(picked_number(target, cut.axis));
     let sum = extended(cut.sum);
     if double < sum {
         (sum - double) as u64

@@ -1,13 +1,17 @@
 // Cuts of the tree: the cut between two points, and the side on which a cut sends a point.
+use crate::number::number;
 use crate::point::Point;
+use crate::rule::axis_by;
 use crate::signed::capped_sum;
 use crate::signed::extended;
 use crate::signed::twice;
 use crate::square::gap;
 ghost use mathlib.Core.Path.{_≡_};
+ghost use Prim.Native.Nat.{_≤_};
+ghost use Rattle.points.specs.Rule.{axisOf};
 ghost use Rattle.points.specs.Cut.{widerOf, spreadOf, widestOf, cutOf, goesLeft};
 
-// An axis, and the sum of two coordinates there.
+// An axis, and the sum of two numbers there.
 pub struct Cut {
     pub axis: u32,
     pub sum: i32,
@@ -30,41 +34,43 @@ fn wider(first: Spread, second: Spread) -> Spread
     }
 }
 
-// The spread of two points on an axis.
-fn spread_on(a: Point, b: Point, axis: u32) -> Spread
-    ensures { λ r. ⌜ r ≡ spreadOf a b axis ⌝ }
+// The spread of two points on the k-th axis that a rule goes by.
+fn spread_by(rule: u32, a: Point, b: Point, k: u32) -> Spread
+    requires { ⌜ k ≤ 5 ⌝ }
+    ensures { λ r. ⌜ r ≡ spreadOf a b (axisOf rule k) ⌝ }
 {
+    let axis = axis_by(rule, k);
     Spread {
         axis: axis,
         gap: gap(a, b, axis),
     }
 }
 
-// The axis of the greatest gap, the lowest on a tie.
-fn widest(a: Point, b: Point) -> u32
-    ensures { λ r. ⌜ r ≡ widestOf a b ⌝ }
+// Of the axes that a rule goes by, that of the greatest gap, the lowest on a tie.
+fn widest(rule: u32, a: Point, b: Point) -> u32
+    ensures { λ r. ⌜ r ≡ widestOf rule a b ⌝ }
 {
-    let two = wider(spread_on(a, b, 1), spread_on(a, b, 2));
-    let three = wider(two, spread_on(a, b, 3));
-    let four = wider(three, spread_on(a, b, 4));
-    let five = wider(four, spread_on(a, b, 5));
+    let two = wider(spread_by(rule, a, b, 1), spread_by(rule, a, b, 2));
+    let three = wider(two, spread_by(rule, a, b, 3));
+    let four = wider(three, spread_by(rule, a, b, 4));
+    let five = wider(four, spread_by(rule, a, b, 5));
     five.axis
 }
 
-// The cut between two points. A sum past the least or the greatest `i32` stops there.
-pub fn cut_between(a: Point, b: Point) -> Cut
-    ensures { λ r. ⌜ r ≡ cutOf a b ⌝ }
+// The cut between two points under a rule. A sum past the least or the greatest `i32` stops there.
+pub fn cut_between(rule: u32, a: Point, b: Point) -> Cut
+    ensures { λ r. ⌜ r ≡ cutOf rule a b ⌝ }
 {
-    let axis = widest(a, b);
+    let axis = widest(rule, a, b);
     Cut {
         axis: axis,
-        sum: capped_sum(a.coordinate(axis), b.coordinate(axis)),
+        sum: capped_sum(number(a, axis), number(b, axis)),
     }
 }
 
-// Whether a cut sends a point left: exactly if twice its coordinate is less than the sum.
+// Whether a cut sends a point left: exactly if twice its number on the axis is less than the sum.
 pub fn goes_left(cut: Cut, p: Point) -> bool
     ensures { λ r. ⌜ r ≡ goesLeft cut p ⌝ }
 {
-    twice(p.coordinate(cut.axis)) < extended(cut.sum)
+    twice(number(p, cut.axis)) < extended(cut.sum)
 }

@@ -1,6 +1,5 @@
 // Sums and differences of `i32` numbers, worked out in `i64`, which holds every one of them.
 ghost use mathlib.Core.Path.{_≡_};
-ghost use Prim.Native.Nat.{_*_};
 ghost use lib.IntN.{natAbs, _+ℤ_, _-ℤ_};
 ghost use Rattle.points.specs.Signed.{cappedOf};
 
@@ -39,24 +38,22 @@ pub fn apart(x: i32, y: i32) -> u64
     }
 }
 
-// The square of how far apart two numbers lie.
-pub(crate) fn squared_apart(x: i32, y: i32) -> u64
-    ensures { λ r. ⌜ r ≡ natAbs (x -ℤ y) * natAbs (x -ℤ y) ⌝ }
+// A number that stops at the least and at the greatest `i32`.
+pub(crate) fn capped(x: i64) -> i32
+    ensures { λ r. ⌜ r ≡ cappedOf x ⌝ }
 {
-    let d = apart(x, y);
-    d * d
+    if x < -2147483648 {
+        return -2147483648;
+    }
+    if 2147483647 < x {
+        return 2147483647;
+    }
+    x as i32
 }
 
-// The sum of two numbers, which stops at the least and at the greatest `i32`.
+// The sum of two numbers, which stops there.
 pub(crate) fn capped_sum(x: i32, y: i32) -> i32
     ensures { λ r. ⌜ r ≡ cappedOf (x +ℤ y) ⌝ }
 {
-    let sum = extended(x) + extended(y);
-    if sum < -2147483648 {
-        return -2147483648;
-    }
-    if 2147483647 < sum {
-        return 2147483647;
-    }
-    sum as i32
+    capped(extended(x) + extended(y))
 }

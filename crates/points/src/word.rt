@@ -1,13 +1,19 @@
 // Points and cuts as the words that are stored: a coordinate less the least of its axis, a sum less twice that.
 use crate::cut::Cut;
+use crate::number::number_range_on;
 use crate::point::Point;
 use crate::point::Range;
 use crate::point::range_on;
+use crate::rule::DRY_RULE;
+use crate::rule::is_axis_by;
+use crate::rule::shift;
 use crate::signed::extended;
 ghost use mathlib.Core.Path.{_≡_};
 ghost use Prim.Native.Nat.{_+_};
-ghost use lib.Dec.{leb};
-ghost use Rattle.points.specs.Point.{inRange};
+ghost use mathlib.Core.Bool.{not, _||_};
+ghost use lib.Dec.{eqb, leb, ltb};
+ghost use Rattle.points.specs.Rule.{dryRule};
+ghost use Rattle.points.specs.Number.{inRangeBy};
 ghost use Rattle.points.specs.Word.{storedIn, loadedIn, sumRangeOf, spanOf, sumSpanOf, wordOf, coordinateAt, pointAt, axisWordOf, sumWordOf, cutAt, cutInRange};
 
 // A number in a range as its distance from the least; for any other the word for none.
@@ -33,11 +39,11 @@ fn loaded_in(r: Range, w: u32) -> i32
     }
 }
 
-// The range of the sums of two coordinates.
+// The range of the sums of two numbers of an axis.
 fn sum_range_on(axis: u32) -> Range
     ensures { λ r. ⌜ r ≡ sumRangeOf axis ⌝ }
 {
-    let one = range_on(axis);
+    let one = number_range_on(axis);
     Range {
         low: one.low + one.low,
         high: one.high + one.high,
@@ -68,7 +74,7 @@ fn sum_low_on(axis: u32) -> i32
     r.low
 }
 
-// The greatest word of the sums of an axis, by the word of that axis, one less than its number. It is compiled to a table of five numbers, where ranges
+// The greatest word of the sums of an axis, by the word of that axis, one less than its number. It is compiled to a table of nine numbers, where ranges
 // would be put on the stack at every use.
 fn sum_span_at(axis: u32) -> u32
     ensures { λ w. ⌜ w ≡ sumSpanOf (axis + 1) ⌝ }
@@ -78,7 +84,11 @@ fn sum_span_at(axis: u32) -> u32
         1 => sum_span_on(2),
         2 => sum_span_on(3),
         3 => sum_span_on(4),
-        _ => sum_span_on(5),
+        4 => sum_span_on(5),
+        5 => sum_span_on(6),
+        6 => sum_span_on(7),
+        7 => sum_span_on(8),
+        _ => sum_span_on(9),
     }
 }
 
@@ -91,7 +101,11 @@ pub fn sum_low_at(axis: u32) -> i32
         1 => sum_low_on(2),
         2 => sum_low_on(3),
         3 => sum_low_on(4),
-        _ => sum_low_on(5),
+        4 => sum_low_on(5),
+        5 => sum_low_on(6),
+        6 => sum_low_on(7),
+        7 => sum_low_on(8),
+        _ => sum_low_on(9),
     }
 }
 
@@ -129,29 +143,44 @@ fn word_in_range(axis: u32, w: u32) -> bool
     w <= span_on(axis)
 }
 
-// Whether the point of five words is in range, by the words alone.
-pub fn point_words_in_range(grade: u32, weight: u32, moisture: u32, speed: u32, draw: u32) -> bool
-    ensures { λ b. ⌜ b ≡ inRange (pointAt grade weight moisture speed draw) ⌝ }
+// Whether the word of a moisture in range is one that the rule lets pass.
+fn moisture_word_by(rule: u32, moisture: u32) -> bool
+    ensures { λ b. ⌜ b ≡ (not (eqb rule dryRule) || ltb moisture 10000) ⌝ }
+{
+    !(rule == DRY_RULE) | (moisture < 10000)
+}
+
+// Whether the point of five words is in range under a rule, by the words alone.
+pub fn point_words_in_range(
+    rule: u32,
+    grade: u32,
+    weight: u32,
+    moisture: u32,
+    speed: u32,
+    draw: u32,
+) -> bool
+    ensures { λ b. ⌜ b ≡ inRangeBy rule (pointAt grade weight moisture speed draw) ⌝ }
 {
     word_in_range(1, grade)
         & word_in_range(2, weight)
         & word_in_range(3, moisture)
+        & moisture_word_by(rule, moisture)
         & word_in_range(4, speed)
         & word_in_range(5, draw)
 }
 
-// Whether a cut has an axis, 1 to 5, and a sum that two points in range can have there.
-pub fn cut_in_range(cut: Cut) -> bool
-    ensures { λ b. ⌜ b ≡ cutInRange cut ⌝ }
+// Whether a cut has an axis that the rule goes by, and a sum that two points in range can have there.
+pub fn cut_in_range(rule: u32, cut: Cut) -> bool
+    ensures { λ b. ⌜ b ≡ cutInRange rule cut ⌝ }
 {
-    (1 <= cut.axis) & (cut.axis <= 5) & sum_range_on(cut.axis).holds(cut.sum)
+    is_axis_by(rule, cut.axis) & sum_range_on(cut.axis).holds(cut.sum)
 }
 
 // The word of a cut's axis: one less than its number; the word for none where there is no such axis.
 pub fn axis_word(cut: Cut) -> u32
     ensures { λ w. ⌜ w ≡ axisWordOf cut ⌝ }
 {
-    if (1 <= cut.axis) & (cut.axis <= 5) {
+    if (1 <= cut.axis) & (cut.axis <= 9) {
         cut.axis - 1
     } else {
         4294967295
@@ -169,7 +198,7 @@ pub fn sum_word(cut: Cut) -> u32
 pub fn cut_at(axis: u32, sum: u32) -> Cut
     ensures { λ r. ⌜ r ≡ cutAt axis sum ⌝ }
 {
-    if axis <= 4 {
+    if axis <= 8 {
         Cut {
             axis: axis + 1,
             sum: loaded_in(sum_range_on(axis + 1), sum),
@@ -179,9 +208,10 @@ pub fn cut_at(axis: u32, sum: u32) -> Cut
     }
 }
 
-// Whether the cut of two words is in range, by the words alone.
-pub fn cut_words_in_range(axis: u32, sum: u32) -> bool
-    ensures { λ b. ⌜ b ≡ cutInRange (cutAt axis sum) ⌝ }
+// Whether the cut of two words is in range under a rule, by the words alone.
+pub fn cut_words_in_range(rule: u32, axis: u32, sum: u32) -> bool
+    ensures { λ b. ⌜ b ≡ cutInRange rule (cutAt axis sum) ⌝ }
 {
-    (axis <= 4) & (sum <= sum_span_at(axis))
+    let by = shift(rule);
+    ((axis == 0) | ((1 + by <= axis) & (axis <= 4 + by))) & (sum <= sum_span_at(axis))
 }

@@ -10,17 +10,17 @@ use lib.Dec.{lit≤}
 use mir.Syntax.{w64}
 use lib.IntN.{ℤ, natAbs, _+ℤ_, _-ℤ_}
 use lib.Signed.{ltZ}
-use Rattle.points.specs.Point.{coordinateOf}
+use Rattle.points.specs.Number.{numberOf}
 use Rattle.points.specs.Cut.{goesLeft}
 use Rattle.points.specs.Choice.{farGap}
 use Rattle.points.proofs.IntegerLaws.{Near, near-add, near-sub, near-more, near-lt, abs-raise}
 use Rattle.points.proofs.MachineLaws.{in64, of-ok, of-result, extended-read, doubled, sub64, fits64, back64, lt-not, cast-sub}
 
--- twice the target's coordinate, and the sum, as the machine has them
+-- twice the target's number, and the sum, as the machine has them
 double : tie.After-extended → ℤ
 double c =
     let s = c .before .before .before .before .args in
-    coordinateOf (s .target) (s .cut .axis) +ℤ coordinateOf (s .target) (s .cut .axis)
+    numberOf (s .target) (s .cut .axis) +ℤ numberOf (s .target) (s .cut .axis)
 
 sum : tie.After-extended → ℤ
 sum c = c .before .before .before .before .args .cut .sum
@@ -29,7 +29,7 @@ module _ (c : tie.After-extended) where
   is-double : in64 (c .before .before .twice .result) ≡ double c
   unfolding double
   is-double =
-      let x = c .before .before .before .coordinate in
+      let x = c .before .before .before .picked-number in
       doubled (c .before .before .twice .ensures) (x .ensures) (x .ok)
 
   is-sum : in64 (c .extended .result) ≡ sum c
@@ -39,10 +39,10 @@ module _ (c : tie.After-extended) where
   near-double : Near 4294967296 (double c)
   unfolding double
   near-double =
-      let x = c .before .before .before .coordinate in
+      let x = c .before .before .before .picked-number in
       let s = c .before .before .before .before .args in
       let n = of-result (x .ensures) (x .ok) in
-      near-add (coordinateOf (s .target) (s .cut .axis)) (coordinateOf (s .target) (s .cut .axis)) n n
+      near-add (numberOf (s .target) (s .cut .axis)) (numberOf (s .target) (s .cut .axis)) n n
 
   near-sum : Near 4294967296 (sum c)
   unfolding sum
@@ -63,8 +63,8 @@ module _ (c : tie.After-extended) where
       let n = near-sub (double c) (sum c) near-double near-sum in
       omega (arith, abs-raise (double c -ℤ sum c) n, near-lt (double c -ℤ sum c) n)
 
-coordinate-requires : tie.Need-coordinate-requires
-coordinate-requires c κs = search needs
+picked-number-requires : tie.Need-picked-number-requires
+picked-number-requires c κs = search needs
 
 twice-requires : tie.Need-twice-requires
 twice-requires c κs = search needs
@@ -110,7 +110,7 @@ pub far-gap-spec : {M : Type 1} → statement M
 far-gap-spec =
     tie.close
     (tie.spec
-    coordinate-requires
+    picked-number-requires
     twice-requires
     extended-requires
     sub-result

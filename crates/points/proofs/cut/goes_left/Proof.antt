@@ -5,8 +5,8 @@ use lib.Signed.{ltZ}
 use Rattle.points.specs.Cut.{goesLeft}
 use Rattle.points.proofs.MachineLaws.{of-ok, extended-read, doubled}
 
-coordinate-requires : tie.Need-coordinate-requires
-coordinate-requires c κs = search needs
+number-requires : tie.Need-number-requires
+number-requires c κs = search needs
 
 twice-requires : tie.Need-twice-requires
 twice-requires c κs = search needs
@@ -17,10 +17,10 @@ extended-requires c κs = search needs
 returns : tie.Need-returns
 unfolding goesLeft
 returns c =
-    let x = c .before .before .before .coordinate in
+    let x = c .before .before .before .number in
     let double = doubled (c .before .before .twice .ensures) (x .ensures) (x .ok) in
     let sum = extended-read (c .extended .ensures) (of-ok (c .before .struct-told .given .1 .0 .1)) in
     λ i. ltZ (double i) (sum i)
 
 pub goes-left-spec : {M : Type 1} → statement M
-goes-left-spec = tie.close (tie.spec coordinate-requires twice-requires extended-requires returns)
+goes-left-spec = tie.close (tie.spec number-requires twice-requires extended-requires returns)

@@ -1,4 +1,3 @@
--- `points::order::same_point` meets its contract. Assumes nothing.
 use borrow.Author.Needs.{needs}
 use Rattle.points.proofs.order.same_point.Statement.{statement}
 use Rattle.points.proofs.order.same_point.Tie as tie
