@@ -4,18 +4,18 @@
 use Prim.Native.Nat.{ℕ}
 use mathlib.Core.Path.{_≡_, refl, sym, _∙_, ap, subst, subst₂, subst₃}
 use mathlib.Core.Logic.{inl, inr}
-use mathlib.Core.Bool.{Bool, true, false, true≢false}
+use mathlib.Core.Bool.{Bool, true, false, not, true≢false}
 use mathlib.Core.List.{List, [], _∷_}
 use mathlib.Core.Option.{Option, none, some}
 use native.Mathlib.Omega.{arith}
-use lib.IntN.{ℤ, pos}
+use lib.IntN.{pos}
 use Rattle.points.specs.declared.point.Point.{Point}
-use Rattle.points.specs.Point.{coordinateOf, withinRange, onAxis, inRange, rangeOf, indexOf}
+use Rattle.points.specs.declared.cut.Cut.{Cut}
+use Rattle.points.specs.Point.{coordinateOf}
+use Rattle.points.specs.Number.{numberOf}
 use Rattle.points.specs.Scale.{plainScale}
-use Rattle.points.specs.Square.{gapOf}
 use Rattle.points.specs.Order.{byAxis}
-use Rattle.points.specs.Signed.{cappedOf}
-use Rattle.points.specs.Cut.{widerOf, spreadOf, widestOf, cutOf, goesLeft}
+use Rattle.points.specs.Cut.{goesLeft}
 use Rattle.points.specs.Choice.{sameGrade}
 use Rattle.points.specs.Word.{NONE}
 use Rattle.points.proofs.ChoiceLaws.{grade-turn, grade-trans}
@@ -60,8 +60,12 @@ opened i = spareRow (openedNext 4 i) 0
 abbrev one : Heap
 one = write opened 0 (leafRow NONE old)
 
+-- the cut between the two weights
+abbrev between : Cut
+between = record { axis = 2; sum = pos 19990 }
+
 abbrev two : Heap
-two = write (write (write one 1 (leafRow 2 new)) 2 (newCut NONE (new .point) (old .point) 1 0)) 0 (leafRow 2 old)
+two = write (write (write one 1 (leafRow 2 new)) 2 (newCut between NONE (new .point) 1 0)) 0 (leafRow 2 old)
 
 abbrev last : Heap
 last = write (write (write (write two 3 (setNext 0 (two 3))) 0 (removedRow 2 1 old)) 2 (spareRow NONE 1)) 1 (setParent NONE (two 1))
@@ -69,14 +73,6 @@ last = write (write (write (write two 3 (setNext 0 (two 3))) 0 (removedRow 2 1 o
 -- the search for weight 12,000, submitted after the first insert, as the changes of the others leave it
 abbrev left : Progress
 left = searchAfterUnlink 0 2 1 (landing (choiceOf plainScale target .side) two 2 0) (searchAfterInsert 0 2 (begun (some (leaf 0 old))))
-
-old-in-range : inRange (old .point) ≡ true
-unfolding inRange onAxis withinRange rangeOf indexOf coordinateOf
-old-in-range = refl
-
-new-in-range : inRange (new .point) ≡ true
-unfolding inRange onAxis withinRange rangeOf indexOf coordinateOf
-new-in-range = refl
 
 -- a store whose tree has this shape holds this tree
 is-tree : {h : Heap} {t : Option Tree} {q : List Free} {changes removals released : ℕ} (t′ : Tree) → Store 2 h t q changes removals released → Rows t′
@@ -87,9 +83,9 @@ is-tree {h} {t} t′ s rows shape e =
     rw f at s
 
 -- the first insert
-first : Inserted 2 opened one none (spareRows 0 4) 0 0 0 old none 0 1
+first : Inserted 2 opened one none (spareRows 0 4) 0 0 0 old none between 0 1
 unfolding spareRows
-first = insert one old none none (store-open 2 opened (omega arith) (λ i l. refl)) (omega arith) refl tt old-in-range refl
+first = insert one between old none none (store-open 2 opened (omega arith) (λ i l. refl)) (omega arith) refl tt refl
     (insert-write (write-wrote opened 0 (leafRow NONE old)))
 
 store-one : Store 2 one (some (leaf 0 old)) (first .queue) 1 0 0
@@ -100,18 +96,16 @@ store-one = is-tree (leaf 0 old) (first .store) (λ i m x. omega (arith, m, x)) 
 abbrev beside : Leaf
 beside = record { row = 0; parent = NONE; entry = old }
 
-weights-differ : ¬ (new .point ≡ old .point)
-weights-differ e =
-    let z : _≡_ {A = ℤ} (pos 11990) (pos 8000) = ap (λ p. p .weight) e in
-    let y : _≡_ {A = ℕ} 11990 8000 = cc in
-    omega arith
+parted : goesLeft between (old .point) ≡ not (goesLeft between (new .point))
+unfolding goesLeft numberOf coordinateOf
+parted = refl
 
-second : Inserted 2 one two (some (leaf 0 old)) (first .queue) 1 0 0 new (some beside) 1 2
+second : Inserted 2 one two (some (leaf 0 old)) (first .queue) 1 0 0 new (some beside) between 1 2
 unfolding treeCount write
 second =
     let a-is : firstFree (first .queue) ≡ 1 = first .head in
     let b-is : secondFree one (first .queue) ≡ 2 = ap (λ x. nextOf (one x)) a-is in
-    let w : InsertBeside one two 1 2 new beside =
+    let w : InsertBeside one two between 1 2 new beside =
     insert-writes (record {
       a≢b = λ e. omega arith;
       a≢row = λ e. omega arith;
@@ -120,20 +114,20 @@ second =
       b≢parent = λ e. omega arith;
       row≢parent = λ e. omega arith;
     })
-    (write-wrote one 1 (leafRow 2 new)) (write-wrote (write one 1 (leafRow 2 new)) 2 (newCut NONE (new .point) (old .point) 1 0))
-    (write-wrote (write (write one 1 (leafRow 2 new)) 2 (newCut NONE (new .point) (old .point) 1 0)) 0 (leafRow 2 old))
+    (write-wrote one 1 (leafRow 2 new)) (write-wrote (write one 1 (leafRow 2 new)) 2 (newCut between NONE (new .point) 1 0))
+    (write-wrote (write (write one 1 (leafRow 2 new)) 2 (newCut between NONE (new .point) 1 0)) 0 (leafRow 2 old))
     (record { nothing = λ e i. refl; written = λ n. absurd (n refl) }) in
-    let w′ : InsertBeside one two (firstFree (first .queue)) (secondFree one (first .queue)) new beside =
-    subst₂ (λ (x y : ℕ). InsertBeside one two x y new beside) (sym a-is) (sym b-is) w in
-    subst₂ (λ (x y : ℕ). Inserted 2 one two (some (leaf 0 old)) (first .queue) 1 0 0 new (some beside) x y) a-is b-is
-    (insert two new (some (leaf 0 old)) (some beside) store-one (omega arith) (refl, refl) weights-differ new-in-range refl w′)
+    let w′ : InsertBeside one two between (firstFree (first .queue)) (secondFree one (first .queue)) new beside =
+    subst₂ (λ (x y : ℕ). InsertBeside one two between x y new beside) (sym a-is) (sym b-is) w in
+    subst₂ (λ (x y : ℕ). Inserted 2 one two (some (leaf 0 old)) (first .queue) 1 0 0 new (some beside) between x y) a-is b-is
+    (insert two between new (some (leaf 0 old)) (some beside) store-one (omega arith) (refl, refl) parted refl w′)
 
 -- the unlink of the first record, from below the cut of row 2, with the second as its sibling
 abbrev both : Tree
-both = cut 2 (cutOf (new .point) (old .point)) (leaf 0 old) (leaf 1 new)
+both = cut 2 between (leaf 0 old) (leaf 1 new)
 
-cut-reads : two 2 ≡ cutRow NONE (cutOf (new .point) (old .point)) 0 1
-unfolding write cutOf widestOf widerOf spreadOf gapOf coordinateOf cappedOf goesLeft
+cut-reads : two 2 ≡ cutRow NONE between 0 1
+unfolding write numberOf coordinateOf goesLeft
 cut-reads = refl
 
 tree-two : second .tree ≡ some both
@@ -186,11 +180,11 @@ moved = refl
 
 -- a search that stood on the removed record, the far child, would have landed on its way up; one on the other, which is near, going down
 lands-up : landing (choiceOf plainScale target .side) two 2 0 ≡ Up
-unfolding landing write cutOf widestOf widerOf spreadOf gapOf coordinateOf cappedOf goesLeft
+unfolding landing write numberOf coordinateOf goesLeft
 lands-up = refl
 
 lands-down : landing (choiceOf plainScale target .side) two 2 1 ≡ Down
-unfolding landing write cutOf widestOf widerOf spreadOf gapOf coordinateOf cappedOf goesLeft
+unfolding landing write numberOf coordinateOf goesLeft
 lands-down = refl
 
 -- what holds of the search after all this
@@ -244,7 +238,7 @@ closed = closed-covered marked (choiceOf plainScale other) other (some both) (λ
 
 -- one step comes to the cut, turns there and is at its end
 passes-over : seek (choiceOf plainScale other) opens 2 two (begun (some both)) ≡ some (record { stand = record { cursor = NONE; phase = Up }; missed = NONE; best = none })
-unfolding seek look tour toured write sameGrade byAxis coordinateOf cutOf widestOf widerOf spreadOf gapOf cappedOf goesLeft
+unfolding seek look tour toured write sameGrade byAxis numberOf coordinateOf goesLeft
 passes-over = refl
 
 -- and that no record has the grade is right

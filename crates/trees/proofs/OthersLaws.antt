@@ -29,7 +29,7 @@ use Rattle.trees.proofs.MeasureLaws.{kept-missing}
 module _ {places : ℕ} {h h′ : Heap} {t : Option Tree} {q : List Free} {changes removals released : ℕ} {c : Choice} {asOf since : ℕ} {Then : Entry → Type 0} {s : Progress}
     (st : Store places h t q changes removals released) where
   -- an insert: at most four moves more, those of a leaf and a cut
-  pub others-insert : {new : Entry} {beside : Option Leaf} {a b : ℕ} (w : Inserted places h h′ t q changes removals released new beside a b) → released ≤ since
+  pub others-insert : {new : Entry} {beside : Option Leaf} {k : Cut} {a b : ℕ} (w : Inserted places h h′ t q changes removals released new beside k a b) → released ≤ since
       → Search c asOf since Then t q changes removals s
       → progressLeft (c .side) (w .tree) (w .queue) (searchAfterInsert (leafOf beside) (cutFor beside b) s) ≤ 4 + progressLeft (c .side) t q s
   others-insert w le v =
