@@ -16,6 +16,7 @@ use Rattle.rows.specs.declared.row.Row.{Row}
 use Rattle.rows.specs.declared.row.Row.the-variants.{Bad, Spare, Removed, Leaf, Cut}
 use Rattle.words.specs.Layout.{rowSize, atRow}
 use Rattle.words.specs.Words.{get, part}
+use Rattle.words.specs.Rule.{ruleAt}
 use Rattle.words.specs.Agree.{Agree}
 use Rattle.rows.specs.Row.{inRows, checkedRow, asSpare, asRemoved, asLeaf, asCut, rowOf, rowAt}
 use Rattle.rows.specs.Tree.{childAt, atChild}
@@ -72,7 +73,7 @@ module _ {parent : ℕ} {cut : PointCut} {left right : ℕ} where
     -- the row is in the slice, and its words are a cut
     row-there : ((ltb r rows && leb (atRow r + rowSize) (length w)) ≡ true) × (rowOf (part w (atRow r) rowSize) ≡ Cut parent cut left right)
     unfolding rowAt checkedRow
-    row-there = go (ltb r rows && leb (atRow r + rowSize) (length w)) (inRows rows (rowOf (part w (atRow r) rowSize))) reads
+    row-there = go (ltb r rows && leb (atRow r + rowSize) (length w)) (inRows (ruleAt w) rows (rowOf (part w (atRow r) rowSize))) reads
       where
         go : (a b : Bool) → cond a (cond b (rowOf (part w (atRow r) rowSize)) Bad) Bad ≡ Cut parent cut left right → (a ≡ true) × (rowOf (part w (atRow r) rowSize) ≡ Cut parent cut left right)
         go true true g = (refl, g)
@@ -93,9 +94,9 @@ module _ {parent : ℕ} {cut : PointCut} {left right : ℕ} where
     cut-child false = sym (word-at 7 (lit< tt)) ∙ ap rightOf (kind-cut (part w (atRow r) rowSize) (row-there .1) .1)
 
     -- the last eight words are not looked at
-    pub cut-first : {v : List ℕ} → Agree v w (atRow r) 8 → rowAt v rows r ≡ rowAt w rows r
+    pub cut-first : {v : List ℕ} → ruleAt v ≡ ruleAt w → Agree v w (atRow r) 8 → rowAt v rows r ≡ rowAt w rows r
     unfolding rowAt get
-    cut-first {v} g = rw (g .lengths, same-cut (part w (atRow r) rowSize) (part v (atRow r) rowSize) each (row-there .1))
+    cut-first {v} e g = rw (e, g .lengths, same-cut (part w (atRow r) rowSize) (part v (atRow r) rowSize) each (row-there .1))
       where
         each : (k : ℕ) → k < 8 → getD (part v (atRow r) rowSize) k 0 ≡ getD (part w (atRow r) rowSize) k 0
         each k l =

@@ -21,13 +21,15 @@ use Rattle.points.proofs.ChoiceLaws.{grade-word}
 use Rattle.rows.specs.declared.row.Row.the-variants.{Cut}
 use Rattle.words.specs.Layout.{mostRows, rowSize, atRow, Fits}
 use Rattle.words.specs.Words.{get, put, splice}
+use Rattle.words.specs.Rule.{ruleAt}
 use Rattle.words.specs.Agree.{Agree, Only, inRow, AgreeIn, OnlyIn, startOf, sizeOf}
 use Rattle.rows.specs.Row.{rowAt, putRow}
 use Rattle.rows.specs.Tree.{childAt, atChild}
 use Rattle.rows.specs.Grades.{slotOf, atSlot, hasBit, withBit, admits, markSide, markToward, noGrades, beginGrades}
 use Rattle.words.proofs.Splice.{length-splice}
 use Rattle.words.proofs.WordLaws.{put-outside, get-put-same, get-put-other}
-use Rattle.words.proofs.AgreeLaws.{only-refl, only-trans, only-within, only-apart, put-only, put-agree, splice-only, splice-agree, cond-only, cond-agree, row-row, elsewhere}
+use Rattle.words.proofs.AgreeLaws.{only-refl, only-trans, only-within, only-apart, put-only, put-agree, splice-only, splice-agree, cond-only, cond-agree, row-row, common-row, elsewhere}
+use Rattle.words.proofs.RuleLaws.{rule-unseen}
 use Rattle.rows.proofs.RowLaws.{rowAt-agree, putRow-cut-only}
 use Rattle.rows.proofs.CutLaws.{cut-fits, cut-child, cut-first}
 
@@ -140,9 +142,15 @@ module _ {v w : List ℕ} (rows r parent : ℕ) (cut : PointCut) (left right : �
   unfolding startOf sizeOf
   rowAt-grades g e q = go (ℕ-discrete q r)
     where
+      own : OnlyIn v w (inRow r)
+      own = only-within g (atRow r) rowSize (omega arith) (omega arith)
+
+      same : ruleAt v ≡ ruleAt w
+      same = rule-unseen (inRow r) own (common-row r)
+
       go : Dec (q ≡ r) → rowAt v rows q ≡ rowAt w rows q
-      go (yes f) = rw f (cut-first w rows r e (only-apart g (atRow r) 8 (λ i p l p′ l′. omega arith)))
-      go (no n) = rowAt-agree rows q (elsewhere (inRow r) (inRow q) (only-within g (atRow r) rowSize (omega arith) (omega arith)) (row-row q r n))
+      go (yes f) = rw f (cut-first w rows r e same (only-apart g (atRow r) 8 (λ i p l p′ l′. omega arith)))
+      go (no n) = rowAt-agree rows q same (elsewhere (inRow r) (inRow q) own (row-row q r n))
 
 -- ---- a walk's mark
 

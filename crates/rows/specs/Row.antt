@@ -6,12 +6,13 @@ use lib.ListN.{getD, length}
 use lib.Dec.{eqb, leb, ltb}
 use Rattle.points.specs.declared.point.Point.{Point}
 use Rattle.points.specs.declared.cut.Cut.{Cut as PointCut}
-use Rattle.points.specs.Point.{inRange}
+use Rattle.points.specs.Number.{inRangeBy}
 use Rattle.points.specs.Word.{cutAt, cutInRange, axisWordOf, sumWordOf}
 use Rattle.rows.specs.declared.row.Row.{Row}
 use Rattle.rows.specs.declared.row.Row.the-variants.{Bad, Spare, Removed, Leaf, Cut}
 use Rattle.words.specs.Layout.{mostRows, rowSize, atRow}
 use Rattle.words.specs.Words.{part, splice}
+use Rattle.words.specs.Rule.{ruleAt}
 use Rattle.words.specs.Part.{pointFrom, pointWords}
 use Rattle.words.specs.Range.{linkIn, curveIn}
 
@@ -36,21 +37,21 @@ isRow (Removed next freed added point curve) = true
 isRow (Leaf parent added point curve) = true
 isRow (Cut parent cut left right) = true
 
--- a record has a link, a point and a curve in range
-abbrev pub recordIn : ℕ → ℕ → Point → ℕ → Bool
-recordIn rows link point curve = (linkIn rows link && inRange point) && curveIn curve
+-- a record has a link, a point and a curve in range under the rule
+abbrev pub recordIn : ℕ → ℕ → ℕ → Point → ℕ → Bool
+recordIn rule rows link point curve = (linkIn rows link && inRangeBy rule point) && curveIn curve
 
--- every field of a row is in range for an index of so many rows (Rules 7.11)
-unfoldable pub inRows : ℕ → Row → Bool
-inRows rows Bad = false
-inRows rows (Spare next freed) = linkIn rows next
-inRows rows (Removed next freed added point curve) = recordIn rows next point curve
-inRows rows (Leaf parent added point curve) = recordIn rows parent point curve
-inRows rows (Cut parent cut left right) = ((linkIn rows parent && cutInRange cut) && ltb left rows) && ltb right rows
+-- every field of a row is in range under a rule, for an index of so many rows (Rules 7.11)
+unfoldable pub inRows : ℕ → ℕ → Row → Bool
+inRows rule rows Bad = false
+inRows rule rows (Spare next freed) = linkIn rows next
+inRows rule rows (Removed next freed added point curve) = recordIn rule rows next point curve
+inRows rule rows (Leaf parent added point curve) = recordIn rule rows parent point curve
+inRows rule rows (Cut parent cut left right) = ((linkIn rows parent && cutInRange rule cut) && ltb left rows) && ltb right rows
 
 -- a row that is in range, else Bad
-unfoldable pub checkedRow : ℕ → Row → Row
-checkedRow rows row = cond (inRows rows row) row Bad
+unfoldable pub checkedRow : ℕ → ℕ → Row → Row
+checkedRow rule rows row = cond (inRows rule rows row) row Bad
 
 -- sixteen words as a spare row
 unfoldable pub asSpare : List ℕ → Row
@@ -74,9 +75,10 @@ rowOf w =
     cond (eqb (getD w 0 0) spareKind) (asSpare w)
     (cond (eqb (getD w 0 0) removedKind) (asRemoved w) (cond (eqb (getD w 0 0) leafKind) (asLeaf w) (cond (eqb (getD w 0 0) cutKind) (asCut w) Bad)))
 
--- the row r of an index of so many rows; Bad where there is none, where the slice is too short, and where a field is out of range
+-- the row r of an index of so many rows; Bad where there is none, where the slice is too short, and where a field is out of range under the rule of the
+-- opening, which is read of the slice itself
 unfoldable pub rowAt : List ℕ → ℕ → ℕ → Row
-rowAt words rows r = cond (ltb r rows && leb (atRow r + rowSize) (length words)) (checkedRow rows (rowOf (part words (atRow r) rowSize))) Bad
+rowAt words rows r = cond (ltb r rows && leb (atRow r + rowSize) (length words)) (checkedRow (ruleAt words) rows (rowOf (part words (atRow r) rowSize))) Bad
 
 -- the sixteen words of a spare row: kind, next, number of its removal
 unfoldable pub spareWords : ℕ → ℕ → List ℕ

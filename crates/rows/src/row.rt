@@ -1,7 +1,7 @@
 // Rows: sixteen words each, read and written as values.
 use points::cut::Cut;
+use points::number::in_range_by;
 use points::point::Point;
-use points::point::in_range;
 use points::word::axis_word;
 use points::word::cut_at;
 use points::word::cut_in_range;
@@ -12,6 +12,7 @@ use words::layout::ROW_SIZE;
 use words::layout::at_row;
 use words::part::point_from;
 use words::part::write_part;
+use words::rule::read_rule;
 use words::word::curve_in;
 use words::word::link_in;
 ghost use mathlib.Core.Path.{_≡_};
@@ -74,16 +75,16 @@ fn is_row(row: Row) -> bool
     }
 }
 
-// Whether a record has a link, a point and a curve in range.
-fn record_in(rows: u32, link: u32, point: Point, curve: u32) -> bool
-    ensures { λ r. ⌜ r ≡ recordIn rows link point curve ⌝ }
+// Whether a record has a link, a point and a curve in range under the rule.
+fn record_in(rule: u32, rows: u32, link: u32, point: Point, curve: u32) -> bool
+    ensures { λ r. ⌜ r ≡ recordIn rule rows link point curve ⌝ }
 {
-    link_in(rows, link) & in_range(point) & curve_in(curve)
+    link_in(rows, link) & in_range_by(rule, point) & curve_in(curve)
 }
 
-// Whether every field of a row is in range for an index of so many rows.
-fn in_rows(row: Row, rows: u32) -> bool
-    ensures { λ r. ⌜ r ≡ inRows rows row ⌝ }
+// Whether every field of a row is in range under a rule, for an index of so many rows.
+fn in_rows(row: Row, rule: u32, rows: u32) -> bool
+    ensures { λ r. ⌜ r ≡ inRows rule rows row ⌝ }
 {
     match row {
         Row::Bad => false,
@@ -93,27 +94,31 @@ fn in_rows(row: Row, rows: u32) -> bool
             point,
             curve,
             ..
-        } => record_in(rows, next, point, curve),
+        } => record_in(rule, rows, next, point, curve),
         Row::Leaf {
             parent,
             point,
             curve,
             ..
-        } => record_in(rows, parent, point, curve),
+        } => record_in(rule, rows, parent, point, curve),
         Row::Cut {
             parent,
             cut,
             left,
             right,
-        } => link_in(rows, parent) & cut_in_range(cut) & (left < rows) & (right < rows),
+        } => link_in(rows, parent) & cut_in_range(rule, cut) & (left < rows) & (right < rows),
     }
 }
 
 // A row that is in range, else `Bad`.
-fn checked_row(row: Row, rows: u32) -> Row
-    ensures { λ r. ⌜ r ≡ checkedRow rows row ⌝ }
+fn checked_row(row: Row, rule: u32, rows: u32) -> Row
+    ensures { λ r. ⌜ r ≡ checkedRow rule rows row ⌝ }
 {
-    if in_rows(row, rows) { row } else { Row::Bad }
+    if in_rows(row, rule, rows) {
+        row
+    } else {
+        Row::Bad
+    }
 }
 
 // Sixteen words as a row of each kind.
@@ -193,7 +198,8 @@ pub fn read_row(words: &[u32], rows: u32, r: u32) -> Row
         let start = at_row(r);
         let end = start + ROW_SIZE;
         if end <= words.len() {
-            return checked_row(row_of(&words[start..end]), rows);
+            let rule = read_rule(words);
+            return checked_row(row_of(&words[start..end]), rule, rows);
         }
     }
     Row::Bad

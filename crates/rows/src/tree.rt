@@ -9,41 +9,42 @@ use points::word::point_words_in_range;
 use points::word::sum_low_at;
 use words::layout::ROW_SIZE;
 use words::layout::at_row;
+use words::rule::read_rule;
 use words::word::curve_in;
 use words::word::get;
 use words::word::link_in;
 ghost use mathlib.Core.Path.{_≡_};
-ghost use mathlib.Core.Bool.{true};
+ghost use Prim.Native.Nat.{_+_, _≤_};
 ghost use lib.ListN.{length, getD};
-ghost use Rattle.points.specs.Word.{cutAt, cutInRange};
+ghost use Rattle.points.specs.Word.{cutAt, sumSpanOf};
 ghost use Rattle.words.specs.Layout.{rowSize};
 ghost use Rattle.rows.specs.Row.{inRows, checkedRow, asLeaf, asCut, rowOf, rowAt};
 ghost use Rattle.rows.specs.Tree.{treeRow, atChild, childAt};
 
-// Whether sixteen words are a cut in range, by the words alone.
-fn cut_sound(part: &[u32], rows: u32) -> bool
+// Whether sixteen words are a cut in range under a rule, by the words alone.
+fn cut_sound(part: &[u32], rule: u32, rows: u32) -> bool
     requires { ⌜ length (now part) ≡ rowSize ⌝ }
-    ensures { λ r. ⌜ r ≡ inRows rows (asCut (now (part .entry))) ⌝ }
+    ensures { λ r. ⌜ r ≡ inRows rule rows (asCut (now (part .entry))) ⌝ }
 {
     link_in(rows, part[1])
-        & cut_words_in_range(part[4], part[5])
+        & cut_words_in_range(rule, part[4], part[5])
         & (part[6] < rows)
         & (part[7] < rows)
 }
 
 // The same for a leaf.
-fn leaf_sound(part: &[u32], rows: u32) -> bool
+fn leaf_sound(part: &[u32], rule: u32, rows: u32) -> bool
     requires { ⌜ length (now part) ≡ rowSize ⌝ }
-    ensures { λ r. ⌜ r ≡ inRows rows (asLeaf (now (part .entry))) ⌝ }
+    ensures { λ r. ⌜ r ≡ inRows rule rows (asLeaf (now (part .entry))) ⌝ }
 {
     link_in(rows, part[1])
-        & point_words_in_range(part[4], part[5], part[6], part[7], part[8])
+        & point_words_in_range(rule, part[4], part[5], part[6], part[7], part[8])
         & curve_in(part[9])
 }
 
-// The cut of two words that are in range.
+// The cut of two words that are in range under some rule.
 fn sound_cut(axis: u32, sum: u32) -> Cut
-    requires { ⌜ cutInRange (cutAt axis sum) ≡ true ⌝ }
+    requires { ⌜ (axis ≤ 8) × (sum ≤ sumSpanOf (axis + 1)) ⌝ }
     ensures { λ r. ⌜ r ≡ cutAt axis sum ⌝ }
 {
     Cut {
@@ -54,7 +55,7 @@ fn sound_cut(axis: u32, sum: u32) -> Cut
 
 // Sixteen words as a cut, where its axis and sum are in range.
 fn as_sound_cut(part: &[u32]) -> Row
-    requires { ⌜ (length (now part) ≡ rowSize) × (cutInRange (cutAt (getD (now part) 4 0) (getD (now part) 5 0)) ≡ true) ⌝ }
+    requires { ⌜ (length (now part) ≡ rowSize) × ((getD (now part) 4 0 ≤ 8) × (getD (now part) 5 0 ≤ sumSpanOf (getD (now part) 4 0 + 1))) ⌝ }
     ensures { λ r. ⌜ r ≡ asCut (now (part .entry)) ⌝ }
 {
     Row::Cut {
@@ -66,11 +67,11 @@ fn as_sound_cut(part: &[u32]) -> Row
 }
 
 // Sixteen words as a cut in range, else `Bad`.
-fn tree_cut(part: &[u32], rows: u32) -> Row
+fn tree_cut(part: &[u32], rule: u32, rows: u32) -> Row
     requires { ⌜ length (now part) ≡ rowSize ⌝ }
-    ensures { λ r. ⌜ r ≡ checkedRow rows (asCut (now (part .entry))) ⌝ }
+    ensures { λ r. ⌜ r ≡ checkedRow rule rows (asCut (now (part .entry))) ⌝ }
 {
-    if cut_sound(part, rows) {
+    if cut_sound(part, rule, rows) {
         as_sound_cut(part)
     } else {
         Row::Bad
@@ -78,11 +79,11 @@ fn tree_cut(part: &[u32], rows: u32) -> Row
 }
 
 // Sixteen words as a leaf in range, else `Bad`.
-fn tree_leaf(part: &[u32], rows: u32) -> Row
+fn tree_leaf(part: &[u32], rule: u32, rows: u32) -> Row
     requires { ⌜ length (now part) ≡ rowSize ⌝ }
-    ensures { λ r. ⌜ r ≡ checkedRow rows (asLeaf (now (part .entry))) ⌝ }
+    ensures { λ r. ⌜ r ≡ checkedRow rule rows (asLeaf (now (part .entry))) ⌝ }
 {
-    if leaf_sound(part, rows) {
+    if leaf_sound(part, rule, rows) {
         as_leaf(part)
     } else {
         Row::Bad
@@ -90,16 +91,16 @@ fn tree_leaf(part: &[u32], rows: u32) -> Row
 }
 
 // The row of sixteen words where it is a leaf or a cut in range, else `Bad`.
-fn tree_of(part: &[u32], rows: u32) -> Row
+fn tree_of(part: &[u32], rule: u32, rows: u32) -> Row
     requires { ⌜ length (now part) ≡ rowSize ⌝ }
-    ensures { λ r. ⌜ r ≡ treeRow (checkedRow rows (rowOf (now (part .entry)))) ⌝ }
+    ensures { λ r. ⌜ r ≡ treeRow (checkedRow rule rows (rowOf (now (part .entry)))) ⌝ }
 {
     let kind = part[0];
     if kind == CUT_KIND {
-        return tree_cut(part, rows);
+        return tree_cut(part, rule, rows);
     }
     if kind == LEAF_KIND {
-        return tree_leaf(part, rows);
+        return tree_leaf(part, rule, rows);
     }
     Row::Bad
 }
@@ -112,7 +113,8 @@ pub fn read_tree(words: &[u32], rows: u32, r: u32) -> Row
         let start = at_row(r);
         let end = start + ROW_SIZE;
         if end <= words.len() {
-            return tree_of(&words[start..end], rows);
+            let rule = read_rule(words);
+            return tree_of(&words[start..end], rule, rows);
         }
     }
     Row::Bad

@@ -48,6 +48,6 @@ module _ (w : List ℕ) (s : ℕ) (absent : hasStation w s ≡ false) where
   putAnswer-absent answer = rw absent
 
 -- the call that is read there passes no check
-pub noCall-unsound : (changes : ℕ) → callSound noCall changes ≡ false
+pub noCall-unsound : (rule changes : ℕ) → callSound rule noCall changes ≡ false
 unfolding callSound
-noCall-unsound changes = refl
+noCall-unsound rule changes = refl

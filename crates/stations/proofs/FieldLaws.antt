@@ -7,8 +7,10 @@ use Prim.Native.Nat.{ℕ}
 use native.Mathlib.Omega.{arith}
 use Rattle.points.specs.declared.point.Point.{Point}
 use Rattle.points.specs.declared.scale.Scale.{Scale}
-use Rattle.words.specs.Layout.{atCounts, atScale, atCursor, atCounter, atTarget}
+use Rattle.words.specs.Layout.{atCounts, atScale, atRule, atCursor, atCounter, atTarget}
+use Rattle.words.specs.Rule.{ruleAt}
 use Rattle.words.proofs.AgreeLaws.{only-apart}
+use Rattle.words.proofs.RuleLaws.{rule-same}
 use Rattle.stations.specs.declared.counts.Counts.{Counts}
 use Rattle.stations.specs.declared.track.Track.{Track}
 use Rattle.stations.specs.Counts.{countsAt, putCounts}
@@ -45,7 +47,11 @@ module _ (w : List ℕ) (counts : Counts) where
   pub opened-putCounts : openedIn (putCounts w counts) ≡ openedIn w
   unfolding atCounts atScale
   opened-putCounts = opened-first (only-apart (putCounts-words w counts) 0 3 (λ k h l h′ l′. omega arith))
-      (only-apart (putCounts-words w counts) atScale 4 (λ k h l h′ l′. omega arith))
+      (only-apart (putCounts-words w counts) atScale 5 (λ k h l h′ l′. omega arith))
+
+  pub rule-putCounts : ruleAt (putCounts w counts) ≡ ruleAt w
+  unfolding atCounts atRule
+  rule-putCounts = rule-same (only-apart (putCounts-words w counts) atRule 1 (λ k h l h′ l′. omega arith))
 
   pub track-putCounts : (u : ℕ) → trackAt (putCounts w counts) u ≡ trackAt w u
   unfolding atCounts atCursor
@@ -64,7 +70,11 @@ module _ (w : List ℕ) (s : ℕ) (track : Track) where
   pub opened-putTrack : openedIn (putTrack w s track) ≡ openedIn w
   unfolding atCursor atScale
   opened-putTrack = opened-first (only-apart (putTrack-words w s track) 0 3 (λ k h l h′ l′. omega arith))
-      (only-apart (putTrack-words w s track) atScale 4 (λ k h l h′ l′. omega arith))
+      (only-apart (putTrack-words w s track) atScale 5 (λ k h l h′ l′. omega arith))
+
+  pub rule-putTrack : ruleAt (putTrack w s track) ≡ ruleAt w
+  unfolding atCursor atRule
+  rule-putTrack = rule-same (only-apart (putTrack-words w s track) atRule 1 (λ k h l h′ l′. omega arith))
 
   pub counts-putTrack : countsAt (putTrack w s track) ≡ countsAt w
   unfolding atCounts atCursor
@@ -83,7 +93,11 @@ module _ (w : List ℕ) (s : ℕ) where
   pub opened-counted : openedIn (changeCounted w s) ≡ openedIn w
   unfolding atCounter atScale
   opened-counted = opened-first (only-apart (counted-words w s) 0 3 (λ k h l h′ l′. omega arith))
-      (only-apart (counted-words w s) atScale 4 (λ k h l h′ l′. omega arith))
+      (only-apart (counted-words w s) atScale 5 (λ k h l h′ l′. omega arith))
+
+  pub rule-counted : ruleAt (changeCounted w s) ≡ ruleAt w
+  unfolding atCounter atRule
+  rule-counted = rule-same (only-apart (counted-words w s) atRule 1 (λ k h l h′ l′. omega arith))
 
   pub counts-counted : countsAt (changeCounted w s) ≡ countsAt w
   unfolding atCounts atCounter
@@ -102,7 +116,11 @@ module _ (w : List ℕ) (s : ℕ) (p : Point) where
   pub opened-putTarget : openedIn (putTarget w s p) ≡ openedIn w
   unfolding atTarget atScale
   opened-putTarget = opened-first (only-apart (putTarget-words w s p) 0 3 (λ k h l h′ l′. omega arith))
-      (only-apart (putTarget-words w s p) atScale 4 (λ k h l h′ l′. omega arith))
+      (only-apart (putTarget-words w s p) atScale 5 (λ k h l h′ l′. omega arith))
+
+  pub rule-putTarget : ruleAt (putTarget w s p) ≡ ruleAt w
+  unfolding atTarget atRule
+  rule-putTarget = rule-same (only-apart (putTarget-words w s p) atRule 1 (λ k h l h′ l′. omega arith))
 
   pub counts-putTarget : countsAt (putTarget w s p) ≡ countsAt w
   unfolding atCounts atTarget

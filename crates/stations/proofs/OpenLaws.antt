@@ -9,6 +9,7 @@ use native.Mathlib.Omega.{arith}
 use native.Mathlib.Decide.{ℕ-discrete}
 use lib.ListN.{length}
 use Rattle.points.specs.declared.scale.Scale.{Scale}
+use Rattle.points.specs.Rule.{ruleIn}
 use Rattle.points.specs.Scale.{factorsIn}
 use Rattle.words.specs.Layout.{stations, records, wordsFor, atMark, atPlaces, atLimit, atScale, atCounter, atStation}
 use Rattle.words.specs.Words.{get, put}
@@ -82,10 +83,10 @@ module _ (w : List ℕ) (places limit : ℕ) (scale : Scale) where
   scale-begun h = scale-back (headed w places limit) scale (omega (arith, headed-words w places limit .lengths))
 
   -- and the slice is opened
-  pub opened-begun : placesIn places ≡ true → limitIn limit ≡ true → factorsIn scale ≡ true → wordsFor places ≤ length w
+  pub opened-begun : placesIn places ≡ true → limitIn limit ≡ true → ruleIn (scale .rule) ≡ true → factorsIn scale ≡ true → wordsFor places ≤ length w
       → openedIn (putOpening w places limit scale) ≡ Opened places limit scale
   unfolding markAt placesAt limitAt atMark atPlaces atLimit atScale
-  opened-begun p l f h =
+  opened-begun p l r f h =
       opened-of (putOpening w places limit scale) places limit scale (record {
         first = headed-at atMark (omega arith) ∙ get-put-other two atLimit atMark limit (λ e. omega arith) ∙ get-put-other one atPlaces atMark places (λ e. omega arith) ∙ get-put-same w atMark mark (omega arith);
         places-word = headed-at atPlaces (omega arith) ∙ get-put-other two atLimit atPlaces limit (λ e. omega arith) ∙ get-put-same one atPlaces places (omega (arith, length-put w atMark mark));
@@ -95,6 +96,7 @@ module _ (w : List ℕ) (places limit : ℕ) (scale : Scale) where
         places-most = places-tells places p .1;
         limit-least = limit-tells limit l .0;
         limit-most = limit-tells limit l .1;
+        rule = r;
         factors = f;
         long = omega (arith, length-putOpening w places limit scale);
       })

@@ -1,6 +1,6 @@
 -- Question 4: what an opened slice has (`opened-tells`, `opened-of`), that this is a matter of the common record and the length alone, and the rows that it has.
 -- Assumes nothing.
-use mathlib.Core.Path.{_≡_, refl, ap, _∙_}
+use mathlib.Core.Path.{_≡_, refl, sym, ap, _∙_}
 use mathlib.Core.Bool.{Bool, true, false, cond, _&&_}
 use mathlib.Core.List.{List}
 use Prim.Native.Nat.{ℕ, _*_, _≤_, _<_}
@@ -9,10 +9,12 @@ use borrow.Author.Tests.{leb-true, eqb-true, le-leb}
 use lib.Dec.{eqb, leb}
 use lib.ListN.{length}
 use Rattle.points.specs.declared.scale.Scale.{Scale}
+use Rattle.points.specs.Rule.{ruleIn}
 use Rattle.points.specs.Scale.{factorsIn}
 use Rattle.points.proofs.Tests.{and-l, and-r, and-i}
 use Rattle.words.specs.Layout.{stations, commonSize, records, mostPlaces, mostRows, mostLimit, wordsFor, atMark, atPlaces, atLimit, atScale, Fits}
 use Rattle.words.specs.Words.{put}
+use Rattle.words.specs.Rule.{ruleAt}
 use Rattle.words.specs.Agree.{Agree, Apart, Only, inCommon, startOf, sizeOf, AgreeIn, OnlyIn}
 use Rattle.stations.specs.Station.{hasStation}
 use Rattle.stations.specs.Scale.{scaleAt, putScale}
@@ -20,7 +22,7 @@ use Rattle.stations.specs.Common.{mark, placesIn, limitIn, markAt, place
 use Rattle.words.proofs.AgreeLaws.{agree-within, agree-trans, only-trans, only-within, only-apart, put-only}
 use Rattle.words.proofs.BeyondLaws.{fits-of, fits-records}
 use Rattle.stations.proofs.StationLaws.{there-fits}
-use Rattle.stations.proofs.ScaleLaws.{scale-words, putScale-words}
+use Rattle.stations.proofs.ScaleLaws.{scale-words, putScale-words, scale-rule}
 
 -- ---- the ranges of places and limit
 pub places-tells : (places : ℕ) → placesIn places ≡ true → (1 ≤ places) × (places ≤ mostPlaces)
@@ -51,6 +53,7 @@ pub record IsOpen (w : List ℕ) (places limit : ℕ) (scale : Scale) : Type 0 w
   pub places-most : places ≤ mostPlaces
   pub limit-least : 1 ≤ limit
   pub limit-most : limit ≤ mostLimit
+  pub rule : ruleIn (scale .rule) ≡ true
   pub factors : factorsIn scale ≡ true
   pub long : wordsFor places ≤ length w
 
@@ -60,9 +63,11 @@ open-tells w e =
     let m = markAt w in
     let p = placesAt w in
     let l = limitAt w in
+    let r = ruleIn (scaleAt w .rule) in
     let f = factorsIn (scaleAt w) in
-    let four = and-l (((eqb m mark && placesIn p) && limitIn l) && f) (leb (wordsFor p) (length w)) e in
-    let three = and-l ((eqb m mark && placesIn p) && limitIn l) f four in
+    let five = and-l ((((eqb m mark && placesIn p) && limitIn l) && r) && f) (leb (wordsFor p) (length w)) e in
+    let four = and-l (((eqb m mark && placesIn p) && limitIn l) && r) f five in
+    let three = and-l ((eqb m mark && placesIn p) && limitIn l) r four in
     let two = and-l (eqb m mark && placesIn p) (limitIn l) three in
     let ps = places-tells p (and-r (eqb m mark) (placesIn p) two) in
     let ls = limit-tells l (and-r (eqb m mark && placesIn p) (limitIn l) three) in
@@ -75,8 +80,9 @@ open-tells w e =
       places-most = ps .1;
       limit-least = ls .0;
       limit-most = ls .1;
-      factors = and-r ((eqb m mark && placesIn p) && limitIn l) f four;
-      long = leb-true (wordsFor p) (length w) (and-r (((eqb m mark && placesIn p) && limitIn l) && f) (leb (wordsFor p) (length w)) e);
+      rule = and-r ((eqb m mark && placesIn p) && limitIn l) r four;
+      factors = and-r (((eqb m mark && placesIn p) && limitIn l) && r) f five;
+      long = leb-true (wordsFor p) (length w) (and-r ((((eqb m mark && placesIn p) && limitIn l) && r) && f) (leb (wordsFor p) (length w)) e);
     }
 
 -- question 4 passes exactly on such a slice
@@ -103,6 +109,7 @@ opened-of w places limit scale o =
       o .scale-word,
       places-of places (o .places-least) (o .places-most),
       limit-of limit (o .limit-least) (o .limit-most),
+      o .rule,
       o .factors,
       le-leb (wordsFor places) (length w) (o .long),
     )
@@ -129,6 +136,10 @@ module _ (w : List ℕ) (places limit : ℕ) (scale : Scale) (o : openedIn w ≡
   pub opened-long : records ≤ length w
   opened-long = fits-records w (2 * places) opened-fits
 
+  -- its rule is the one that rows are judged by
+  pub opened-rule : ruleAt w ≡ scale .rule
+  opened-rule = sym (scale-rule w (omega (arith, opened-long))) ∙ ap (λ (x : Scale). x .rule) (is-open .scale-word)
+
   pub opened-station : (s : ℕ) → s < stations → hasStation w s ≡ true
   opened-station s l = there-fits w (2 * places) s opened-fits l
 
@@ -148,8 +159,8 @@ rows-most w = go (leb (placesAt w) mostPlaces) refl
 
 -- ---- slices that agree
 
--- question 4 is a matter of the first three words, the four of the scale, and the length
-pub opened-first : {v w : List ℕ} → Agree v w 0 3 → Agree v w atScale 4 → openedIn v ≡ openedIn w
+-- question 4 is a matter of the first three words, the five of the scale, and the length
+pub opened-first : {v w : List ℕ} → Agree v w 0 3 → Agree v w atScale 5 → openedIn v ≡ openedIn w
 unfolding openedIn markAt placesAt limitAt atMark atPlaces atLimit
 opened-first g f =
     rw (g .words 0 (omega arith) (omega arith), g .words 1 (omega arith) (omega arith), g .words 2 (omega arith) (omega arith), scale-words f, g .lengths)
@@ -157,7 +168,7 @@ opened-first g f =
 module _ {v w : List ℕ} (g : AgreeIn v w inCommon) where
   pub openedIn-agree : openedIn v ≡ openedIn w
   unfolding startOf sizeOf atScale
-  openedIn-agree = opened-first (agree-within g 0 3 (omega arith) (omega arith)) (agree-within g atScale 4 (omega arith) (omega arith))
+  openedIn-agree = opened-first (agree-within g 0 3 (omega arith) (omega arith)) (agree-within g atScale 5 (omega arith) (omega arith))
 
   pub places-agree : placesAt v ≡ placesAt w
   unfolding placesAt atPlaces startOf sizeOf
@@ -171,7 +182,7 @@ module _ {v w : List ℕ} (g : AgreeIn v w inCommon) where
   unfolding rowsIn
   rowsIn-agree = ap (λ x. cond (leb x mostPlaces) (2 * x) 0) places-agree
 
--- ---- mark, places, limit and factors written
+-- ---- mark, places, limit and scale written
 
 -- the words with mark, places and limit alone
 abbrev pub headed : List ℕ → ℕ → ℕ → List ℕ
@@ -186,8 +197,8 @@ module _ (w : List ℕ) (places limit : ℕ) where
       (only-trans (only-within (put-only (put w atMark mark) atPlaces places) 0 3 (omega arith) (omega arith)) (only-within (put-only w atMark mark) 0 3 (omega arith) (omega arith)))
 
   module _ (scale : Scale) where
-    -- and then the four of the scale
-    pub scaled-words : Only (putOpening w places limit scale) (headed w places limit) atScale 4
+    -- and then the five of the scale
+    pub scaled-words : Only (putOpening w places limit scale) (headed w places limit) atScale 5
     unfolding putOpening
     scaled-words = putScale-words (headed w places limit) scale
 
@@ -200,5 +211,5 @@ module _ (w : List ℕ) (places limit : ℕ) where
     length-putOpening = scaled-words .lengths ∙ headed-words .lengths
 
     -- another part of the common record is not touched by either
-    pub opening-apart : (a n : ℕ) → Apart a n 0 3 → Apart a n atScale 4 → Agree (putOpening w places limit scale) w a n
+    pub opening-apart : (a n : ℕ) → Apart a n 0 3 → Apart a n atScale 5 → Agree (putOpening w places limit scale) w a n
     opening-apart a n f g = agree-trans (only-apart scaled-words a n g) (only-apart headed-words a n f)

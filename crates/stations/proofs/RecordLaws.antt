@@ -16,6 +16,7 @@ use Rattle.stations.specs.declared.answer.Answer.{Answer}
 use Rattle.stations.specs.declared.answer.Waiting.the-variants.{Nothing, Given}
 use Rattle.words.specs.Layout.{stations, stationSize, atStation, atCall, atBest, atAnswer}
 use Rattle.words.specs.Words.{get}
+use Rattle.words.specs.Rule.{ruleAt}
 use Rattle.words.specs.Agree.{Agree, Only, inStation, startOf, sizeOf, AgreeIn}
 use Rattle.words.specs.Part.{pointWords}
 use Rattle.stations.specs.Station.{hasStation, isWaiting, stateAt, putState}
@@ -87,13 +88,13 @@ module _ {v w : List ℕ} (s : ℕ) (g : AgreeIn v w (inStation s)) where
   unfolding atAnswer
   answerAt-agree = answer-same s (g .lengths) (λ t. agree-within (record-agree t) (atAnswer s) 9 (omega arith) (omega arith))
 
--- the answer that waits is a matter of state and answer
-pub waiting-same : (v w : List ℕ) (s t : ℕ) → stateAt v s ≡ stateAt w t → answerAt v s ≡ answerAt w t → waitingAt v s ≡ waitingAt w t
+-- the answer that waits is a matter of the rule, the state and the answer
+pub waiting-same : (v w : List ℕ) (s t : ℕ) → ruleAt v ≡ ruleAt w → stateAt v s ≡ stateAt w t → answerAt v s ≡ answerAt w t → waitingAt v s ≡ waitingAt w t
 unfolding waitingAt
-waiting-same v w s t e f = λ i. cond (isWaiting (e i) && answerSound (f i)) (Given (f i)) Nothing
+waiting-same v w s t r e f = λ i. cond (isWaiting (e i) && answerSound (r i) (f i)) (Given (f i)) Nothing
 
-pub waitingAt-agree : {v w : List ℕ} (s : ℕ) → AgreeIn v w (inStation s) → waitingAt v s ≡ waitingAt w s
-waitingAt-agree {v} {w} s g = waiting-same v w s s (stateAt-agree s g) (answerAt-agree s g)
+pub waitingAt-agree : {v w : List ℕ} (s : ℕ) → ruleAt v ≡ ruleAt w → AgreeIn v w (inStation s) → waitingAt v s ≡ waitingAt w s
+waitingAt-agree {v} {w} s r g = waiting-same v w s s r (stateAt-agree s g) (answerAt-agree s g)
 
 -- ---- what is written in another part of the record is not seen
 module _ (w : List ℕ) (s : ℕ) where

@@ -4,7 +4,7 @@ use mathlib.Core.List.{List, [], _∷_}
 use mathlib.Core.Bool.{Bool, cond, _&&_, _||_}
 use lib.ListN.{getD}
 use lib.Dec.{eqb, leb}
-use Rattle.points.specs.Point.{inRange}
+use Rattle.points.specs.Number.{inRangeBy}
 use Rattle.points.specs.Square.{mostSquare}
 use Rattle.points.specs.Word.{pointAt}
 use Rattle.stations.specs.declared.answer.Answer.{Answer}
@@ -12,6 +12,7 @@ use Rattle.stations.specs.declared.answer.Waiting.{Waiting}
 use Rattle.stations.specs.declared.answer.Waiting.the-variants.{Nothing, Given}
 use Rattle.words.specs.Layout.{mostCurve, atAnswer}
 use Rattle.words.specs.Words.{part, splice}
+use Rattle.words.specs.Rule.{ruleAt}
 use Rattle.words.specs.Part.{pointFrom, pointWords}
 use Rattle.stations.specs.Station.{hasStation, isWaiting, stateAt}
 
@@ -76,10 +77,10 @@ answerWords answer =
 abbrev pub noAnswer : Answer
 noAnswer = record { code = 0; point = pointAt 0 0 0 0 0; curve = 0; square = 0 }
 
--- every field of an answer is in range
-unfoldable pub answerSound : Answer → Bool
-answerSound answer =
-    ((codeIn (answer .code) && inRange (answer .point)) && leb (answer .curve) mostCurve) && leb (answer .square) mostSquare
+-- every field of an answer is in range under the rule
+unfoldable pub answerSound : ℕ → Answer → Bool
+answerSound rule answer =
+    ((codeIn (answer .code) && inRangeBy rule (answer .point)) && leb (answer .curve) mostCurve) && leb (answer .square) (mostSquare rule)
 
 -- the answer of station s; of no code where there is no such station
 unfoldable pub answerAt : List ℕ → ℕ → Answer
@@ -91,4 +92,4 @@ putAnswer words s answer = cond (hasStation words s) (splice words (answerWords 
 
 -- the answer that waits in station s (Rules 7.17): there is one if the state says so and every field is in range
 unfoldable pub waitingAt : List ℕ → ℕ → Waiting
-waitingAt words s = cond (isWaiting (stateAt words s) && answerSound (answerAt words s)) (Given (answerAt words s)) Nothing
+waitingAt words s = cond (isWaiting (stateAt words s) && answerSound (ruleAt words) (answerAt words s)) (Given (answerAt words s)) Nothing

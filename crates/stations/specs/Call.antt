@@ -4,7 +4,7 @@ use mathlib.Core.List.{List, [], _∷_}
 use mathlib.Core.Bool.{Bool, cond, _&&_, _||_}
 use lib.ListN.{getD}
 use lib.Dec.{eqb, leb}
-use Rattle.points.specs.Point.{inRange}
+use Rattle.points.specs.Number.{inRangeBy}
 use Rattle.points.specs.Word.{pointAt}
 use Rattle.stations.specs.declared.call.Best.{Best}
 use Rattle.stations.specs.declared.call.Call.{Call}
@@ -43,9 +43,9 @@ bestWords best = best .curve ∷ pointWords (best .point) []
 abbrev pub noBest : Best
 noBest = record { curve = 0; point = pointAt 0 0 0 0 0 }
 
--- no best, whatever its point, or a record in range
-unfoldable pub bestSound : Best → Bool
-bestSound best = eqb (best .curve) 0 || (leb (best .curve) mostCurve && inRange (best .point))
+-- no best, whatever its point, or a record in range under the rule
+unfoldable pub bestSound : ℕ → Best → Bool
+bestSound rule best = eqb (best .curve) 0 || (leb (best .curve) mostCurve && inRangeBy rule (best .point))
 
 -- the call of eight words, kind, point, curve, as-of, with its best
 unfoldable pub callOf : List ℕ → Best → Call
@@ -71,10 +71,11 @@ withBest best call = record { kind = call .kind; point = call .point; curve = ca
 abbrev pub curveFor : ℕ → ℕ → Bool
 curveFor kind curve = cond (eqb kind addKind) (curveIn curve) (eqb curve 0)
 
--- every field of a call is in range (Rules 7.10), where so many changes were made since opening
-unfoldable pub callSound : Call → ℕ → Bool
-callSound call changes =
-    (((kindIn (call .kind) && inRange (call .point)) && curveFor (call .kind) (call .curve)) && leb (call .asof) changes) && bestSound (call .best)
+-- every field of a call is in range (Rules 7.10), under the rule and where so many changes were made since opening
+unfoldable pub callSound : ℕ → Call → ℕ → Bool
+callSound rule call changes =
+    (((kindIn (call .kind) && inRangeBy rule (call .point)) && curveFor (call .kind) (call .curve)) && leb (call .asof) changes)
+    && bestSound rule (call .best)
 
 -- the words with the best of station s written
 unfoldable pub putBest : List ℕ → ℕ → Best → List ℕ

@@ -5,6 +5,7 @@ use mathlib.Core.Bool.{Bool, true, false, cond, _&&_, _||_}
 use lib.ListN.{length}
 use lib.Dec.{eqb, leb, ltb}
 use Rattle.points.specs.declared.scale.Scale.{Scale}
+use Rattle.points.specs.Rule.{ruleIn}
 use Rattle.points.specs.Scale.{factorsIn}
 use Rattle.points.specs.Word.{NONE}
 use Rattle.words.specs.Layout.{stations, records, mostPlaces, mostLimit, wordsFor, atMark, atPlaces, atLimit}
@@ -20,7 +21,7 @@ use Rattle.stations.specs.Track.{trackAt}
 
 -- the mark that opening writes
 abbrev pub mark : ℕ
-mark = 1279683400
+mark = 1279683401
 
 -- places 1 to 4,096
 unfoldable pub placesIn : ℕ → Bool
@@ -40,11 +41,12 @@ placesAt words = get words atPlaces
 unfoldable pub limitAt : List ℕ → ℕ
 limitAt words = get words atLimit
 
--- Rules 7.1, question 4: "Are the mark that opening writes, places, limit and factors in range, and length enough for them all there?"
+-- Rules 7.1, question 4: "Are the mark that opening writes, places, limit, rule and factors in range, and length enough for them all there?"
 unfoldable pub openIn : ℕ → ℕ → ℕ → Scale → ℕ → Bool
-openIn first places limit scale size = (((eqb first mark && placesIn places) && limitIn limit) && factorsIn scale) && leb (wordsFor places) size
+openIn first places limit scale size =
+    ((((eqb first mark && placesIn places) && limitIn limit) && ruleIn (scale .rule)) && factorsIn scale) && leb (wordsFor places) size
 
--- what question 4 says of a slice: the refusal, or its places, limit and factors
+-- what question 4 says of a slice: the refusal, or its places, limit and scale
 pub data Opening : Type 0 where
   Refused : Opening
   Opened : ℕ → ℕ → Scale → Opening
@@ -73,7 +75,7 @@ cleared (suc n) words = put (cleared n words) n 0
 unfoldable pub recordsCleared : List ℕ → List ℕ
 recordsCleared words = cleared records words
 
--- mark, places, limit and factors
+-- mark, places, limit and scale
 unfoldable pub putOpening : List ℕ → ℕ → ℕ → Scale → List ℕ
 putOpening words places limit scale = putScale (put (put (put words atMark mark) atPlaces places) atLimit limit) scale
 

@@ -1,9 +1,9 @@
 // The answer of a station, and the answer that waits there.
 use crate::station::has_station;
 use crate::station::read_state;
+use points::number::in_range_by;
 use points::point::Point;
-use points::point::in_range;
-use points::square::MOST_SQUARE;
+use points::square::most_square;
 use points::word::point_at;
 use points::word::word;
 use words::layout::MOST_CURVE;
@@ -12,6 +12,7 @@ use words::layout::STATIONS;
 use words::layout::at_answer;
 use words::part::point_from;
 use words::part::write_part;
+use words::rule::read_rule;
 ghost use mathlib.Core.Path.{_≡_};
 ghost use Prim.Native.Nat.{_+_, _*_, _/_, _%_};
 ghost use lib.ListN.{length};
@@ -139,14 +140,14 @@ fn code_in(code: u32) -> bool
     (CODE_ADDED <= code) & ((code <= CODE_NONE) | (code == CODE_WITHDRAWN))
 }
 
-// Whether every field of an answer is in range.
-pub fn answer_sound(answer: Answer) -> bool
-    ensures { λ r. ⌜ r ≡ answerSound answer ⌝ }
+// Whether every field of an answer is in range under the rule.
+pub fn answer_sound(rule: u32, answer: Answer) -> bool
+    ensures { λ r. ⌜ r ≡ answerSound rule answer ⌝ }
 {
     code_in(answer.code)
-        & in_range(answer.point)
+        & in_range_by(rule, answer.point)
         & (answer.curve <= MOST_CURVE)
-        & (answer.square <= MOST_SQUARE)
+        & (answer.square <= most_square(rule))
 }
 
 // Writes the answer of a station.
@@ -164,7 +165,7 @@ pub fn read_waiting(words: &[u32], s: u32) -> Waiting
     ensures { λ r. ⌜ r ≡ waitingAt (now (words .entry)) s ⌝ }
 {
     let answer = read_answer(words, s);
-    if read_state(words, s).is_waiting() & answer_sound(answer) {
+    if read_state(words, s).is_waiting() & answer_sound(read_rule(words), answer) {
         Waiting::Given(answer)
     } else {
         Waiting::Nothing

@@ -1,7 +1,7 @@
 // The call of a station, with the best record of its search so far.
 use crate::station::has_station;
+use points::number::in_range_by;
 use points::point::Point;
-use points::point::in_range;
 use points::word::point_at;
 use points::word::word;
 use words::layout::MOST_CURVE;
@@ -76,11 +76,11 @@ pub fn no_best() -> Best
     }
 }
 
-// Whether there is no best, or one in range.
-fn best_sound(best: Best) -> bool
-    ensures { λ r. ⌜ r ≡ bestSound best ⌝ }
+// Whether there is no best, or one in range under the rule.
+fn best_sound(rule: u32, best: Best) -> bool
+    ensures { λ r. ⌜ r ≡ bestSound rule best ⌝ }
 {
-    (best.curve == 0) | ((best.curve <= MOST_CURVE) & in_range(best.point))
+    (best.curve == 0) | ((best.curve <= MOST_CURVE) & in_range_by(rule, best.point))
 }
 
 // The call of eight words, with its best.
@@ -163,15 +163,15 @@ fn curve_for(kind: u32, curve: u32) -> bool
     }
 }
 
-// Whether every field of a call is in range, where so many changes were made.
-pub fn call_sound(call: Call, changes: u32) -> bool
-    ensures { λ r. ⌜ r ≡ callSound call changes ⌝ }
+// Whether every field of a call is in range, under the rule and where so many changes were made.
+pub fn call_sound(rule: u32, call: Call, changes: u32) -> bool
+    ensures { λ r. ⌜ r ≡ callSound rule call changes ⌝ }
 {
     kind_in(call.kind)
-        & in_range(call.point)
+        & in_range_by(rule, call.point)
         & curve_for(call.kind, call.curve)
         & (call.asof <= changes)
-        & best_sound(call.best)
+        & best_sound(rule, call.best)
 }
 
 // Writes the best record of a station.

@@ -4,6 +4,7 @@ use crate::counts::read_counts;
 use crate::scale::read_scale;
 use crate::scale::write_scale;
 use crate::track::read_track;
+use points::rule::rule_in;
 use points::scale::Scale;
 use points::scale::factors_in;
 use words::layout::AT_LIMIT;
@@ -26,7 +27,7 @@ ghost use Rattle.stations.specs.Common.{placesIn, limitIn, placesAt, lim
 ghost use Rattle.stations.specs.Common.{countsIn, countersIn, sinceIn, trackIn, tracksIn, commonSound, leastFour, leastSince, awaitingIn, takenIn};
 
 // The mark that opening writes.
-const MARK: u32 = 1279683400;
+const MARK: u32 = 1279683401;
 
 // Places are 1 to 4,096.
 pub fn places_in(places: u32) -> bool
@@ -63,6 +64,7 @@ fn open_in(first: u32, places: u32, limit: u32, scale: Scale, size: usize) -> bo
     (first == MARK)
         & places_in(places)
         & limit_in(limit)
+        & rule_in(scale.rule)
         & factors_in(scale)
         & (words_for(places) <= size)
 }

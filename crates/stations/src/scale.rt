@@ -1,18 +1,20 @@
-// The scale of the common record: the factors of the opening, in four words one after the other.
+// The scale of the common record: the factors of the opening, in four words one after the other, and then the rule.
 use points::scale::Scale;
 use words::layout::AT_SCALE;
 use words::layout::COMMON_SIZE;
 use words::part::write_part;
+use words::rule::read_rule;
 use words::word::get;
 ghost use mathlib.Core.Path.{_≡_};
 ghost use Rattle.stations.specs.Scale.{scaleAt, scaleWords, putScale};
 
-// The scale; four zeros where the slice is too short for the common record. The length is asked once, so that the four words are read without asking again.
+// The scale; five zeros where the slice is too short for the common record. The length is asked once, so that the five words are read without asking again.
 pub fn read_scale(words: &[u32]) -> Scale
     ensures { λ r. ⌜ r ≡ scaleAt (now (words .entry)) ⌝ }
 {
     if COMMON_SIZE <= words.len() {
         Scale {
+            rule: read_rule(words),
             weight: get(words, AT_SCALE),
             moisture: get(words, AT_SCALE + 1),
             speed: get(words, AT_SCALE + 2),
@@ -20,6 +22,7 @@ pub fn read_scale(words: &[u32]) -> Scale
         }
     } else {
         Scale {
+            rule: 0,
             weight: 0,
             moisture: 0,
             speed: 0,
@@ -28,11 +31,17 @@ pub fn read_scale(words: &[u32]) -> Scale
     }
 }
 
-// Its four words.
-fn scale_words(scale: Scale) -> [u32; 4]
+// Its five words.
+fn scale_words(scale: Scale) -> [u32; 5]
     ensures { λ r. ⌜ r ≡ scaleWords scale ⌝ }
 {
-    [scale.weight, scale.moisture, scale.speed, scale.draw]
+    [
+        scale.weight,
+        scale.moisture,
+        scale.speed,
+        scale.draw,
+        scale.rule,
+    ]
 }
 
 // Writes the scale; nothing where the slice is too short for the common record.

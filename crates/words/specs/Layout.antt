@@ -61,9 +61,12 @@ atLimit = 2
 unfoldable pub atCounts : ℕ
 atCounts = 3
 
--- the four factors of the opening: weight, moisture, speed, draw
+-- the scale of the opening: the factors of weight, moisture, speed and draw, and then the rule
 unfoldable pub atScale : ℕ
 atScale = 48
+
+unfoldable pub atRule : ℕ
+atRule = 52
 
 -- the row of the tree where the call of station s stands
 unfoldable pub atCursor : ℕ → ℕ

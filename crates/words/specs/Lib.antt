@@ -1,5 +1,6 @@
 pub mod Layout
 pub mod Words
+pub mod Rule
 pub mod Agree
 pub mod Range
 pub mod Part

@@ -52,3 +52,7 @@ nothingWaits = 12
 -- a factor is out of range
 abbrev pub badFactor : ℕ
 badFactor = 17
+
+-- there is no such rule
+abbrev pub badRule : ℕ
+badRule = 20

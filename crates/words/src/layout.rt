@@ -28,7 +28,7 @@ pub const MOST_LIMIT: u32 = 500000000;
 
 pub const MOST_CURVE: u32 = 999999;
 
-// The fields of the common record: mark, places, limit, six counts, and the four factors.
+// The fields of the common record: mark, places, limit, six counts, the four factors, and the rule.
 pub const AT_MARK: usize = 0;
 
 pub const AT_PLACES: usize = 1;
@@ -38,6 +38,8 @@ pub const AT_LIMIT: usize = 2;
 pub const AT_COUNTS: usize = 3;
 
 pub const AT_SCALE: usize = 48;
+
+pub const AT_RULE: usize = 52;
 
 // The words of an index of so many places.
 pub fn words_for(places: u32) -> usize

@@ -2,4 +2,5 @@
 pub mod layout;
 pub mod part;
 pub mod refusal;
+pub mod rule;
 pub mod word;

@@ -38,3 +38,6 @@ pub const NOTHING_WAITS: u32 = 12;
 
 // A factor is out of range.
 pub const BAD_FACTOR: u32 = 17;
+
+// There is no such rule.
+pub const BAD_RULE: u32 = 20;

@@ -2,7 +2,7 @@
 use borrow.Author.Needs.{needs}
 use Rattle.rows.proofs.row.read_row.Statement.{statement}
 use Rattle.rows.proofs.row.read_row.Tie as tie
-use mathlib.Core.Path.{ap, _∙_}
+use mathlib.Core.Path.{ap, ap₂, _∙_}
 use Prim.Native.Nat.{_+_}
 use native.Mathlib.Omega.{arith}
 use borrow.Author.Tests.{lt-ltb, le-ltb, le-leb, lt-leb}
@@ -31,6 +31,9 @@ part-row-of-start c = search needs
 part-row-of-end : tie.Need-part-row-of-end
 part-row-of-end c = search needs
 
+read-rule-requires : tie.Need-read-rule-requires
+read-rule-requires c κs = search needs
+
 row-of-requires : tie.Need-row-of-requires
 row-of-requires c κs = search needs
 
@@ -40,11 +43,11 @@ checked-row-requires c κs = search needs
 returns : tie.Need-returns
 unfolding rowAt
 returns c =
-    let t = c .before .before .before in
+    let t = c .before .before .before .before in
     let a = t .before in
     let s = a .before .before .before .args in
     simp (lt-ltb _ _ (a .before .if1 .taken), le-leb (atRow (s .r) + rowSize) (length (now (s .words))) (omega (arith, t .if2 .taken, a .at-row .ensures)))
-    (c .checked-row .ensures ∙ ap (λ w. checkedRow (s .rows) w) (c .before .row-of .ensures ∙ ap rowOf (part-lent (now (s .words)) (atRow (s .r)) _ rowSize (a .at-row .ensures))))
+    (c .checked-row .ensures ∙ ap₂ (λ k w. checkedRow k (s .rows) w) (c .before .before .before .read-rule .ensures) (c .before .row-of .ensures ∙ ap rowOf (part-lent (now (s .words)) (atRow (s .r)) _ rowSize (a .at-row .ensures))))
 
 returns-2 : tie.Need-returns-2
 unfolding rowAt
@@ -63,6 +66,7 @@ read-row-spec =
     (tie.spec
     at-row-requires
     add-end
+    read-rule-requires
     mul-row-of
     sub-row-of
     part-row-of-start

@@ -4,6 +4,7 @@ use Rattle.rows.proofs.tree.leaf_sound.Statement.{statement}
 use Rattle.rows.proofs.tree.leaf_sound.Tie as tie
 use Rattle.rows.specs.Row.{inRows, asLeaf}
 use Rattle.words.specs.Part.{pointFrom}
+use mathlib.Core.Bool.{_&&_}
 
 shared-slice-read-link-in : tie.Need-shared-slice-read-link-in
 shared-slice-read-link-in c = search needs
@@ -37,7 +38,10 @@ curve-in-requires c κs = search needs
 
 returns : tie.Need-returns
 unfolding inRows pointFrom asLeaf
-returns c = cc
+returns c =
+    let point = c .before .before in
+    let link = point .before .before .before .before .before .before in
+    λ i. (link .link-in .ensures i && point .point-words-in-range .ensures i) && c .curve-in .ensures i
 
 pub leaf-sound-spec : {M : Type 1} → statement M
 leaf-sound-spec =

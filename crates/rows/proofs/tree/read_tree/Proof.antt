@@ -2,7 +2,7 @@
 use borrow.Author.Needs.{needs}
 use Rattle.rows.proofs.tree.read_tree.Statement.{statement}
 use Rattle.rows.proofs.tree.read_tree.Tie as tie
-use mathlib.Core.Path.{ap, _∙_}
+use mathlib.Core.Path.{ap₂, _∙_}
 use Prim.Native.Nat.{_+_}
 use native.Mathlib.Omega.{arith}
 use borrow.Author.Tests.{lt-ltb, le-ltb, le-leb, lt-leb}
@@ -32,17 +32,20 @@ part-tree-of-start c = search needs
 part-tree-of-end : tie.Need-part-tree-of-end
 part-tree-of-end c = search needs
 
+read-rule-requires : tie.Need-read-rule-requires
+read-rule-requires c κs = search needs
+
 tree-of-requires : tie.Need-tree-of-requires
 tree-of-requires c κs = search needs
 
 returns : tie.Need-returns
 unfolding rowAt
 returns c =
-    let t = c .before .before in
+    let t = c .before .before .before in
     let a = t .before in
     let s = a .before .before .before .args in
     simp (lt-ltb _ _ (a .before .if1 .taken), le-leb (atRow (s .r) + rowSize) (length (now (s .words))) (omega (arith, t .if2 .taken, a .at-row .ensures)))
-    (c .tree-of .ensures ∙ ap (λ w. treeRow (checkedRow (s .rows) (rowOf w))) (part-lent (now (s .words)) (atRow (s .r)) _ rowSize (a .at-row .ensures)))
+    (c .tree-of .ensures ∙ ap₂ (λ k w. treeRow (checkedRow k (s .rows) (rowOf w))) (c .before .before .read-rule .ensures) (part-lent (now (s .words)) (atRow (s .r)) _ rowSize (a .at-row .ensures)))
 
 returns-2 : tie.Need-returns-2
 unfolding rowAt
@@ -61,6 +64,7 @@ read-tree-spec =
     (tie.spec
     at-row-requires
     add-end
+    read-rule-requires
     mul-tree-of
     sub-tree-of
     part-tree-of-start

@@ -17,7 +17,7 @@ use Rattle.points.proofs.WordLaws.{SoundCut, cut-plainly}
 
 -- what the words being in range says
 known : (s : tie.Start) → SoundCut (s .args .axis) (s .args .sum)
-known s = cut-plainly (s .args .axis) (s .args .sum) (s .pre)
+known s = cut-plainly (s .args .axis) (s .args .sum) (s .pre .0) (s .pre .1)
 
 near : (s : tie.Start) → Near32 (sumRangeOf (s .args .axis + 1) .low +ℤ pos (s .args .sum))
 near s = near-more 2147483648 (lit≤ tt) (known s .near)

@@ -11,7 +11,7 @@ cut-sound-requires c κs = search needs
 
 as-sound-cut-requires : tie.Need-as-sound-cut-requires
 unfolding asCut
-as-sound-cut-requires c κs = (search needs, cut-tells _ _ _ _ _ (sym (c .before .cut-sound .ensures) ∙ c .if1 .taken))
+as-sound-cut-requires c κs = (search needs, cut-tells _ _ _ _ _ _ _ (sym (c .before .cut-sound .ensures) ∙ c .if1 .taken))
 
 returns : tie.Need-returns
 unfolding checkedRow

@@ -12,16 +12,16 @@ tree-cut-requires : tie.Need-tree-cut-requires
 tree-cut-requires c κs = search needs
 
 returns : tie.Need-returns
-returns c = c .tree-cut .ensures ∙ sym (tree-of-cut _ _ (c .before .if1 .taken))
+returns c = c .tree-cut .ensures ∙ sym (tree-of-cut _ _ _ (c .before .if1 .taken))
 
 tree-leaf-requires : tie.Need-tree-leaf-requires
 tree-leaf-requires c κs = search needs
 
 returns-2 : tie.Need-returns-2
-returns-2 c = c .tree-leaf .ensures ∙ sym (tree-of-leaf _ _ (c .before .if2 .taken))
+returns-2 c = c .tree-leaf .ensures ∙ sym (tree-of-leaf _ _ _ (c .before .if2 .taken))
 
 returns-3 : tie.Need-returns-3
-returns-3 c = sym (tree-of-none _ _ (c .before .if1 .left) (c .if2 .left))
+returns-3 c = sym (tree-of-none _ _ _ (c .before .if1 .left) (c .if2 .left))
 
 pub tree-of-spec : {M : Type 1} → statement M
 tree-of-spec =

@@ -18,26 +18,31 @@ read-state-requires c κs = search needs
 is-waiting-requires : tie.Need-is-waiting-requires
 is-waiting-requires c κs = search needs
 
+read-rule-requires : tie.Need-read-rule-requires
+read-rule-requires c κs = search needs
+
 answer-sound-requires : tie.Need-answer-sound-requires
 answer-sound-requires c κs = search needs
 
 returns : tie.Need-returns
 returns c =
     let a = c .before in
-    let r = a .before .before .before in
+    let b = a .before .before in
+    let r = b .before .before in
     let s = r .before .before .args in
     waiting-by (now (s .words)) (s .s) _ true (r .read-answer .ensures)
     (sym (c .if1 .taken)
-    ∙ ap₂ _&&_ (a .before .is-waiting .ensures ∙ ap isWaiting (a .before .before .read-state .ensures)) (a .answer-sound .ensures ∙ ap answerSound (r .read-answer .ensures)))
+    ∙ ap₂ _&&_ (b .is-waiting .ensures ∙ ap isWaiting (b .before .read-state .ensures)) (a .answer-sound .ensures ∙ ap₂ answerSound (a .before .read-rule .ensures) (r .read-answer .ensures)))
 
 returns-2 : tie.Need-returns-2
 returns-2 c =
     let a = c .before in
-    let r = a .before .before .before in
+    let b = a .before .before in
+    let r = b .before .before in
     let s = r .before .before .args in
     waiting-by (now (s .words)) (s .s) _ false (r .read-answer .ensures)
     (sym (c .if1 .left)
-    ∙ ap₂ _&&_ (a .before .is-waiting .ensures ∙ ap isWaiting (a .before .before .read-state .ensures)) (a .answer-sound .ensures ∙ ap answerSound (r .read-answer .ensures)))
+    ∙ ap₂ _&&_ (b .is-waiting .ensures ∙ ap isWaiting (b .before .read-state .ensures)) (a .answer-sound .ensures ∙ ap₂ answerSound (a .before .read-rule .ensures) (r .read-answer .ensures)))
 
 pub read-waiting-spec : {M : Type 1} → statement M
 read-waiting-spec =
@@ -46,6 +51,7 @@ read-waiting-spec =
     read-answer-requires
     read-state-requires
     is-waiting-requires
+    read-rule-requires
     answer-sound-requires
     returns
     returns-2)

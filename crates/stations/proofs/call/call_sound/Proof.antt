@@ -7,8 +7,8 @@ use Rattle.stations.specs.Call.{callSound}
 kind-in-requires : tie.Need-kind-in-requires
 kind-in-requires c κs = search needs
 
-in-range-requires : tie.Need-in-range-requires
-in-range-requires c κs = search needs
+in-range-by-requires : tie.Need-in-range-by-requires
+in-range-by-requires c κs = search needs
 
 curve-for-requires : tie.Need-curve-for-requires
 curve-for-requires c κs = search needs
@@ -23,4 +23,4 @@ returns c = cc
 pub call-sound-spec : {M : Type 1} → statement M
 call-sound-spec =
     tie.close
-    (tie.spec kind-in-requires in-range-requires curve-for-requires best-sound-requires returns)
+    (tie.spec kind-in-requires in-range-by-requires curve-for-requires best-sound-requires returns)

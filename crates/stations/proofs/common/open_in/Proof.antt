@@ -10,6 +10,9 @@ places-in-requires c κs = search needs
 limit-in-requires : tie.Need-limit-in-requires
 limit-in-requires c κs = search needs
 
+rule-in-requires : tie.Need-rule-in-requires
+rule-in-requires c κs = search needs
+
 factors-in-requires : tie.Need-factors-in-requires
 factors-in-requires c κs = search needs
 
@@ -21,4 +24,4 @@ unfolding openIn
 returns c = cc
 
 pub open-in-spec : {M : Type 1} → statement M
-open-in-spec = tie.close (tie.spec places-in-requires limit-in-requires factors-in-requires words-for-requires returns)
+open-in-spec = tie.close (tie.spec places-in-requires limit-in-requires rule-in-requires factors-in-requires words-for-requires returns)

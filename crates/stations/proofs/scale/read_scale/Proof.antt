@@ -4,7 +4,10 @@ use Rattle.stations.proofs.scale.read_scale.Statement.{statement}
 use Rattle.stations.proofs.scale.read_scale.Tie as tie
 use borrow.Author.Tests.{le-leb, lt-leb}
 use Rattle.words.specs.Layout.{atScale}
-use Rattle.stations.specs.Scale.{factorsFrom, scaleAt}
+use Rattle.stations.specs.Scale.{scaleFrom, scaleAt}
+
+read-rule-requires : tie.Need-read-rule-requires
+read-rule-requires c κs = search needs
 
 get-requires : tie.Need-get-requires
 get-requires c κs = search needs
@@ -28,8 +31,8 @@ get-requires-4 : tie.Need-get-requires-4
 get-requires-4 c κs = search needs
 
 returns : tie.Need-returns
-unfolding scaleAt factorsFrom atScale
-returns c = rw (le-leb _ _ (c .before .before .before .before .if1 .taken)) cc
+unfolding scaleAt scaleFrom atScale
+returns c = rw (le-leb _ _ (c .before .before .before .before .before .if1 .taken)) cc
 
 returns-2 : tie.Need-returns-2
 unfolding scaleAt
@@ -39,6 +42,7 @@ pub read-scale-spec : {M : Type 1} → statement M
 read-scale-spec =
     tie.close
     (tie.spec
+    read-rule-requires
     get-requires
     add-get
     get-requires-2

@@ -29,7 +29,7 @@ returns c =
     let b = p .before .before .before in
     let t = b .before in
     let s = t .before .before .args in
-    rw (le-leb _ _ (t .if1 .taken)) (p .write-part .ensures ∙ part-put (now (s .words)) _ (scaleWords (s .scale)) atScale _ 4 (b .scale-words .ensures) refl refl (omega arith))
+    rw (le-leb _ _ (t .if1 .taken)) (p .write-part .ensures ∙ part-put (now (s .words)) _ (scaleWords (s .scale)) atScale _ 5 (b .scale-words .ensures) refl refl (omega arith))
 
 returns-2 : tie.Need-returns-2
 unfolding putScale
