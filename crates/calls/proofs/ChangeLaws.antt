@@ -9,6 +9,7 @@ use lib.Dec.{eqb, leb}
 use lib.ListN.{length}
 use Rattle.words.specs.Layout.{commonSize}
 use Rattle.words.specs.Words.{more}
+use Rattle.words.specs.Rule.{ruleAt}
 use Rattle.words.specs.Agree.{inCommon, OnlyIn}
 use Rattle.words.proofs.AgreeLaws.{only-trans}
 use Rattle.stations.specs.declared.call.Call.{Call}
@@ -22,7 +23,7 @@ use Rattle.stations.specs.Track.{trackAt}
 use Rattle.stations.proofs.StationLaws.{there-tells, there-length}
 use Rattle.stations.proofs.CountLaws.{counts-back, putCounts-only}
 use Rattle.stations.proofs.CounterLaws.{counted-only, counter-counted, counter-other}
-use Rattle.stations.proofs.FieldLaws.{opened-putCounts, track-putCounts, counter-putCounts, target-putCounts, opened-counted, counts-counted, track-counted, target-counted}
+use Rattle.stations.proofs.FieldLaws.{rule-putCounts, opened-putCounts, track-putCounts, counter-putCounts, target-putCounts, rule-counted, opened-counted, counts-counted, track-counted, target-counted}
 use Rattle.rows.specs.declared.row.Row.{Row}
 use Rattle.calls.specs.declared.insert.Site.{Site}
 use Rattle.calls.specs.declared.unlink.Around.{Around}
@@ -34,6 +35,7 @@ use Rattle.calls.specs.Walk.{codeOf, codeAt}
 -- v is w with these counts, and with one more change of station s; tracks and targets stay
 pub record Counting (v w : List ℕ) (counts : Counts) (s : ℕ) : Type 0 where
   pub only : OnlyIn v w inCommon
+  pub rule : ruleAt v ≡ ruleAt w
   pub opened : openedIn v ≡ openedIn w
   pub counted : countsAt v ≡ counts
   pub own : counterAt v s ≡ more (counterAt w s)
@@ -47,6 +49,7 @@ counting w counts s here =
     let long : commonSize ≤ length w = omega (arith, there-tells w s here .long) in
     record {
       only = only-trans (counted-only u s) (putCounts-only w counts);
+      rule = rule-counted u s ∙ rule-putCounts w counts;
       opened = opened-counted u s ∙ opened-putCounts w counts;
       counted = counts-counted u s ∙ counts-back w counts long;
       own = counter-counted u s (there-length u w s (putCounts-only w counts .lengths) ∙ here) ∙ ap more (counter-putCounts w counts s);

@@ -7,11 +7,13 @@ use lib.Dec.{eqb, leb, ltb}
 use lib.ListN.{length}
 use native.Mathlib.Omega.{arith}
 use Rattle.words.specs.Layout.{stations, wordsFor}
-use Rattle.words.specs.Refusal.{badPlaces, badLimit, shortSlice, badFactor, notOpened, noStation, notIdle, noKind, badPoint, badCurve, notUnfinished, unsound}
+use Rattle.words.specs.Refusal.{badPlaces, badLimit, shortSlice, badFactor, badRule, notOpened, noStation, notIdle, noKind, badPoint, badCurve, notUnfinished, unsound}
 use Rattle.points.specs.declared.point.Point.{Point}
 use Rattle.points.specs.declared.scale.Scale.{Scale}
+use Rattle.points.specs.Rule.{ruleIn}
+use Rattle.points.specs.Number.{inRangeBy}
 use Rattle.points.specs.Scale.{factorsIn}
-use Rattle.points.specs.Point.{inRange}
+use Rattle.words.specs.Rule.{ruleAt}
 use Rattle.stations.specs.Common.{placesIn, limitIn, openedIn, isOpened, rowsIn}
 use Rattle.stations.specs.Station.{isIdle, isUnfinished, stateAt}
 use Rattle.stations.specs.Call.{callAt, kindIn}
@@ -28,25 +30,27 @@ settled number before after = pickReply (eqb number 0) (done after) (replied num
 pub open-settled : (words : List ℕ) (places limit : ℕ) (scale : Scale)
     → openOf words places limit scale ≡ settled (openQuestion words places limit scale) words (openedWords words places limit scale)
 unfolding openOf openQuestion
-open-settled words places limit scale = go (placesIn places) (limitIn limit) (factorsIn scale) (leb (wordsFor places) (length words))
+open-settled words places limit scale = go (placesIn places) (limitIn limit) (ruleIn (scale .rule)) (factorsIn scale) (leb (wordsFor places) (length words))
   where
     after : List ℕ
     after = openedWords words places limit scale
 
-    go : (a b f c : Bool)
-        → ask a badPlaces words (ask b badLimit words (ask f badFactor words (ask c shortSlice words (done after))))
-        ≡ settled (cond a (cond b (cond f (cond c 0 shortSlice) badFactor) badLimit) badPlaces) words after
-    go false b f c = refl
-    go true false f c = refl
-    go true true false c = refl
-    go true true true false = refl
-    go true true true true = refl
+    go : (a b r f c : Bool)
+        → ask a badPlaces words (ask b badLimit words (ask r badRule words (ask f badFactor words (ask c shortSlice words (done after)))))
+        ≡ settled (cond a (cond b (cond r (cond f (cond c 0 shortSlice) badFactor) badRule) badLimit) badPlaces) words after
+    go false b r f c = refl
+    go true false r f c = refl
+    go true true false f c = refl
+    go true true true false c = refl
+    go true true true true false = refl
+    go true true true true true = refl
 
 -- an opening that fails none has its places in range
 pub open-places : (words : List ℕ) (places limit : ℕ) (scale : Scale) → openQuestion words places limit scale ≡ 0 → placesIn places ≡ true
 unfolding openQuestion
 open-places words places limit scale =
-    go (placesIn places) (cond (limitIn limit) (cond (factorsIn scale) (cond (leb (wordsFor places) (length words)) 0 shortSlice) badFactor) badLimit)
+    go (placesIn places)
+    (cond (limitIn limit) (cond (ruleIn (scale .rule)) (cond (factorsIn scale) (cond (leb (wordsFor places) (length words)) 0 shortSlice) badFactor) badRule) badLimit)
   where
     go : (a : Bool) (n : ℕ) → cond a n badPlaces ≡ 0 → a ≡ true
     go true n e = refl
@@ -57,7 +61,7 @@ pub submit-settled : (words : List ℕ) (s kind : ℕ) (point : Point) (curve : 
     → submitOf words s kind point curve ≡ settled (submitQuestion words s kind point curve) words (submittedWords words s kind point curve)
 unfolding submitOf submitQuestion callQuestion
 submit-settled words s kind point curve =
-    go (isOpened (openedIn words)) (ltb s stations) (isIdle (stateAt words s)) (kindIn kind) (inRange point) (curveFits kind curve)
+    go (isOpened (openedIn words)) (ltb s stations) (isIdle (stateAt words s)) (kindIn kind) (inRangeBy (ruleAt words) point) (curveFits kind curve)
   where
     after : List ℕ
     after = submittedWords words s kind point curve

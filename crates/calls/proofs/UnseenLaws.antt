@@ -6,6 +6,7 @@ use mathlib.Core.Bool.{Bool}
 use mathlib.Core.List.{List}
 use Prim.Native.Nat.{ℕ, _<_}
 use Rattle.words.specs.Agree.{Region, inCommon, inStation, inRow, AgreeIn, OnlyIn}
+use Rattle.words.specs.Rule.{ruleAt}
 use Rattle.rows.specs.Row.{rowAt}
 use Rattle.rows.specs.Grades.{admits}
 use Rattle.stations.specs.Common.{openedIn, commonSound, takenIn}
@@ -44,17 +45,17 @@ Reads v w inCommon = CommonReads v w
 Reads v w (inStation s) = StationReads v w s
 Reads v w (inRow r) = RowReads v w r
 
--- slices that agree on a region read the same there
-pub reads-agree : {v w : List ℕ} (x : Region) → AgreeIn v w x → Reads v w x
-reads-agree inCommon g = record { opened = openedIn-agree g; sound = commonSound-agree g; taken = takenIn-agree g }
-reads-agree (inStation s) g = record {
+-- slices of one rule that agree on a region read the same there
+pub reads-agree : {v w : List ℕ} (x : Region) → ruleAt v ≡ ruleAt w → AgreeIn v w x → Reads v w x
+reads-agree inCommon e g = record { opened = openedIn-agree g; sound = commonSound-agree g; taken = takenIn-agree g }
+reads-agree (inStation s) e g = record {
   state = stateAt-agree s g;
   call = callAt-agree s g;
   answer = answerAt-agree s g;
-  waiting = waitingAt-agree s g;
+  waiting = waitingAt-agree s e g;
 }
-reads-agree (inRow r) g = record { row = λ rows. rowAt-agree rows r g; grades = λ side k h. admits-agree r side k h g }
+reads-agree (inRow r) e g = record { row = λ rows. rowAt-agree rows r e g; grades = λ side k h. admits-agree r side k h g }
 
--- what is written in one region is not read in another
-pub reads-unseen : {v w : List ℕ} (x y : Region) → OnlyIn v w x → ¬ (y ≡ x) → Reads v w y
-reads-unseen x y g n = reads-agree y (elsewhere x y g n)
+-- what is written in one region is not read in another, where the rule is as it was, which no write outside of the common record changes (`rule-unseen`)
+pub reads-unseen : {v w : List ℕ} (x y : Region) → ruleAt v ≡ ruleAt w → OnlyIn v w x → ¬ (y ≡ x) → Reads v w y
+reads-unseen x y e g n = reads-agree y e (elsewhere x y g n)

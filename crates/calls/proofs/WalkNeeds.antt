@@ -20,6 +20,7 @@ use Rattle.stations.specs.declared.call.Call.{Call}
 use Rattle.stations.specs.Counts.{countsAt}
 use Rattle.rows.specs.declared.row.Row.{Row}
 use Rattle.rows.specs.declared.row.Row.the-variants.{Bad, Spare, Removed, Leaf, Cut}
+use Rattle.words.specs.Rule.{ruleAt}
 use Rattle.rows.specs.Row.{inRows, rowAt}
 use Rattle.rows.proofs.RowLaws.{in-rows-cut, row-sound, rowAt-outside}
 use Rattle.calls.specs.declared.insert.Site.{Site}
@@ -51,8 +52,8 @@ module _ (words : List ℕ) (rows : ℕ) (most : rows ≤ mostRows) (point : Poi
   -- the children of a cut that is read are rows
   child-below : (at parent : ℕ) (cut : PointCut) (left right : ℕ) → rowAt words rows at ≡ Cut parent cut left right → (left < rows) × (right < rows)
   child-below at parent cut left right e =
-      let h = sym (in-rows-cut rows parent cut left right) ∙ ap (inRows rows) (sym e) ∙ row-sound words rows at (rw e refl) in
-      let ahead = linkIn rows parent && cutInRange cut in
+      let h = sym (in-rows-cut (ruleAt words) rows parent cut left right) ∙ ap (inRows (ruleAt words) rows) (sym e) ∙ row-sound words rows at (rw e refl) in
+      let ahead = linkIn rows parent && cutInRange (ruleAt words) cut in
       (ltb-true left rows (and-r ahead (ltb left rows) (and-l (ahead && ltb left rows) (ltb right rows) h)), ltb-true right rows (and-r (ahead && ltb left rows) (ltb right rows) h))
 
   -- the way goes on exactly from a row of the tree

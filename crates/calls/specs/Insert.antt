@@ -19,6 +19,7 @@ use Rattle.rows.specs.declared.row.Row.the-variants.{Leaf, Cut}
 use Rattle.stations.specs.declared.call.Call.{Call}
 use Rattle.words.specs.Layout.{stations}
 use Rattle.words.specs.Words.{more}
+use Rattle.words.specs.Rule.{ruleAt}
 use Rattle.rows.specs.Row.{rowAt, putRow}
 use Rattle.rows.specs.Grades.{slotOf, beginGrades}
 use Rattle.calls.specs.declared.insert.Site.{Site}
@@ -30,6 +31,7 @@ use Rattle.calls.specs.Answer.{answer, answeredWords}
 
 abbrev pub siteWith : List ℕ → ℕ → ℕ → Row → ℕ → Row → Site
 siteWith words rows at front second leaf = record {
+  rule = ruleAt words;
   first = countsAt words .head;
   front = front;
   second = second;
@@ -40,7 +42,7 @@ siteWith words rows at front second leaf = record {
   cut = rowAt words rows (parentOf leaf);
 }
 
--- the first row of the queue, where there is a leaf also the second, the leaf, and the row above it
+-- the rule, the first row of the queue, where there is a leaf also the second, the leaf, and the row above it
 unfoldable pub siteAt : List ℕ → ℕ → ℕ → Site
 siteAt words rows at =
     siteWith words rows at (rowAt words rows (countsAt words .head)) (cond (eqb at NONE) NONE (nextOf (rowAt words rows (countsAt words .head)))) (rowAt words rows at)
@@ -65,10 +67,10 @@ cutWith site cut left = Cut (site .over) cut (cond left (site .first) (site .at)
 
 -- the new record lies on its left side
 unfoldable pub newSide : Site → Point → Bool
-newSide site point = goesLeft (cutOf point (leafPoint (site .leaf))) point
+newSide site point = goesLeft (cutOf (site .rule) point (leafPoint (site .leaf))) point
 
 unfoldable pub newCut : Site → Point → Row
-newCut site point = cutWith site (cutOf point (leafPoint (site .leaf))) (newSide site point)
+newCut site point = cutWith site (cutOf (site .rule) point (leafPoint (site .leaf))) (newSide site point)
 
 -- the cut is written with the grades of the two records
 unfoldable pub putCut : List ℕ → Site → Point → List ℕ

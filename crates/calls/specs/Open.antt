@@ -1,11 +1,12 @@
--- Opening: questions 1, 2, 17 and 3 (Rules 7.3); it begins with "no record held, every row spare, every station idle and no change counted" (Rules 7.4).
+-- Opening: questions 1, 2, 20, 17 and 3 (Rules 7.3); it begins with "no record held, every row spare, every station idle and no change counted" (Rules 7.4).
 use Prim.Native.Nat.{ℕ, zero, suc, _+_, _*_, _-_}
 use mathlib.Core.Bool.{cond}
 use mathlib.Core.List.{List}
 use lib.ListN.{length}
 use lib.Dec.{leb, ltb}
-use Rattle.words.specs.Refusal.{badPlaces, badLimit, shortSlice, badFactor}
+use Rattle.words.specs.Refusal.{badPlaces, badLimit, shortSlice, badFactor, badRule}
 use Rattle.points.specs.declared.scale.Scale.{Scale}
+use Rattle.points.specs.Rule.{ruleIn}
 use Rattle.points.specs.Scale.{factorsIn}
 use Rattle.points.specs.Word.{NONE}
 use Rattle.words.specs.Layout.{stations, wordsFor}
@@ -31,7 +32,7 @@ rowsSpare rows (suc n) words = putRow (rowsSpare rows n words) n (Spare (cond (l
 unfoldable pub newCounts : ℕ → Counts
 newCounts places = record { changes = 0; held = 0; root = NONE; head = 0; tail = 2 * places - 1; removals = 0 }
 
--- mark, places, limit, factors and counts
+-- mark, places, limit, scale and counts
 unfoldable pub headWords : ℕ → ℕ → Scale → List ℕ → List ℕ
 headWords places limit scale words = putCounts (putOpening words places limit scale) (newCounts places)
 
@@ -44,11 +45,15 @@ unfoldable pub openOf : List ℕ → ℕ → ℕ → Scale → Reply
 openOf words places limit scale =
     ask (placesIn places) badPlaces words
     (ask (limitIn limit) badLimit words
-    (ask (factorsIn scale) badFactor words (ask (leb (wordsFor places) (length words)) shortSlice words (done (openedWords words places limit scale)))))
+    (ask (ruleIn (scale .rule)) badRule words
+    (ask (factorsIn scale) badFactor words (ask (leb (wordsFor places) (length words)) shortSlice words (done (openedWords words places limit scale))))))
 
 -- ---- for the code: the questions as one number (`open-settled` of `proofs/Questions` says that it is the same)
 
--- the first of questions 1, 2, 17 and 3 that the opening fails, or 0
+-- the first of questions 1, 2, 20, 17 and 3 that the opening fails, or 0
 unfoldable pub openQuestion : List ℕ → ℕ → ℕ → Scale → ℕ
 openQuestion words places limit scale =
-    cond (placesIn places) (cond (limitIn limit) (cond (factorsIn scale) (cond (leb (wordsFor places) (length words)) 0 shortSlice) badFactor) badLimit) badPlaces
+    cond (placesIn places)
+    (cond (limitIn limit)
+    (cond (ruleIn (scale .rule)) (cond (factorsIn scale) (cond (leb (wordsFor places) (length words)) 0 shortSlice) badFactor) badRule) badLimit)
+    badPlaces

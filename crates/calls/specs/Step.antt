@@ -4,6 +4,7 @@ use mathlib.Core.Bool.{Bool, cond, _&&_}
 use mathlib.Core.List.{List}
 use lib.Dec.{eqb, ltb}
 use Rattle.words.specs.Layout.{stations}
+use Rattle.words.specs.Rule.{ruleAt}
 use Rattle.words.specs.Refusal.{notOpened, noStation, notUnfinished, unsound}
 use Rattle.stations.specs.Counts.{countsAt}
 use Rattle.stations.specs.declared.call.Call.{Call}
@@ -16,7 +17,7 @@ use Rattle.calls.specs.Walk.{walkOf}
 
 -- the fields of the common record and of the station's call are in range (Rules 7.10)
 unfoldable pub recordsSound : List ℕ → ℕ → Bool
-recordsSound words s = commonSound words (rowsIn words) && callSound (callAt words s) (countsAt words .changes)
+recordsSound words s = commonSound words (rowsIn words) && callSound (ruleAt words) (callAt words s) (countsAt words .changes)
 
 -- the work of a nearest, and of any other call
 abbrev pub workOf : List ℕ → ℕ → ℕ → Call → Reply
@@ -35,7 +36,7 @@ stepOf words s = askUnfinished words s (workOf words (rowsIn words) s (callAt wo
 
 -- the fields of the two records are in range, with the rows and the call given
 unfoldable pub fieldsSound : List ℕ → ℕ → Call → Bool
-fieldsSound words rows call = commonSound words rows && callSound call (countsAt words .changes)
+fieldsSound words rows call = commonSound words rows && callSound (ruleAt words) call (countsAt words .changes)
 
 -- the number of the first question that fails, or 0, with the rows and the call given
 unfoldable pub firstFailed : List ℕ → ℕ → ℕ → Call → ℕ

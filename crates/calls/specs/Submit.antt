@@ -4,9 +4,10 @@ use mathlib.Core.Bool.{Bool, cond, _&&_, _||_, not}
 use mathlib.Core.List.{List}
 use lib.Dec.{eqb, leb, ltb}
 use Rattle.words.specs.Layout.{stations}
+use Rattle.words.specs.Rule.{ruleAt}
 use Rattle.words.specs.Refusal.{notOpened, noStation, notIdle, noKind, badPoint, badCurve}
 use Rattle.points.specs.declared.point.Point.{Point}
-use Rattle.points.specs.Point.{inRange}
+use Rattle.points.specs.Number.{inRangeBy}
 use Rattle.points.specs.Word.{NONE}
 use Rattle.stations.specs.declared.counts.Counts.{Counts}
 use Rattle.stations.specs.declared.track.Track.{Track}
@@ -53,15 +54,15 @@ submitOf words s kind point curve =
     (ask (ltb s stations) noStation words
     (ask (isIdle (stateAt words s)) notIdle words
     (ask (kindIn kind) noKind words
-    (ask (inRange point) badPoint words (ask (curveFits kind curve) badCurve words (done (submittedWords words s kind point curve)))))))
+    (ask (inRangeBy (ruleAt words) point) badPoint words (ask (curveFits kind curve) badCurve words (done (submittedWords words s kind point curve)))))))
 
 -- ---- for the code: the questions as one number (`submit-settled` of `proofs/Questions` says that it is the same)
 
--- the first of questions 7 to 9 that the call fails, or 0
-unfoldable pub callQuestion : ℕ → Point → ℕ → ℕ
-callQuestion kind point curve = cond (kindIn kind) (cond (inRange point) (cond (curveFits kind curve) 0 badCurve) badPoint) noKind
+-- the first of questions 7 to 9 that the call fails under the rule, or 0
+unfoldable pub callQuestion : ℕ → ℕ → Point → ℕ → ℕ
+callQuestion rule kind point curve = cond (kindIn kind) (cond (inRangeBy rule point) (cond (curveFits kind curve) 0 badCurve) badPoint) noKind
 
 -- the first of questions 4 to 9 that the submission fails, or 0
 unfoldable pub submitQuestion : List ℕ → ℕ → ℕ → Point → ℕ → ℕ
 submitQuestion words s kind point curve =
-    cond (isOpened (openedIn words)) (cond (ltb s stations) (cond (isIdle (stateAt words s)) (callQuestion kind point curve) notIdle) noStation) notOpened
+    cond (isOpened (openedIn words)) (cond (ltb s stations) (cond (isIdle (stateAt words s)) (callQuestion (ruleAt words) kind point curve) notIdle) noStation) notOpened

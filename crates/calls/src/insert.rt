@@ -1,8 +1,9 @@
 // What an insert reads before it writes.
 use rows::row::Row;
 
-// The first two free rows, the leaf where the walk ended, and the row above it, each with its number.
+// The rule, by which a new cut is chosen; the first two free rows, the leaf where the walk ended, and the row above it, each with its number.
 pub struct Site {
+    pub rule: u32,
     pub first: u32,
     pub front: Row,
     pub second: u32,

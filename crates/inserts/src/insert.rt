@@ -30,6 +30,7 @@ use stations::track::write_track;
 use words::layout::NONE;
 use words::layout::STATIONS;
 use words::refusal::UNSOUND;
+use words::rule::read_rule;
 use words::word::more;
 use words::word::pick;
 ghost use mathlib.Core.Path.{_≡_};
@@ -38,7 +39,7 @@ ghost use Rattle.calls.specs.Reply.{replied};
 ghost use Rattle.calls.specs.Insert.{siteAt, siteSound, newLeaf, cutWith, putCut, insertRows, insertHead, insertRoot};
 ghost use Rattle.calls.specs.Insert.{countInserted, insertCounts, cursorTo, cursorMoved, cursorsMoved, insertWords, insertOf};
 
-// Reads the rows. Where there is no leaf no second free row is needed, and reading at `NONE` gives a bad row.
+// Reads the rule and the rows. Where there is no leaf no second free row is needed, and reading at `NONE` gives a bad row.
 fn gather(words: &[u32], rows: u32, at: u32) -> Site
     ensures { λ r. ⌜ r ≡ siteAt (now (words .entry)) rows at ⌝ }
 {
@@ -50,6 +51,7 @@ fn gather(words: &[u32], rows: u32, at: u32) -> Site
     let over = parent_of(leaf);
     let cut = read_row(words, rows, over);
     Site {
+        rule: read_rule(words),
         first: first,
         front: front,
         second: second,
@@ -107,7 +109,7 @@ fn write_cut(words: &mut [u32], site: Site, point: Point)
 {
     let leaf = site.leaf;
     let old = leaf_point(leaf);
-    let cut = cut_between(point, old);
+    let cut = cut_between(site.rule, point, old);
     let left = goes_left(cut, point);
     write_row(words, site.second, new_cut(site, cut, left));
     begin_grades(words, site.second, left, slot_of(point), slot_of(old));

@@ -1,4 +1,5 @@
 // Opening: no record held, every row spare, every station idle and no change counted.
+use points::rule::rule_in;
 use points::scale::Scale;
 use points::scale::factors_in;
 use rows::row::Row;
@@ -17,6 +18,7 @@ use words::layout::words_for;
 use words::refusal::BAD_FACTOR;
 use words::refusal::BAD_LIMIT;
 use words::refusal::BAD_PLACES;
+use words::refusal::BAD_RULE;
 use words::refusal::SHORT_SLICE;
 use words::word::pick;
 ghost use mathlib.Core.Path.{_≡_};
@@ -51,7 +53,7 @@ fn new_counts(places: u32) -> Counts
     }
 }
 
-// Mark, places, limit, factors and counts.
+// Mark, places, limit, scale and counts.
 fn write_head(words: &mut [u32], places: u32, limit: u32, scale: Scale)
     requires { ⌜ (1 ≤ places) × (places ≤ mostPlaces) ⌝ }
     ensures { λ _. ⌜ now (words .exit) ≡ headWords places limit scale (now (words .entry)) ⌝ }
@@ -90,17 +92,18 @@ fn open_words(words: &mut [u32], places: u32, limit: u32, scale: Scale)
     spare_rows(words, 2 * places);
 }
 
-// The first of questions 1, 2, 17 and 3 that the opening fails, or 0.
+// The first of questions 1, 2, 20, 17 and 3 that the opening fails, or 0.
 fn open_question(words: &[u32], places: u32, limit: u32, scale: Scale) -> u32
     ensures { λ r. ⌜ r ≡ openQuestion (now (words .entry)) places limit scale ⌝ }
 {
     let third = pick(words_for(places) <= words.len(), 0, SHORT_SLICE);
     let factors = pick(factors_in(scale), third, BAD_FACTOR);
-    let second = pick(limit_in(limit), factors, BAD_LIMIT);
+    let rule = pick(rule_in(scale.rule), factors, BAD_RULE);
+    let second = pick(limit_in(limit), rule, BAD_LIMIT);
     pick(places_in(places), second, BAD_PLACES)
 }
 
-// Opens the slice, or gives the number of the first question that the call fails: 1, 2, 17 or 3; then no word changes.
+// Opens the slice, or gives the number of the first question that the call fails: 1, 2, 20, 17 or 3; then no word changes.
 pub fn open(words: &mut [u32], places: u32, limit: u32, scale: Scale) -> u32
     ensures { λ r. ⌜ replied r (now (words .exit)) ≡ openOf (now (words .entry)) places limit scale ⌝ }
 {

@@ -12,10 +12,10 @@ use calls::aim::Aim;
 use calls::progress::Progress;
 use calls::reached::Reached;
 use links::link::is_tree;
+use points::choice::aims_left;
 use points::choice::chosen_at;
 use points::choice::far_side_excluded;
 use points::cut::Cut;
-use points::cut::goes_left;
 use points::point::Point;
 use points::square::square;
 use rows::grades::admits;
@@ -144,7 +144,7 @@ fn visit_cut(
 ) -> Reached
     ensures { λ r. ⌜ r ≡ visitCut (now (words .entry)) slot aim reached x parent cut ⌝ }
 {
-    let goes = goes_left(cut, aim.point);
+    let goes = aims_left(cut, aim.point);
     visit_sides(words, slot, aim, reached, x, parent, cut, goes)
 }
 

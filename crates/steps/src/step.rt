@@ -14,6 +14,7 @@ use words::refusal::NO_STATION;
 use words::refusal::NOT_OPENED;
 use words::refusal::NOT_UNFINISHED;
 use words::refusal::UNSOUND;
+use words::rule::read_rule;
 use words::word::pick;
 ghost use mathlib.Core.Path.{_≡_};
 ghost use Rattle.calls.specs.Reply.{replied};
@@ -23,7 +24,7 @@ ghost use Rattle.calls.specs.Step.{fieldsSound, firstFailed, workOf, stepOf};
 fn records_sound(words: &[u32], rows: u32, call: Call) -> bool
     ensures { λ r. ⌜ r ≡ fieldsSound (now (words .entry)) rows call ⌝ }
 {
-    common_sound(words, rows) & call_sound(call, read_counts(words).changes)
+    common_sound(words, rows) & call_sound(read_rule(words), call, read_counts(words).changes)
 }
 
 // The number of the first question that fails, or 0.

@@ -1,6 +1,6 @@
 // Submission: questions 4 to 9, and the call that is written at its station. It reads and writes the common record and the station's alone.
+use points::number::in_range_by;
 use points::point::Point;
-use points::point::in_range;
 use stations::call::ADD_KIND;
 use stations::call::Call;
 use stations::call::NEAREST_KIND;
@@ -23,6 +23,7 @@ use words::refusal::NO_KIND;
 use words::refusal::NO_STATION;
 use words::refusal::NOT_IDLE;
 use words::refusal::NOT_OPENED;
+use words::rule::read_rule;
 use words::word::curve_in;
 use words::word::pick;
 ghost use mathlib.Core.Path.{_≡_};
@@ -97,12 +98,12 @@ fn write_submitted(words: &mut [u32], s: u32, kind: u32, point: Point, curve: u3
     aim(words, s, kind, point);
 }
 
-// The first of questions 7 to 9 that the call fails, or 0.
-fn call_question(kind: u32, point: Point, curve: u32) -> u32
-    ensures { λ r. ⌜ r ≡ callQuestion kind point curve ⌝ }
+// The first of questions 7 to 9 that the call fails under the rule, or 0.
+fn call_question(rule: u32, kind: u32, point: Point, curve: u32) -> u32
+    ensures { λ r. ⌜ r ≡ callQuestion rule kind point curve ⌝ }
 {
     let ninth = pick(curve_fits(kind, curve), 0, BAD_CURVE);
-    let eighth = pick(in_range(point), ninth, BAD_POINT);
+    let eighth = pick(in_range_by(rule, point), ninth, BAD_POINT);
     pick(kind_in(kind), eighth, NO_KIND)
 }
 
@@ -111,7 +112,8 @@ fn submit_question(words: &[u32], s: u32, kind: u32, point: Point, curve: u32) -
     ensures { λ r. ⌜ r ≡ submitQuestion (now (words .entry)) s kind point curve ⌝ }
 {
     let state = read_state(words, s);
-    let sixth = pick(state.is_idle(), call_question(kind, point, curve), NOT_IDLE);
+    let call = call_question(read_rule(words), kind, point, curve);
+    let sixth = pick(state.is_idle(), call, NOT_IDLE);
     let fifth = pick(s < STATIONS, sixth, NO_STATION);
     pick(is_opened(words), fifth, NOT_OPENED)
 }

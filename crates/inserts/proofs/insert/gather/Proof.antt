@@ -28,6 +28,9 @@ parent-of-requires c κs = search needs
 read-row-requires-4 : tie.Need-read-row-requires-4
 read-row-requires-4 c κs = search needs
 
+read-rule-requires : tie.Need-read-rule-requires
+read-rule-requires c κs = search needs
+
 returns : tie.Need-returns
 unfolding siteAt
 returns c = cc
@@ -44,4 +47,5 @@ gather-spec =
     read-row-requires-3
     parent-of-requires
     read-row-requires-4
+    read-rule-requires
     returns)

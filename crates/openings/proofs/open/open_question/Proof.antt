@@ -7,7 +7,7 @@ use mathlib.Core.Bool.{cond}
 use lib.ListN.{length}
 use lib.Dec.{leb}
 use denote.Ref.{now}
-use Rattle.words.specs.Refusal.{badPlaces, badLimit, badFactor, shortSlice}
+use Rattle.words.specs.Refusal.{badPlaces, badLimit, badRule, badFactor, shortSlice}
 use Rattle.calls.specs.Open.{openQuestion}
 
 words-for-requires : tie.Need-words-for-requires
@@ -21,6 +21,12 @@ factors-in-requires c κs = search needs
 
 pick-requires-2 : tie.Need-pick-requires-2
 pick-requires-2 c κs = search needs
+
+rule-in-requires : tie.Need-rule-in-requires
+rule-in-requires c κs = search needs
+
+pick-requires-5 : tie.Need-pick-requires-5
+pick-requires-5 c κs = search needs
 
 limit-in-requires : tie.Need-limit-in-requires
 limit-in-requires c κs = search needs
@@ -39,13 +45,15 @@ unfolding openQuestion
 returns c =
     let p = c .before in
     let l = p .before .before in
-    let f = l .before .before in
+    let r = l .before .before in
+    let f = r .before .before in
     let w = f .before .before in
     let words = now (w .before .before .args .words) in
     let third = f .before .pick .ensures ∙ (λ i. cond (leb (w .words-for .ensures i) (length words)) 0 shortSlice) in
-    let factors = l .before .pick2 .ensures ∙ (λ i. cond (f .factors-in .ensures i) (third i) badFactor) in
-    let second = p .before .pick3 .ensures ∙ (λ i. cond (l .limit-in .ensures i) (factors i) badLimit) in
-    c .pick4 .ensures ∙ (λ i. cond (p .places-in .ensures i) (second i) badPlaces)
+    let factors = r .before .pick2 .ensures ∙ (λ i. cond (f .factors-in .ensures i) (third i) badFactor) in
+    let rule = l .before .pick3 .ensures ∙ (λ i. cond (r .rule-in .ensures i) (factors i) badRule) in
+    let second = p .before .pick4 .ensures ∙ (λ i. cond (l .limit-in .ensures i) (rule i) badLimit) in
+    c .pick5 .ensures ∙ (λ i. cond (p .places-in .ensures i) (second i) badPlaces)
 
 pub open-question-spec : {M : Type 1} → statement M
 open-question-spec =
@@ -55,8 +63,10 @@ open-question-spec =
     pick-requires
     factors-in-requires
     pick-requires-2
-    limit-in-requires
+    rule-in-requires
     pick-requires-3
-    places-in-requires
+    limit-in-requires
     pick-requires-4
+    places-in-requires
+    pick-requires-5
     returns)

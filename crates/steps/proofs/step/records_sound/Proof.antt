@@ -7,6 +7,9 @@ use Rattle.calls.specs.Step.{fieldsSound}
 common-sound-requires : tie.Need-common-sound-requires
 common-sound-requires c κs = search needs
 
+read-rule-requires : tie.Need-read-rule-requires
+read-rule-requires c κs = search needs
+
 read-counts-requires : tie.Need-read-counts-requires
 read-counts-requires c κs = search needs
 
@@ -19,4 +22,4 @@ returns c = cc
 
 pub records-sound-spec : {M : Type 1} → statement M
 records-sound-spec =
-    tie.close (tie.spec common-sound-requires read-counts-requires call-sound-requires returns)
+    tie.close (tie.spec common-sound-requires read-rule-requires read-counts-requires call-sound-requires returns)

@@ -10,8 +10,8 @@ curve-fits-requires c κs = search needs
 pick-requires : tie.Need-pick-requires
 pick-requires c κs = search needs
 
-in-range-requires : tie.Need-in-range-requires
-in-range-requires c κs = search needs
+in-range-by-requires : tie.Need-in-range-by-requires
+in-range-by-requires c κs = search needs
 
 pick-requires-2 : tie.Need-pick-requires-2
 pick-requires-2 c κs = search needs
@@ -32,7 +32,7 @@ call-question-spec =
     (tie.spec
     curve-fits-requires
     pick-requires
-    in-range-requires
+    in-range-by-requires
     pick-requires-2
     kind-in-requires
     pick-requires-3

@@ -7,6 +7,9 @@ use Rattle.calls.specs.Submit.{submitQuestion}
 read-state-requires : tie.Need-read-state-requires
 read-state-requires c κs = search needs
 
+read-rule-requires : tie.Need-read-rule-requires
+read-rule-requires c κs = search needs
+
 is-idle-requires : tie.Need-is-idle-requires
 is-idle-requires c κs = search needs
 
@@ -34,8 +37,9 @@ submit-question-spec =
     tie.close
     (tie.spec
     read-state-requires
-    is-idle-requires
+    read-rule-requires
     call-question-requires
+    is-idle-requires
     pick-requires
     pick-requires-2
     is-opened-requires
