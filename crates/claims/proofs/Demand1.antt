@@ -10,10 +10,10 @@ use mathlib.Core.Bool.{Bool, true, false, cond, _&&_}
 use mathlib.Core.List.{List, [], _∷_, List·Memᴰ}
 use lib.Dec.{leb, ltb}
 use lib.ListN.{length, drop, replicate}
-use Rattle.claims.specs.Definitions.{Scale, factorsIn, plainScale, Point, inRange, wordsFor, placesIn, limitIn, openedIn, isIdle, isUnfinished, stateAt, waitingAt}
+use Rattle.claims.specs.Definitions.{Scale, plainRule, ruleIn, factorsIn, plainScale, Point, inRangeBy, ruleAt, wordsFor, placesIn, limitIn, openedIn, isIdle, isUnfinished, stateAt, waitingAt}
 use Rattle.claims.specs.Definitions.{isOpened, rowsIn, openOf, kindIn, curveFits, submitOf, recordsSound, stepOf, isGiven, takeOf, numberOf, takeWords, withdrawOf}
 use Rattle.claims.specs.Definitions.{part, atRow, rowOf, inRows, Need, rowsOf, stepNeeds, rowsSound, reportOf, verdictOf, asked, firstNo}
-use Rattle.claims.specs.Definitions.{Frame, Open, Submit, Step, Take, Run, OpenScaled, Withdraw, Refused as Unread, isKind, isWhole, hasKind, ownLength, frameQuestion, readOf, readingNumber}
+use Rattle.claims.specs.Definitions.{Frame, Open, Submit, Step, Take, Run, OpenScaled, OpenRuled, Withdraw, Refused as Unread, isKind, isWhole, hasKind, ownLength, frameQuestion, readOf, readingNumber}
 use Rattle.claims.specs.Definitions.{positionAfter, Fields, padded, writtenBytes, writeOf, pointOf, scaleOf, submissionReply, applyOf, appliedNumber, applyWords, lineWords}
 use borrow.Author.Tests.{lt-ltb}
 use Rattle.rows.proofs.RowLaws.{row-exact}
@@ -25,16 +25,16 @@ use Rattle.lines.proofs.LineLaws
 
 -- ---- the number of the first check it fails
 
--- opening: questions 1, 2, 17 and 3 (Rules 7.3)
+-- opening: questions 1, 2, 20, 17 and 3 (Rules 7.3)
 pub open-number : (words : List ℕ) (places limit : ℕ) (scale : Scale)
-    → openOf words places limit scale .number ≡ firstNo (asked (placesIn places) 1 ∷ asked (limitIn limit) 2 ∷ asked (factorsIn scale) 17 ∷ asked (leb (wordsFor places) (length words)) 3 ∷ [])
+    → openOf words places limit scale .number ≡ firstNo (asked (placesIn places) 1 ∷ asked (limitIn limit) 2 ∷ asked (ruleIn (scale .rule)) 20 ∷ asked (factorsIn scale) 17 ∷ asked (leb (wordsFor places) (length words)) 3 ∷ [])
 open-number = Refused.open-number
 
 -- submission: questions 4 and 5, as every call that names a station asks them (Rules 7.5, 7.6), then 6 to 9 (Rules 7.7)
 pub submit-number : (words : List ℕ) (s kind : ℕ) (p : Point) (c : ℕ)
     → submitOf words s kind p c .number
     ≡ firstNo (asked (isOpened (openedIn words)) 4 ∷ asked (ltb s 8) 5
-    ∷ asked (isIdle (stateAt words s)) 6 ∷ asked (kindIn kind) 7 ∷ asked (inRange p) 8 ∷ asked (curveFits kind c) 9 ∷ [])
+    ∷ asked (isIdle (stateAt words s)) 6 ∷ asked (kindIn kind) 7 ∷ asked (inRangeBy (ruleAt words) p) 8 ∷ asked (curveFits kind c) 9 ∷ [])
 submit-number = Refused.submit-number
 
 -- Step: question 10, and question 11 first of the two records (Rules 7.8, 7.10), then of the rows (Rules 7.11 to 7.15): `stepNeeds` lists what the step needs, and
@@ -48,7 +48,7 @@ step-number = Refused.step-number
 -- A needed row with a field out of range is one of them: such a step gets 11.
 pub field-out-of-range : (words : List ℕ) (s : ℕ) → isOpened (openedIn words) ≡ true → s < 8 → isUnfinished (stateAt words s) ≡ true
     → (need : Need) → List·Memᴰ need (stepNeeds words s) → (r : ℕ) → List·Memᴰ r (rowsOf need)
-    → inRows (rowsIn words) (rowOf (part words (atRow r) 16)) ≡ false → stepOf words s .number ≡ 11
+    → inRows (ruleAt words) (rowsIn words) (rowOf (part words (atRow r) 16)) ≡ false → stepOf words s .number ≡ 11
 unfolding firstNo
 field-out-of-range words s o l u need m r k e =
     step-number words s ∙ rw (o, lt-ltb s 8 l, u, needed-row words s m k (row-exact words (rowsIn words) r ∙ rw e (and-false there))) (either (recordsSound words s))
@@ -152,6 +152,7 @@ IsRun (Step station) = ⊥
 IsRun (Take station) = ⊥
 IsRun (Run station) = Unit {0}
 IsRun (OpenScaled places limit factors) = ⊥
+IsRun (OpenRuled places limit factors rule) = ⊥
 IsRun (Withdraw station) = ⊥
 
 -- A frame whose call is refused changes no word.
@@ -162,5 +163,6 @@ applied-refused words (Submit s) r n = submit-refused words (s .station) (s .kin
 applied-refused words (Step station) r n = step-refused words station n
 applied-refused words (Take station) r n = take-refused words station (λ e. n (LineLaws.taking-number (takeOf words station) ∙ e))
 applied-refused words (Run station) r n = absurd (r tt)
-applied-refused words (OpenScaled places limit factors) r n = open-refused words places limit (scaleOf factors) n
+applied-refused words (OpenScaled places limit factors) r n = open-refused words places limit (scaleOf plainRule factors) n
+applied-refused words (OpenRuled places limit factors rule) r n = open-refused words places limit (scaleOf rule factors) n
 applied-refused words (Withdraw station) r n = withdrawal-refused words station n

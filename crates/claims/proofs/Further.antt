@@ -1,6 +1,6 @@
--- What the rules say besides the demands: what an opening leaves (`opening-fresh`, `opening-again`, `opening-beyond`, `opening-kept`), the changes of each station (`changes-counted`), the report (`report-after`), the
--- audit (`audit-says`, `audit-exact`, `audit-after`), question 11 (`never-11`), runs (`run-is-steps`, `run-after`), the bytes of the frame runner (`runner-places`, `runner-prints`, `runner-ends`), ranges
--- (`point-ranges`, `factor-ranges`), squares (`square-sum`, `square-most`, `plain-most`) and the comparison of points (`comparison-tells`).
+-- What the rules say besides the demands: what an opening leaves (`opening-fresh`, `opening-again`, `opening-beyond`, `opening-kept`, `rule-kept`), the changes of each station (`changes-counted`), the report (`report-after`), the
+-- audit (`audit-says`, `audit-exact`, `audit-after`), question 11 (`never-11`), runs (`run-is-steps`, `run-after`), the bytes of the frame runner (`runner-places`, `runner-prints`, `runner-ends`)
+-- and the comparison of points (`comparison-tells`). Ranges, rules and squares are those of `Distance`.
 use Prim.Native.Nat.{ℕ, _+_, _*_, _≤_, _<_}
 use mathlib.Core.Path.{_≡_, refl, sym, ap, _∙_, subst}
 use mathlib.Core.Logic.{_⊎_, _↔_}
@@ -8,18 +8,13 @@ use mathlib.Core.Bool.{true, false, _&&_}
 use mathlib.Core.List.{List, [], map, append-nil, List·Memᴰ, List·Memᴰ·not-nil}
 use lib.ListN.{length}
 use native.Mathlib.Omega.{arith}
-use lib.IntN.{pos, negsuc}
-use lib.Signed.{leZ}
 use lib.Dec.{leb}
 use Rattle.stations.specs.declared.counts.Counts.{Counts}
-use Rattle.claims.specs.Definitions.{Scale, factorsIn, plainScale, Point, inRange, squaredOf, squareOf, orderOf, comparedOf, Looked}
-use Rattle.claims.specs.Definitions.{get, rowAt, Spare, countsAt, counterAt, isIdle, isUnfinished, stateAt, Record, Table, opened, eight, total, taken, Event}
+use Rattle.claims.specs.Definitions.{Scale, ruleIn, factorsIn, Point, orderOf, comparedOf, Looked}
+use Rattle.claims.specs.Definitions.{get, ruleAt, rowAt, Spare, countsAt, counterAt, isIdle, isUnfinished, stateAt, Record, Table, opened, eight, total, taken, Event}
 use Rattle.claims.specs.Definitions.{limitIn, Opened, openedIn, openOf, stepOf, runOf, takeOf, numberOf, reportOf, auditOf, verdictOf, heldIn, recordOf, after, firstNo, Audited, outputOf, begun, printed, lastOutput}
-use Rattle.points.proofs.PointLaws
-use Rattle.stations.proofs.OpeningLaws.{places-of}
+use Rattle.stations.proofs.OpeningLaws.{places-of, opened-rule}
 use Rattle.table.proofs.Counters.{total-same}
-use Rattle.points.proofs.ScaleLaws
-use Rattle.points.proofs.SquareLaws
 use Rattle.points.proofs.ComparedLaws.{compared-tells}
 use Rattle.history.specs.View.{seatAt}
 use Rattle.history.proofs.OpenEffects.{OpenedAs, open-written}
@@ -50,7 +45,7 @@ pub opening-fresh : (words : List ℕ) (places limit : ℕ) (scale : Scale) → 
 unfolding opened seatAt
 opening-fresh words places limit scale e =
     let a = accepted words places limit scale e in
-    let w : OpenedAs (openOf words places limit scale .words) places limit scale = rw (a .opens) (open-written words places limit scale (a .places-in) (a .limit-in) (a .factors-in) (a .long)) in
+    let w : OpenedAs (openOf words places limit scale .words) places limit scale = rw (a .opens) (open-written words places limit scale (a .places-in) (a .limit-in) (a .rule-in) (a .factors-in) (a .long)) in
     let m : Moments (openOf words places limit scale .words) places limit scale [] = demand-3 words places limit scale e [] in
     record {
       held = λ r h. List·Memᴰ·not-nil (subst (λ (t : Table). List·Memᴰ r (t .held)) (m .first) (unfold after in (m .agrees [] [] refl .records r .0 h)));
@@ -77,6 +72,11 @@ opening-kept words places limit scale e evs =
     let a = accepted words places limit scale e in
     let st : Stands (after evs (openOf words places limit scale .words)) places limit scale = rw (a .opens) (history-related words places limit scale a evs) in
     st .related .opened ∙ (λ i. Opened (st .places-same i) (st .limit-same i) (st .scale-same i))
+
+-- so the rule by which rows, calls, bests and answers are judged is that of the opening (Rules 1.8)
+pub rule-kept : (words : List ℕ) (places limit : ℕ) (scale : Scale) → openOf words places limit scale .number ≡ 0 → (evs : List Event)
+    → ruleAt (after evs (openOf words places limit scale .words)) ≡ scale .rule
+rule-kept words places limit scale e evs = opened-rule (after evs (openOf words places limit scale .words)) places limit scale (opening-kept words places limit scale e evs)
 
 -- ---- changes
 
@@ -150,12 +150,12 @@ run-after words places limit scale e evs s u = let x = run-answers words places 
 -- ---- the frame runner
 
 -- Rules 10.1: in 8,800 words 256 places fit, and 257 get 3.
-pub runner-places : (words : List ℕ) (limit : ℕ) (scale : Scale) → length words ≡ 8800 → limitIn limit ≡ true → factorsIn scale ≡ true
+pub runner-places : (words : List ℕ) (limit : ℕ) (scale : Scale) → length words ≡ 8800 → limitIn limit ≡ true → ruleIn (scale .rule) ≡ true → factorsIn scale ≡ true
     → (openOf words 256 limit scale .number ≡ 0) × (openOf words 257 limit scale .number ≡ 3)
 unfolding firstNo
-runner-places words limit scale l e f = (
-  open-number words 256 limit scale ∙ rw (places-of 256 (omega arith) (omega arith), e, f, l),
-  open-number words 257 limit scale ∙ rw (places-of 257 (omega arith) (omega arith), e, f, l),
+runner-places words limit scale l e r f = (
+  open-number words 256 limit scale ∙ rw (places-of 256 (omega arith) (omega arith), e, r, f, l),
+  open-number words 257 limit scale ∙ rw (places-of 257 (omega arith) (omega arith), e, r, f, l),
 )
 
 -- Rules 10.3, 10.4: the texts of `begin` and of `next` after it, as long as there is more, are the header and the lines of the input, for all words and bytes; a slice has no more bytes
@@ -165,47 +165,6 @@ runner-prints = output-is-lines
 
 pub runner-ends : (words bytes : List ℕ) (n : ℕ) → length bytes < n → lastOutput n words bytes begun .more ≡ false
 runner-ends = output-ends
-
--- ---- records
-
--- Rules 1.1: the ranges of a point's five coordinates (`leZ` compares numbers with a sign)
-pub point-ranges : (p : Point)
-    → inRange p
-    ≡ (((((leZ (pos 1) (p .grade) && leZ (p .grade) (pos 9999))
-    && (leZ (pos 1) (p .weight) && leZ (p .weight) (pos 100000)))
-    && (leZ (pos 0) (p .moisture) && leZ (p .moisture) (pos 10000)))
-    && (leZ (pos 0) (p .speed) && leZ (p .speed) (pos 30000)))
-    && (leZ (negsuc 1999) (p .draw) && leZ (p .draw) (pos 2000)))
-point-ranges = PointLaws.point-ranges
-
--- Rules 7.1, question 17: the range of the four factors
-pub factor-ranges : (scale : Scale)
-    → factorsIn scale
-    ≡ ((((leb 1 (scale .weight) && leb (scale .weight) 1000)
-    && (leb 1 (scale .moisture) && leb (scale .moisture) 1000))
-    && (leb 1 (scale .speed) && leb (scale .speed) 1000))
-    && (leb 1 (scale .draw) && leb (scale .draw) 1000))
-factor-ranges = ScaleLaws.factor-ranges
-
--- Rules 1.5: of two points in range the square is the sum of the squared differences on axes 2 to 5, each multiplied by its factor, and at most 11,015,800,001,000
-pub square-sum : (scale : Scale) (a b : Point) → factorsIn scale ≡ true → inRange a ≡ true → inRange b ≡ true
-    → squareOf scale a b
-    ≡ scale .weight * squaredOf a b 2 + scale .moisture * squaredOf a b 3 + scale .speed * squaredOf a b 4 + scale .draw * squaredOf a b 5
-square-sum = SquareLaws.square-sum
-
-pub square-most : (scale : Scale) (a b : Point) → factorsIn scale ≡ true → inRange a ≡ true → inRange b ≡ true → squareOf scale a b ≤ 11015800001000
-square-most = SquareLaws.square-le
-
--- with factors of one it is at most 11,015,800,001: a thousandth of what it is with factors of 1,000
-pub plain-most : (a b : Point) → inRange a ≡ true → inRange b ≡ true → squareOf plainScale a b ≤ 11015800001
-plain-most a b e f =
-    let k : Scale = record { weight = 1000; moisture = 1000; speed = 1000; draw = 1000 } in
-    omega (
-      arith,
-      square-sum plainScale a b (factor-ranges plainScale) e f,
-      square-sum k a b (factor-ranges k) e f,
-      square-most k a b (factor-ranges k) e f,
-    )
 
 -- ---- the comparison of points
 

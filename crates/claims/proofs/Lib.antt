@@ -11,6 +11,7 @@ pub mod Touch
 -- The table of the proved cases P1 to P10; its rows are in specs/Cases.antt.
 pub mod Cases
 -- What the rules say besides: openings, report, audit, question 11, runs, comparisons.
+pub mod Distance
 pub mod Further
 -- The fault that was seen: a farther record found while a nearer one was held.
 pub mod Nearer

@@ -1,4 +1,4 @@
--- The cases P1 to P10 (Rules 13) as one table, a row for each case (`ProvedCases`), with factors of one where none are named. P1 to P4 are about points, P7 and P8
+-- The cases P1 to P10 (Rules 13) as one table, a row for each case (`ProvedCases`), under rule 1 with factors of one where no other is named. P1 to P4 are about points, P7 and P8
 -- about frames. P5, P6, P9 and P10 are about calls made one after the other: what the plain table answers, and what every slice long enough gives when it
 -- is opened and each call is submitted, run and taken.
 use Prim.Native.Nat.{ℕ, _≤_}
@@ -27,7 +27,25 @@ atWeight grade weight = record { grade = pos grade; weight = pos weight; moistur
 
 -- factors by which the weight counts 9 times
 abbrev pub heavyWeight : Scale
-heavyWeight = record { weight = 9; moisture = 1; speed = 1; draw = 1 }
+heavyWeight = record { rule = 1; weight = 9; moisture = 1; speed = 1; draw = 1 }
+
+-- rule 2 with factors of one, and with the greatest
+abbrev pub dryOnes : Scale
+dryOnes = record { rule = 2; weight = 1; moisture = 1; speed = 1; draw = 1 }
+
+abbrev pub drySixteens : Scale
+drySixteens = record { rule = 2; weight = 16; moisture = 16; speed = 16; draw = 16 }
+
+-- grade 12, 50 %, no draw, and the weight and speed
+abbrev pub damp : ℕ → ℕ → Point
+damp weight speed = record { grade = pos 12; weight = pos weight; moisture = pos 5_000; speed = pos speed; draw = pos 0 }
+
+-- the greatest dry weight and the least, with the other ends
+abbrev pub driest : Point
+driest = record { grade = pos 12; weight = pos 100_000; moisture = pos 0; speed = pos 0; draw = negsuc 1_999 }
+
+abbrev pub wettest : Point
+wettest = record { grade = pos 12; weight = pos 1; moisture = pos 9_999; speed = pos 30_000; draw = pos 2_000 }
 
 -- ---- calls one after the other
 
@@ -89,12 +107,12 @@ pub record ProvedCases : Type 0 where
   -- draws −3 and 4, else equal: square 49
   pub p1 : squareOf plainScale (drawn (negsuc 2)) (drawn (pos 4)) ≡ 49
   -- cut of 3 and 4: 3 left, 4 right
-  pub p2 : (goesLeft (cutOf (drawn (pos 3)) (drawn (pos 4))) (drawn (pos 3)) ≡ true) × (goesLeft (cutOf (drawn (pos 3)) (drawn (pos 4))) (drawn (pos 4)) ≡ false)
+  pub p2 : (goesLeft (cutOf 1 (drawn (pos 3)) (drawn (pos 4))) (drawn (pos 3)) ≡ true) × (goesLeft (cutOf 1 (drawn (pos 3)) (drawn (pos 4))) (drawn (pos 4)) ≡ false)
   -- cut of −4 and −3: −4 left, −3 right
-  pub p3 : (goesLeft (cutOf (drawn (negsuc 3)) (drawn (negsuc 2))) (drawn (negsuc 3)) ≡ true)
-      × (goesLeft (cutOf (drawn (negsuc 3)) (drawn (negsuc 2))) (drawn (negsuc 2)) ≡ false)
+  pub p3 : (goesLeft (cutOf 1 (drawn (negsuc 3)) (drawn (negsuc 2))) (drawn (negsuc 3)) ≡ true)
+      × (goesLeft (cutOf 1 (drawn (negsuc 3)) (drawn (negsuc 2))) (drawn (negsuc 2)) ≡ false)
   -- points equal but for weight +5 and speed +5: axis 2
-  pub p4 : cutOf (made 8_000 9_000) (made 8_005 9_005) .axis ≡ 2
+  pub p4 : cutOf 1 (made 8_000 9_000) (made 8_005 9_005) .axis ≡ 2
   -- target weight 9,000, held 8,990 and 9,010: 9,010
   pub p5 : Answered 2 10 plainScale (adds (atWeight 12 8_990) 42 ∷ adds (atWeight 12 9_010) 41 ∷ seeks (atWeight 12 9_000) ∷ [])
       (answer 1 (atWeight 12 8_990) 42 0 ∷ answer 1 (atWeight 12 9_010) 41 0 ∷ answer 8 (atWeight 12 9_010) 41 100 ∷ [])
@@ -106,6 +124,13 @@ pub record ProvedCases : Type 0 where
       (answer 1 (made 9_010 9_000) 41 0 ∷ answer 1 (made 9_000 9_020) 42 0 ∷ answer 8 (made 9_010 9_000) 41 100 ∷ [])
   pub factors-nearest : Answered 2 10 heavyWeight (adds (made 9_010 9_000) 41 ∷ adds (made 9_000 9_020) 42 ∷ seeks (made 9_000 9_000) ∷ [])
       (answer 1 (made 9_010 9_000) 41 0 ∷ answer 1 (made 9_000 9_020) 42 0 ∷ answer 8 (made 9_000 9_020) 42 400 ∷ [])
+  -- at 50 % a speed 6 off is nearer than a weight 10 off by rule 1; by rule 2 the weight counts half, and is: 50,000² against 60,000²
+  pub coordinates-nearest : Answered 2 10 plainScale (adds (damp 9_010 9_000) 41 ∷ adds (damp 9_000 9_006) 42 ∷ seeks (damp 9_000 9_000) ∷ [])
+      (answer 1 (damp 9_010 9_000) 41 0 ∷ answer 1 (damp 9_000 9_006) 42 0 ∷ answer 8 (damp 9_000 9_006) 42 36 ∷ [])
+  pub dry-nearest : Answered 2 10 dryOnes (adds (damp 9_010 9_000) 41 ∷ adds (damp 9_000 9_006) 42 ∷ seeks (damp 9_000 9_000) ∷ [])
+      (answer 1 (damp 9_010 9_000) 41 0 ∷ answer 1 (damp 9_000 9_006) 42 0 ∷ answer 8 (damp 9_010 9_000) 41 2_500_000_000 ∷ [])
+  -- the greatest square is found and given
+  pub dry-farthest : Answered 2 10 drySixteens (adds driest 41 ∷ seeks wettest ∷ []) (answer 1 driest 41 0 ∷ answer 8 driest 41 17_625_567_969_600_000_016 ∷ [])
   -- target grade 13, only grade 12 held: 9
   pub p6 : Answered 2 10 plainScale (adds (atWeight 12 9_000) 41 ∷ seeks (atWeight 13 9_000) ∷ []) (answer 1 (atWeight 12 9_000) 41 0 ∷ answer 9 (atWeight 13 9_000) 0 0 ∷ [])
   -- step for station 2: bytes 03 00 03 00 02

@@ -3,24 +3,28 @@
 
 -- ---- points
 
--- a point's five coordinates, and whether they are in range
+-- a point's five coordinates, and whether they are in range, also under a rule
 pub use Rattle.points.specs.declared.point.Point.{Point}
 pub use Rattle.points.specs.Point.{inRange}
+pub use Rattle.points.specs.Number.{inRangeBy}
 -- a comparison of two points: their order, and how many axes it looks at, also in words
 pub use Rattle.points.specs.Order.{orderOf, comparedOf, Looked}
--- the factors of an opening, their range, and four ones
+-- the rule and the factors of an opening, the ranges of both, how much an axis counts, and rule 1, alone and with four ones
 pub use Rattle.points.specs.declared.scale.Scale.{Scale}
-pub use Rattle.points.specs.Scale.{factorsIn, plainScale}
--- the square of two points by the factors; the cut between two points, and the side on which it has a point
-pub use Rattle.points.specs.Square.{squaredOf, squareOf, mostSquare}
+pub use Rattle.points.specs.Rule.{plainRule, dryRule, ruleIn}
+pub use Rattle.points.specs.Scale.{countOf, factorsIn, plainScale}
+-- the square of two points by the rule and the factors; the cut between two points, and the side on which it has a point
+pub use Rattle.points.specs.Square.{squareOf, mostSquare}
 pub use Rattle.points.specs.Cut.{cutOf, goesLeft}
--- one grade; which of two points a target chooses by the factors, also in words: the nearer, on a tie the heavier
-pub use Rattle.points.specs.Choice.{sameGrade, chosenOver, Chosen}
+-- one grade; which of two points a target chooses by the square, also in words: the nearer, on a tie the heavier; that cuts bound a square from below;
+-- and the number for no square
+pub use Rattle.points.specs.Choice.{sameGrade, chosenOver, Chosen, Bounds, noSquare}
 -- ---- words, stations and rows
 
--- words, rows, question 4, and the counts and counters of the common record
+-- words, the rule, rows, question 4, and the counts and counters of the common record
 pub use Rattle.words.specs.Layout.{wordsFor, atRow}
 pub use Rattle.words.specs.Words.{get, part}
+pub use Rattle.words.specs.Rule.{ruleAt}
 pub use Rattle.rows.specs.Row.{rowAt, rowOf, inRows}
 pub use Rattle.rows.specs.declared.row.Row.the-variants.{Spare}
 pub use Rattle.stations.specs.Common.{placesIn, limitIn, placesAt, Opened, openedIn, isOpened, rowsIn}
@@ -87,7 +91,7 @@ pub use Rattle.history.specs.Audited.{Audited}
 
 -- a frame, its fields in width, and what a reading finds
 pub use Rattle.frames.specs.declared.frame.Frame.{Frame}
-pub use Rattle.frames.specs.declared.frame.Frame.the-variants.{Open, Submit, Step, Take, Run, OpenScaled, Withdraw}
+pub use Rattle.frames.specs.declared.frame.Frame.the-variants.{Open, Submit, Step, Take, Run, OpenScaled, OpenRuled, Withdraw}
 pub use Rattle.numbers.specs.Bytes.{AllBytes}
 pub use Rattle.frames.specs.Width.{InWidth}
 pub use Rattle.frames.specs.declared.read.Reading.the-variants.{Read, Refused}

@@ -69,7 +69,7 @@ standing-open words places limit scale e =
     (record {
       table = opened places limit scale;
       sound = sound-opened places limit scale;
-      related = related-open words places limit scale (a .places-in) (a .limit-in) (a .factors-in) (a .long);
+      related = related-open words places limit scale (a .places-in) (a .limit-in) (a .rule-in) (a .factors-in) (a .long);
       alike = alike-refl (opened places limit scale);
     })
 

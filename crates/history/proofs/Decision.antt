@@ -38,6 +38,7 @@ use Rattle.calls.specs.Walk.{codeOf, codeAt, plainAnswer, conclude}
 use Rattle.history.specs.View.{seatAt, wordRow}
 use Rattle.history.specs.Related.{recordOf, kindOf, Busy, Related}
 use Rattle.history.proofs.Readings.{plain-change}
+use Rattle.words.specs.Rule.{ruleAt}
 use Rattle.history.proofs.Effects.{reads-in}
 use Rattle.history.proofs.Outcome.{Outcome, ends, Next}
 use Rattle.history.proofs.OwnSeat.{next-answered}
@@ -74,8 +75,8 @@ module _ {words : List ℕ} {t : Table} (sound : Sound t) (r : Related words t) 
   pub decided-leaf : (x parent : ℕ) (e : Entry) → OnRoute (r .tree) p x → r .heap x ≡ leafRow parent e → Decided t p (wordRow (leafRow parent e))
   decided-leaf x parent e o reads = go (samePoint (e .point) p) refl
     where
-      fits : LeafIn (2 * t .places) parent e
-      fits = leaf-tells (2 * t .places) parent e (rw reads at (reads-in words (2 * t .places) (r .heap) x (r .store .inside x (on-route-has (r .tree) p x o)) (r .reads)))
+      fits : LeafIn (ruleAt words) (2 * t .places) parent e
+      fits = leaf-tells (ruleAt words) (2 * t .places) parent e (rw reads at (reads-in words (2 * t .places) (r .heap) x (r .store .inside x (on-route-has (r .tree) p x o)) (r .reads)))
 
       go : (b : Bool) → samePoint (e .point) p ≡ b → Decided t p (wordRow (leafRow parent e))
       go true f =
@@ -111,7 +112,7 @@ module _ {words : List ℕ} {t : Table} {s i : ℕ} {c : Call} (sound : Sound t)
       (ends refl (subst (λ (u : Table). Next r s (answeredWords words s (given code (pointOf c) curve 0)) u)
       (sym (finished-quiet t s c (answer code (pointOf c) curve 0) says (plain-change code (pointOf c) curve one five)))
       (next-answered s l r (given code (pointOf c) curve 0) (omega (arith, removals-word r sound))
-      (answer-of (given code (pointOf c) curve 0) (record { code = and-i (le-leb 1 code least) (ap (λ (b : Bool). b || eqb code 11) (le-leb code 9 most)); point = busy .ranged; curve = fits; square = omega arith })))))
+      (answer-of (t .scale .rule) (given code (pointOf c) curve 0) (record { code = and-i (le-leb 1 code least) (ap (λ (b : Bool). b || eqb code 11) (le-leb code 9 most)); point = busy .ranged; curve = fits; square = omega arith })))))
 
 -- ---- the decision of each call
 

@@ -11,6 +11,7 @@ use lib.Dec.{eqb, leb}
 use lib.ListN.{length}
 use borrow.Author.Tests.{ne-eqb, eqb-true, lt-ltb, le-ltb, leb-true}
 use Rattle.points.specs.declared.scale.Scale.{Scale}
+use Rattle.points.specs.Rule.{ruleIn}
 use Rattle.points.specs.Scale.{factorsIn}
 use Rattle.points.proofs.Tests.{and-l}
 use Rattle.words.specs.Layout.{wordsFor, stations}
@@ -96,7 +97,7 @@ Rests (unfinished i c o) = ⊥
 pub quiet-state : {words : List ℕ} {t : Table} (s : ℕ) → s < stations → (x : Station) → t .stations s ≡ x → Rests x → Related words t → isUnfinished (stateAt words s) ≡ false
 unfolding seatAt
 quiet-state {words} s l idle q e r = let b : Idle (seatAt words s) = rw q at (r .seats s l) in ne-eqb (stateAt words s .word) 1 (λ z. let y = b .state in omega arith)
-quiet-state {words} s l (waiting a) q e r = let b : Waits (seatAt words s) a = rw q at (r .seats s l) in ne-eqb (stateAt words s .word) 1 (λ z. let y = b .state in omega arith)
+quiet-state {words} {t} s l (waiting a) q e r = let b : Waits (t .scale .rule) (seatAt words s) a = rw q at (r .seats s l) in ne-eqb (stateAt words s .word) 1 (λ z. let y = b .state in omega arith)
 quiet-state s l (unfinished i c o) q e r = absurd e
 
 -- ---- the two obligations of a step
@@ -163,29 +164,31 @@ module _ {words : List ℕ} {t : Table} (s : ℕ) (h : Sound t) (k : Settled t) 
 
 -- ---- the theorem
 
--- an accepted opening has its four questions answered
+-- an accepted opening has its five questions answered
 pub record Accepted (words : List ℕ) (places limit : ℕ) (scale : Scale) : Type 0 where
   pub places-in : placesIn places ≡ true
   pub limit-in : limitIn limit ≡ true
+  pub rule-in : ruleIn (scale .rule) ≡ true
   pub factors-in : factorsIn scale ≡ true
   pub long : wordsFor places ≤ length words
   pub opens : openOf words places limit scale ≡ record { number = 0; words = openedWords words places limit scale }
 
 pub accepted : (words : List ℕ) (places limit : ℕ) (scale : Scale) → openOf words places limit scale .number ≡ 0 → Accepted words places limit scale
 unfolding openOf
-accepted words places limit scale e = go (placesIn places) refl (limitIn limit) refl (factorsIn scale) refl (leb (wordsFor places) (length words)) refl
+accepted words places limit scale e = go (placesIn places) refl (limitIn limit) refl (ruleIn (scale .rule)) refl (factorsIn scale) refl (leb (wordsFor places) (length words)) refl
   where
-    go : (a : Bool) → placesIn places ≡ a → (b : Bool) → limitIn limit ≡ b → (f : Bool) → factorsIn scale ≡ f → (c : Bool) → leb (wordsFor places) (length words) ≡ c
+    go : (a : Bool) → placesIn places ≡ a → (b : Bool) → limitIn limit ≡ b → (r : Bool) → ruleIn (scale .rule) ≡ r → (f : Bool) → factorsIn scale ≡ f → (c : Bool) → leb (wordsFor places) (length words) ≡ c
         → Accepted words places limit scale
-    go true p true m true k true l = record { places-in = p; limit-in = m; factors-in = k; long = leb-true (wordsFor places) (length words) l; opens = rw (p, m, k, l) }
-    go false p b m f k c l = let z : _≡_ {A = ℕ} 1 0 = rw p at e in absurd (omega arith)
-    go true p false m f k c l = let z : _≡_ {A = ℕ} 2 0 = rw (p, m) at e in absurd (omega arith)
-    go true p true m false k c l = let z : _≡_ {A = ℕ} 17 0 = rw (p, m, k) at e in absurd (omega arith)
-    go true p true m true k false l = let z : _≡_ {A = ℕ} 3 0 = rw (p, m, k, l) at e in absurd (omega arith)
+    go true p true m true u true k true l = record { places-in = p; limit-in = m; rule-in = u; factors-in = k; long = leb-true (wordsFor places) (length words) l; opens = rw (p, m, u, k, l) }
+    go false p b m r u f k c l = let z : _≡_ {A = ℕ} 1 0 = rw p at e in absurd (omega arith)
+    go true p false m r u f k c l = let z : _≡_ {A = ℕ} 2 0 = rw (p, m) at e in absurd (omega arith)
+    go true p true m false u f k c l = let z : _≡_ {A = ℕ} 20 0 = rw (p, m, u) at e in absurd (omega arith)
+    go true p true m true u false k c l = let z : _≡_ {A = ℕ} 17 0 = rw (p, m, u, k) at e in absurd (omega arith)
+    go true p true m true u true k false l = let z : _≡_ {A = ℕ} 3 0 = rw (p, m, u, k, l) at e in absurd (omega arith)
 
 pub simulation : (words : List ℕ) (places limit : ℕ) (scale : Scale) → Accepted words places limit scale → Simulation wordIndex Related (openedWords words places limit scale) places limit scale
 simulation words places limit scale w = record {
-  begins = related-open words places limit scale (w .places-in) (w .limit-in) (w .factors-in) (w .long);
+  begins = related-open words places limit scale (w .places-in) (w .limit-in) (w .rule-in) (w .factors-in) (w .long);
   agrees = related-agrees;
   settles = related-settles;
   submits = λ s kind p c h k r. related-submits s kind p c h r;

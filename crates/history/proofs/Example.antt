@@ -2,14 +2,16 @@
 -- (`frame-runner`) and of case N (`case-n`, Rules 13), for each call its submission, run and taking.
 use Prim.Native.Nat.{ℕ, _≤_}
 use mathlib.Core.Path.{_≡_, refl, ap, _∙_}
-use mathlib.Core.Bool.{Bool, true, false}
+use mathlib.Core.Bool.{Bool, true, false, not, _||_}
 use mathlib.Core.List.{List}
 use mathlib.Core.Option.{some}
 use native.Mathlib.Omega.{arith}
 use lib.ListN.{length}
 use borrow.Author.Tests.{le-leb}
+use lib.Dec.{eqb}
 use Rattle.points.specs.Scale.{plainScale}
-use Rattle.points.proofs.ScaleLaws.{factor-ranges}
+use Rattle.points.specs.Number.{inRangeBy}
+use Rattle.points.proofs.ScaleLaws.{factor-ranges, factor-most}
 use Rattle.points.specs.declared.point.Point.{Point}
 use Rattle.table.specs.Call.{Call, add, remove, nearest, callOf, Answer, answer, isChange}
 use Rattle.table.specs.Table.{Station, idle, unfinished, Table, opened, usedUp, answerOf, changed, changedIf}
@@ -26,11 +28,11 @@ use Rattle.words.specs.Layout.{wordsFor}
 use Rattle.stations.proofs.OpeningLaws.{places-of, limit-of}
 use Rattle.history.proofs.Called.{RunGives, CallGives, calledWords, standing-open, Called, called, Begun, begun, set-gives}
 
--- open 2 places, limit 10, factors of one
+-- open 2 places, limit 10, rule 1, factors of one
 opens : (words : List ℕ) → wordsFor 2 ≤ length words → openOf words 2 10 plainScale .number ≡ 0
 unfolding openOf
 opens words l =
-    rw (places-of 2 (omega arith) (omega arith), limit-of 10 (omega arith) (omega arith), factor-ranges plainScale, le-leb (wordsFor 2) (length words) l)
+    rw (places-of 2 (omega arith) (omega arith), limit-of 10 (omega arith) (omega arith), factor-ranges plainScale, factor-most 1, le-leb (wordsFor 2) (length words) l)
 
 -- the table after a call of station s
 abbrev effect : Table → ℕ → ℕ → Point → ℕ → Table
@@ -100,14 +102,31 @@ remove-effect {t} {u} s x q = rw (remove-answer s x q) (go (isChange (answerOf u
     go false = q
     go true = record { held = rw (q .held); counters = rw (q .counters); limit = q .limit }
 
+-- both points are in range whatever the rule
+ranged-m : (rule : ℕ) → inRangeBy rule m ≡ true
+unfolding run
+ranged-m rule = go (eqb rule 2)
+  where
+    go : (b : Bool) → (not b || true) ≡ true
+    go true = refl
+    go false = refl
+
+ranged-p : (rule : ℕ) → inRangeBy rule p ≡ true
+unfolding run
+ranged-p rule = go (eqb rule 2)
+  where
+    go : (b : Bool) → (not b || true) ≡ true
+    go true = refl
+    go false = refl
+
 -- an idle station may submit the removal of one of the two points
 submits-m : (t : Table) → t .stations 0 ≡ idle → submit t 0 2 m 0 .number ≡ 0
 unfolding run
-submits-m t e = rw e
+submits-m t e = rw (e, ranged-m (t .scale .rule))
 
 submits-p : (t : Table) → t .stations 0 ≡ idle → submit t 0 2 p 0 .number ≡ 0
 unfolding run
-submits-p t e = rw e
+submits-p t e = rw (e, ranged-p (t .scale .rule))
 
 module _ (words : List ℕ) (l : wordsFor 2 ≤ length words) where
   -- the tables with m, and with m and p held

@@ -9,8 +9,9 @@ use lib.Dec.{eqb}
 use Rattle.points.specs.declared.point.Point.{Point}
 use Rattle.points.specs.declared.scale.Scale.{Scale}
 use Rattle.points.specs.Scale.{factorsIn}
-use Rattle.points.specs.Point.{inRange}
-use Rattle.points.specs.Square.{squareOf}
+use Rattle.points.specs.Number.{inRangeBy}
+use Prim.Native.Nat.{ℕ, _≤_}
+use Rattle.points.specs.Square.{squareOf, mostSquare}
 use Rattle.points.specs.Choice.{sameGrade, chosenOver}
 use Rattle.points.proofs.SquareLaws.{square-le}
 use Rattle.stations.specs.declared.call.Best.{Best as WordBest}
@@ -29,7 +30,7 @@ use Rattle.calls.specs.Answer.{answer}
 use Rattle.calls.specs.Search.{foundAnswer}
 use Rattle.history.specs.Index.{answerOf}
 use Rattle.history.specs.View.{bestOf}
-use Rattle.history.specs.Related.{recordOf}
+use Rattle.history.specs.Related.{EntriesIn, recordOf}
 use Rattle.words.proofs.RangeLaws.{curve-tells}
 use Rattle.stations.proofs.SoundLaws.{answer-of}
 
@@ -78,18 +79,21 @@ module _ (aim : Aim) (best : WordBest) (entries : List Entry) (near : Nearest (c
           rw (nearest-is (aim .scale) (aim .point) (map recordOf entries) (recordThere best) o (some-there (aim .scale) (aim .point) entries best v), e, foundAnswer, nearestAnswer)
 
   -- in range, where the factors, the target, the best's point and the records are
-  pub found-sound : factorsIn (aim .scale) ≡ true → inRange (aim .point) ≡ true → inRange (best .point) ≡ true
-      → ((e : Entry) → List·Memᴰ e entries → (inRange (e .point) ≡ true) × (curveIn (e .curve) ≡ true)) → answerSound (foundAnswer aim best) ≡ true
+  pub found-sound : (rule : ℕ) → aim .scale .rule ≡ rule → factorsIn (aim .scale) ≡ true → inRangeBy rule (aim .point) ≡ true → inRangeBy rule (best .point) ≡ true
+      → EntriesIn rule entries → answerSound rule (foundAnswer aim best) ≡ true
   unfolding foundAnswer
-  found-sound c t b ranged = go (eqb (best .curve) 0) refl
+  found-sound rule k c t b ranged = go (eqb (best .curve) 0) refl
     where
-      go : (x : Bool) → eqb (best .curve) 0 ≡ x → answerSound (foundAnswer aim best) ≡ true
+      go : (x : Bool) → eqb (best .curve) 0 ≡ x → answerSound rule (foundAnswer aim best) ≡ true
       go true e =
-          rw (e, foundAnswer) (answer-of (answer 9 (aim .point) 0 0)
+          rw (e, foundAnswer) (answer-of rule (answer 9 (aim .point) 0 0)
           (record { code = refl; point = t; curve = omega arith; square = omega arith }))
       go false e =
           let n : Nearest (choiceOf (aim .scale) (aim .point)) (λ e. List·Memᴰ e entries) (some (bestThere best)) = rw (e, bestOf) at near in
           let f : FoundAs (choiceOf (aim .scale) (aim .point)) (λ e. List·Memᴰ e entries) (bestThere best) = n .held (bestThere best) refl in
+          let point = subst (λ n. inRangeBy n (aim .point) ≡ true) (sym k) t in
+          let there = subst (λ n. inRangeBy n (best .point) ≡ true) (sym k) b in
+          let most = subst (λ n. squareOf (aim .scale) (aim .point) (best .point) ≤ mostSquare n) k (square-le (aim .scale) (aim .point) (best .point) c point there) in
           let v = curve-tells (f .entry .curve) (ranged (f .entry) (f .held) .1) in
-          rw (e, foundAnswer) (answer-of (answer 8 (best .point) (best .curve) (squareOf (aim .scale) (aim .point) (best .point)))
-          (record { code = refl; point = b; curve = omega (arith, f .curve, v .1); square = square-le (aim .scale) (aim .point) (best .point) c t b }))
+          rw (e, foundAnswer) (answer-of rule (answer 8 (best .point) (best .curve) (squareOf (aim .scale) (aim .point) (best .point)))
+          (record { code = refl; point = b; curve = omega (arith, f .curve, v .1); square = most }))

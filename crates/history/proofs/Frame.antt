@@ -5,6 +5,7 @@ use mathlib.Core.List.{List}
 use native.Mathlib.Omega.{arith}
 use Rattle.points.specs.declared.point.Point.{Point}
 use Rattle.words.specs.Agree.{inCommon, inStation, inRow, OnlyIn}
+use Rattle.words.specs.Rule.{ruleAt}
 use Rattle.words.proofs.AgreeLaws.{row-common, station-common}
 use Rattle.stations.specs.Track.{trackAt}
 use Rattle.stations.specs.Target.{targetAt}
@@ -33,12 +34,12 @@ seat-same v w s p g r = λ i. record { track = p i; target = g i; state = r .sta
 pub slot-fits : (p : Point) → slotOf p < 128
 slot-fits p = omega (arith, slot-below p)
 
--- a write to the common record leaves the stations' records and the rows
-pub common-stations : {v w : List ℕ} → OnlyIn v w inCommon → (s : ℕ) → StationReads v w s
-common-stations g s = reads-unseen inCommon (inStation s) g (station-common s)
+-- a write to the common record that leaves the rule leaves the stations' records and the rows
+pub common-stations : {v w : List ℕ} → ruleAt v ≡ ruleAt w → OnlyIn v w inCommon → (s : ℕ) → StationReads v w s
+common-stations e g s = reads-unseen inCommon (inStation s) e g (station-common s)
 
-pub common-rows : {v w : List ℕ} → OnlyIn v w inCommon → (rows : ℕ) → SameRows w v rows
-common-rows g rows = record {
-  row = λ r l. reads-unseen inCommon (inRow r) g (row-common r) .row rows;
-  marks = λ x side p. reads-unseen inCommon (inRow x) g (row-common x) .grades side (slotOf p) (slot-fits p);
+pub common-rows : {v w : List ℕ} → ruleAt v ≡ ruleAt w → OnlyIn v w inCommon → (rows : ℕ) → SameRows w v rows
+common-rows e g rows = record {
+  row = λ r l. reads-unseen inCommon (inRow r) e g (row-common r) .row rows;
+  marks = λ x side p. reads-unseen inCommon (inRow x) e g (row-common x) .grades side (slotOf p) (slot-fits p);
 }

@@ -9,6 +9,7 @@ use lib.ListN.{length}
 use Rattle.points.specs.declared.scale.Scale.{Scale}
 use Rattle.points.specs.declared.point.Point.{Point}
 use Rattle.points.specs.Cut.{cutOf, goesLeft}
+use Rattle.words.specs.Rule.{ruleAt}
 use Rattle.points.specs.Word.{NONE}
 use Rattle.words.specs.Layout.{Fits}
 use Rattle.stations.specs.Common.{openedIn, Opened}
@@ -85,7 +86,7 @@ module _ (words : List ℕ) {places : ℕ} {h : Heap} {a b : ℕ} {l : Leaf} (w 
         marks-kept _ (l .parent) _ b (λ e. absurd (w .apart .b≢parent e)) side p ∙ marks-kept _ (l .row) _ b (λ e. absurd (w .apart .b≢row e)) side p
 
     abbrev own : Bool
-    own = goesLeft (cutOf (new .point) (l .entry .point)) (new .point)
+    own = goesLeft (cutOf (ruleAt words) (new .point) (l .entry .point)) (new .point)
 
     pub mark-new : marksIn written b own (new .point) ≡ true
     unfolding putCut newSide

@@ -1,9 +1,9 @@
 -- The rows of an insert, over the words: what it reads is what the heap says (`room-beside`, `room-alone`), that is sound, and what it writes reads
--- as the heap with a leaf and a cut more (`beside-writes`, `alone-writes`).
+-- as the heap with a leaf and a cut more (`beside-writes`, `alone-writes`). The cut is that of the two points and parts them (`new-cut-parts`).
 use Prim.Native.Nat.{ℕ, _+_, _-_, _*_, _≤_, _<_}
 use mathlib.Core.Path.{_≡_, refl, sym, _∙_, ap, subst}
 use mathlib.Core.Logic.{_≢_, _⊎_, inl, inr}
-use mathlib.Core.Bool.{Bool, true, false, _||_}
+use mathlib.Core.Bool.{Bool, true, false, not, _||_}
 use mathlib.Core.List.{List}
 use mathlib.Core.Option.{none, some}
 use native.Mathlib.Omega.{arith}
@@ -13,10 +13,11 @@ use Rattle.points.specs.declared.scale.Scale.{Scale}
 use Rattle.stations.specs.Counts.{countsAt}
 use Rattle.points.specs.declared.point.Point.{Point}
 use Rattle.points.specs.declared.cut.Cut.{Cut}
-use Rattle.points.specs.Point.{inRange}
+use Rattle.points.specs.Number.{inRangeBy}
+use Rattle.words.specs.Rule.{ruleAt}
 use Rattle.points.specs.Cut.{cutOf, goesLeft}
 use Rattle.points.specs.Word.{NONE, cutInRange}
-use Rattle.points.proofs.CutLaws.{cut-in-range}
+use Rattle.points.proofs.CutLaws.{cut-parts, cut-in-range}
 use Rattle.rows.specs.declared.row.Row.the-variants.{Bad}
 use Rattle.words.specs.Range.{curveIn}
 use Rattle.rows.specs.Row.{rowAt, putRow, inRows}
@@ -96,6 +97,7 @@ beside-finds {places} {h} {tree} {queue} l store site has leaf =
 -- what it reads, as the heap says
 abbrev pub besideSite : List ℕ → ℕ → Heap → ℕ → ℕ → Leaf → Site
 besideSite words rows h a b l = record {
+  rule = ruleAt words;
   first = a;
   front = wordRow (h a);
   second = b;
@@ -107,9 +109,9 @@ besideSite words rows h a b l = record {
 }
 
 -- the new cut, in the words
-cut-word : (site : Site) (point old : Point) → leafPoint (site .leaf) ≡ old → cutIn site point ≡ wordRow (newCut (site .over) point old (site .first) (site .at))
+cut-word : (site : Site) (point old : Point) → leafPoint (site .leaf) ≡ old → cutIn site point ≡ wordRow (newCut (cutOf (site .rule) point old) (site .over) point (site .first) (site .at))
 unfolding cutIn newSide
-cut-word site point old e = rw e (go (cutOf point old) (goesLeft (cutOf point old) point))
+cut-word site point old e = rw e (go (cutOf (site .rule) point old) (goesLeft (cutOf (site .rule) point old) point))
   where
     go : (k : Cut) (side : Bool)
         → cutWith site k side ≡ wordRow (pickRow side (cutRow (site .over) k (site .first) (site .at)) (cutRow (site .over) k (site .at) (site .first)))
@@ -137,21 +139,25 @@ module _ (words : List ℕ) {places : ℕ} {h : Heap} {a b : ℕ} {l : Leaf} (w 
       linked-beside
 
   -- the leaf as it is read is in range
-  leaf-ranged : inRows (2 * places) (wordRow (leafRow (l .parent) (l .entry))) ≡ true
+  leaf-ranged : inRows (ruleAt words) (2 * places) (wordRow (leafRow (l .parent) (l .entry))) ≡ true
   leaf-ranged = rw (w .reads) at (reads-in words (2 * places) h (l .row) (w .leaf-row) reads)
 
-  -- and so is the new cut
-  new-cut-in : (new : Entry) → inRange (new .point) ≡ true → inRows (2 * places) (wordRow (newCut (l .parent) (new .point) (l .entry .point) a (l .row))) ≡ true
+  old : LeafIn (ruleAt words) (2 * places) (l .parent) (l .entry)
+  old = leaf-tells (ruleAt words) (2 * places) (l .parent) (l .entry) leaf-ranged
+
+  -- so the new cut parts its point from any other that is in range
+  pub new-cut-parts : (p : Point) → inRangeBy (ruleAt words) p ≡ true → ¬ (p ≡ l .entry .point) → goesLeft (cutOf (ruleAt words) p (l .entry .point)) (l .entry .point) ≡ not (goesLeft (cutOf (ruleAt words) p (l .entry .point)) p)
+  new-cut-parts p i = cut-parts (ruleAt words) p (l .entry .point) i (old .point-in)
+
+  -- and can be stored
+  new-cut-in : (new : Entry) → inRangeBy (ruleAt words) (new .point) ≡ true → inRows (ruleAt words) (2 * places) (wordRow (newCut (cutOf (ruleAt words) (new .point) (l .entry .point)) (l .parent) (new .point) a (l .row))) ≡ true
   new-cut-in new i = go (goesLeft k (new .point))
     where
       k : Cut
-      k = cutOf (new .point) (l .entry .point)
+      k = cutOf (ruleAt words) (new .point) (l .entry .point)
 
-      old : LeafIn (2 * places) (l .parent) (l .entry)
-      old = leaf-tells (2 * places) (l .parent) (l .entry) leaf-ranged
-
-      between : cutInRange k ≡ true
-      between = cut-in-range (new .point) (l .entry .point) i (old .point-in)
+      between : cutInRange (ruleAt words) k ≡ true
+      between = cut-in-range (ruleAt words) (new .point) (l .entry .point) i (old .point-in)
 
       first-in : ltb a (2 * places) ≡ true
       first-in = lt-ltb a (2 * places) (w .first-row)
@@ -159,26 +165,27 @@ module _ (words : List ℕ) {places : ℕ} {h : Heap} {a b : ℕ} {l : Leaf} (w 
       row-in : ltb (l .row) (2 * places) ≡ true
       row-in = lt-ltb (l .row) (2 * places) (w .leaf-row)
 
-      go : (side : Bool) → inRows (2 * places) (wordRow (pickRow side (cutRow (l .parent) k a (l .row)) (cutRow (l .parent) k (l .row) a))) ≡ true
-      go true = cut-of (2 * places) (l .parent) k a (l .row) (record { link-in = old .link-in; cut-in = between; left-in = first-in; right-in = row-in })
-      go false = cut-of (2 * places) (l .parent) k (l .row) a (record { link-in = old .link-in; cut-in = between; left-in = row-in; right-in = first-in })
+      go : (side : Bool) → inRows (ruleAt words) (2 * places) (wordRow (pickRow side (cutRow (l .parent) k a (l .row)) (cutRow (l .parent) k (l .row) a))) ≡ true
+      go true = cut-of (ruleAt words) (2 * places) (l .parent) k a (l .row) (record { link-in = old .link-in; cut-in = between; left-in = first-in; right-in = row-in })
+      go false = cut-of (ruleAt words) (2 * places) (l .parent) k (l .row) a (record { link-in = old .link-in; cut-in = between; left-in = row-in; right-in = first-in })
 
   -- the rows written over a slice with the same rows
-  pub beside-writes : {base : List ℕ} {limit : ℕ} {scale : Scale} (new : Entry) → inRange (new .point) ≡ true → curveIn (new .curve) ≡ true → Holding base base places limit scale h
-      → (h′ : Heap) × Holding base (insertRows base (besideSite words (2 * places) h a b l) (new .added) (new .point) (new .curve)) places limit scale h′ × InsertBeside h h′ a b new l
+  pub beside-writes : {base : List ℕ} {limit : ℕ} {scale : Scale} (new : Entry) → ruleAt words ≡ scale .rule → inRangeBy (ruleAt words) (new .point) ≡ true → curveIn (new .curve) ≡ true → Holding base base places limit scale h
+      → (h′ : Heap) × Holding base (insertRows base (besideSite words (2 * places) h a b l) (new .added) (new .point) (new .curve)) places limit scale h′
+      × InsertBeside h h′ (cutOf (ruleAt words) (new .point) (l .entry .point)) a b new l
   unfolding insertRows newLeaf putCut cutIn
-  beside-writes {base} {limit} {scale} new i c v = elim (w .above) [
-    | inl e ↦ (
+  beside-writes {base} {limit} {scale} new e i c v = elim (w .above) [
+    | inl z ↦ (
       h₃,
-      put-nothing v₃ (l .parent) (replaced (l .row) b (rowAt words (2 * places) (l .parent))) e,
-      insert-writes (w .apart) (heap-wrote h a (leafRow b new)) (heap-wrote h₁ b cut) (heap-wrote h₂ (l .row) (leafRow b (l .entry))) (record { nothing = λ d j. refl; written = λ n. absurd (n e) }),
+      put-nothing v₃ (l .parent) (replaced (l .row) b (rowAt words (2 * places) (l .parent))) z,
+      insert-writes (w .apart) (heap-wrote h a (leafRow b new)) (heap-wrote h₁ b cut) (heap-wrote h₂ (l .row) (leafRow b (l .entry))) (record { nothing = λ d j. refl; written = λ n. absurd (n z) }),
     )
     | inr u ↦
         let row : Row = replaceChild (l .row) b (h (l .parent)) in
         let same : replaced (l .row) b (rowAt words (2 * places) (l .parent)) ≡ wordRow row =
         rw (reads (l .parent) (u .4), u .5) (child-words (l .row) b (u .1) (u .0) (u .2) (u .3)) in
-        let ranged : inRows (2 * places) (wordRow row) ≡ true =
-        rw (u .5) (child-in (2 * places) (l .row) b (u .1) (u .0) (u .2) (u .3) (w .second-row) (rw (u .5) at (reads-in words (2 * places) h (l .parent) (u .4) reads))) in (
+        let ranged : inRows (scale .rule) (2 * places) (wordRow row) ≡ true =
+        under row (rw (u .5) (child-in (ruleAt words) (2 * places) (l .row) b (u .1) (u .0) (u .2) (u .3) (w .second-row) (rw (u .5) at (reads-in words (2 * places) h (l .parent) (u .4) reads)))) in (
           heapPut h₃ (l .parent) row,
           put-row v₃ (l .parent) (replaced (l .row) b (rowAt words (2 * places) (l .parent))) row same (u .4) ranged,
           insert-writes (w .apart) (heap-wrote h a (leafRow b new)) (heap-wrote h₁ b cut) (heap-wrote h₂ (l .row) (leafRow b (l .entry)))
@@ -186,8 +193,12 @@ module _ (words : List ℕ) {places : ℕ} {h : Heap} {a b : ℕ} {l : Leaf} (w 
         )
   ]
     where
+      -- what is in range by the rule of the words read is so by that of the words written
+      under : (row : Row) → inRows (ruleAt words) (2 * places) (wordRow row) ≡ true → inRows (scale .rule) (2 * places) (wordRow row) ≡ true
+      under row f = rw e at f
+
       cut : Row
-      cut = newCut (l .parent) (new .point) (l .entry .point) a (l .row)
+      cut = newCut (cutOf (ruleAt words) (new .point) (l .entry .point)) (l .parent) (new .point) a (l .row)
 
       h₁ : Heap
       h₁ = heapPut h a (leafRow b new)
@@ -209,10 +220,10 @@ module _ (words : List ℕ) {places : ℕ} {h : Heap} {a b : ℕ} {l : Leaf} (w 
 
       v₁ : Holding base w₁ places limit scale h₁
       v₁ = put-row v a (wordRow (leafRow b new)) (leafRow b new) refl (w .first-row)
-          (leaf-of (2 * places) b new (record { link-in = link-row (2 * places) b (w .second-row); point-in = i; curve-in = c }))
+          (under (leafRow b new) (leaf-of (ruleAt words) (2 * places) b new (record { link-in = link-row (2 * places) b (w .second-row); point-in = i; curve-in = c })))
 
       cut-put : Holding base (putRow w₁ b (cutIn site (new .point))) places limit scale h₂
-      cut-put = put-row v₁ b (cutIn site (new .point)) cut (cut-word site (new .point) (l .entry .point) refl) (w .second-row) (new-cut-in new i)
+      cut-put = put-row v₁ b (cutIn site (new .point)) cut (cut-word site (new .point) (l .entry .point) refl) (w .second-row) (under cut (new-cut-in new i))
 
       cut-reads : rowAt (putRow w₁ b (cutIn site (new .point))) (2 * places) b ≡ cutIn site (new .point)
       cut-reads = cut-put .reads b (w .second-row) ∙ ap wordRow (heap-wrote h₁ b cut .here) ∙ sym (cut-word site (new .point) (l .entry .point) refl)
@@ -222,7 +233,7 @@ module _ (words : List ℕ) {places : ℕ} {h : Heap} {a b : ℕ} {l : Leaf} (w 
 
       v₃ : Holding base (putRow w₂ (l .row) (wordRow (leafRow b (l .entry)))) places limit scale h₃
       v₃ = put-row v₂ (l .row) (wordRow (leafRow b (l .entry))) (leafRow b (l .entry)) refl (w .leaf-row)
-          (leaf-in (2 * places) b (l .parent) (l .entry) (link-row (2 * places) b (w .second-row)) leaf-ranged)
+          (under (leafRow b (l .entry)) (leaf-in (ruleAt words) (2 * places) b (l .parent) (l .entry) (link-row (2 * places) b (w .second-row)) leaf-ranged))
 
 -- ---- into the empty tree
 
@@ -236,31 +247,31 @@ alone-finds {places} {h} {queue} store site =
     (link-head store (omega arith), λ e. spare .second-there (sym next-is ∙ e))
 
 -- what it reads, as the heap says: one free row, and no leaf
-abbrev pub aloneSite : Heap → ℕ → Site
-aloneSite h a = record { first = a; front = wordRow (h a); second = NONE; behind = Bad; at = NONE; leaf = Bad; over = NONE; cut = Bad }
+abbrev pub aloneSite : ℕ → Heap → ℕ → Site
+aloneSite rule h a = record { rule = rule; first = a; front = wordRow (h a); second = NONE; behind = Bad; at = NONE; leaf = Bad; over = NONE; cut = Bad }
 
 module _ (words : List ℕ) (places : ℕ) (h : Heap) (a : ℕ) (first-row : a < 2 * places) (reads : Reads words (2 * places) h) (fits : 2 * places ≤ NONE) where
-  pub room-alone : countsAt words .head ≡ a → siteAt words (2 * places) NONE ≡ aloneSite h a
+  pub room-alone : countsAt words .head ≡ a → siteAt words (2 * places) NONE ≡ aloneSite (ruleAt words) h a
   unfolding siteAt
   room-alone e = rw (e, reads a first-row, none-word words (2 * places) fits, none-word words (2 * places) fits)
 
-  pub sound-alone : nextOf (h a) ≢ NONE → siteSound (aloneSite h a) ≡ true
+  pub sound-alone : nextOf (h a) ≢ NONE → siteSound (aloneSite (ruleAt words) h a) ≡ true
   unfolding siteSound
   sound-alone n = rw (next-word (h a), ne-eqb (nextOf (h a)) NONE n)
 
   -- no cut is written
-  cut-nothing : {base w : List ℕ} {limit : ℕ} {scale : Scale} {h′ : Heap} → Holding base w places limit scale h′ → (p : Point) → Holding base (putCut w (aloneSite h a) p) places limit scale h′
+  cut-nothing : {base w : List ℕ} {limit : ℕ} {scale : Scale} {h′ : Heap} → Holding base w places limit scale h′ → (p : Point) → Holding base (putCut w (aloneSite (ruleAt words) h a) p) places limit scale h′
   unfolding putCut
   cut-nothing {base} {w} v p =
-      let same : putCut w (aloneSite h a) p ≡ w = begin-outside (putRow w NONE (cutIn (aloneSite h a) p)) NONE _ _ _ (omega arith) ∙ put-none w (cutIn (aloneSite h a) p) in
+      let same : putCut w (aloneSite (ruleAt words) h a) p ≡ w = begin-outside (putRow w NONE (cutIn (aloneSite (ruleAt words) h a) p)) NONE _ _ _ (omega arith) ∙ put-none w (cutIn (aloneSite (ruleAt words) h a) p) in
       rw same v
 
-  pub alone-writes : {base : List ℕ} {limit : ℕ} {scale : Scale} (new : Entry) → inRange (new .point) ≡ true → curveIn (new .curve) ≡ true → Holding base base places limit scale h
-      → (h′ : Heap) × Holding base (insertRows base (aloneSite h a) (new .added) (new .point) (new .curve)) places limit scale h′ × InsertAlone h h′ a new
+  pub alone-writes : {base : List ℕ} {limit : ℕ} {scale : Scale} (new : Entry) → inRangeBy (scale .rule) (new .point) ≡ true → curveIn (new .curve) ≡ true → Holding base base places limit scale h
+      → (h′ : Heap) × Holding base (insertRows base (aloneSite (ruleAt words) h a) (new .added) (new .point) (new .curve)) places limit scale h′ × InsertAlone h h′ a new
   unfolding insertRows newLeaf
   alone-writes {base} {limit} {scale} new i c v =
       let v₁ = put-row v a (wordRow (leafRow NONE new)) (leafRow NONE new) refl first-row
-      (leaf-of (2 * places) NONE new (record { link-in = link-none (2 * places); point-in = i; curve-in = c })) in (
+      (leaf-of (scale .rule) (2 * places) NONE new (record { link-in = link-none (2 * places); point-in = i; curve-in = c })) in (
         heapPut h a (leafRow NONE new),
         put-nothing (put-nothing (cut-nothing v₁ (new .point)) NONE Bad refl) NONE Bad refl,
         insert-write (heap-wrote h a (leafRow NONE new)),

@@ -17,7 +17,7 @@ use Rattle.history.proofs.Demand3.{accepted, demand-3}
 pub open-beyond : (words : List ℕ) (places limit : ℕ) (scale : Scale) → openOf words places limit scale .number ≡ 0 → Beyond (openOf words places limit scale .words) words (wordsFor places)
 open-beyond words places limit scale e =
     let a = accepted words places limit scale e in
-    rw (a .opens) (opened-beyond words places limit scale (a .places-in) (a .limit-in) (a .factors-in) (a .long))
+    rw (a .opens) (opened-beyond words places limit scale (a .places-in) (a .limit-in) (a .rule-in) (a .factors-in) (a .long))
 
 -- Rules 7.4: what an accepted opening of the words after a history leaves is linear from no record held.
 pub open-again : (words : List ℕ) (places limit : ℕ) (scale : Scale) (evs : List Event) (places′ limit′ : ℕ) (scale′ : Scale)

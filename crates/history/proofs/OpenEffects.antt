@@ -7,6 +7,7 @@ use native.Mathlib.Omega.{arith}
 use lib.Dec.{eqb}
 use lib.ListN.{length}
 use Rattle.points.specs.declared.scale.Scale.{Scale}
+use Rattle.points.specs.Rule.{ruleIn}
 use Rattle.points.specs.Scale.{factorsIn}
 use Rattle.points.specs.Word.{NONE}
 use Rattle.words.specs.Layout.{stations, records, mostPlaces, wordsFor, Fits}
@@ -51,7 +52,7 @@ tracks-cleared (suc n) w h long =
     let here = there-of (tracksCleared n w) n (record { station = omega arith; long = omega (arith, m .only .lengths) }) in
     moved-next (moved-at (λ target track. nowhere) (tracksCleared n w) n here) m
 
-module _ (words : List ℕ) (places limit : ℕ) (scale : Scale) (p : placesIn places ≡ true) (m : limitIn limit ≡ true) (f : factorsIn scale ≡ true) (l : wordsFor places ≤ length words) where
+module _ (words : List ℕ) (places limit : ℕ) (scale : Scale) (p : placesIn places ≡ true) (m : limitIn limit ≡ true) (k : ruleIn (scale .rule) ≡ true) (f : factorsIn scale ≡ true) (l : wordsFor places ≤ length words) where
   -- the words after each of the parts of opening
   abbrev begun : List ℕ
   begun = putOpening (recordsCleared words) places limit scale
@@ -97,7 +98,7 @@ module _ (words : List ℕ) (places limit : ℕ) (scale : Scale) (p : placesIn p
   pub open-written : OpenedAs (openedWords words places limit scale) places limit scale
   unfolding openedWords headWords newCounts
   open-written = record {
-    opened = openedIn-agree (rows-written .common) ∙ tracks-written .opened ∙ opened-putCounts begun (newCounts places) ∙ opened-begun (recordsCleared words) places limit scale p m f (omega (arith, length-cleared words));
+    opened = openedIn-agree (rows-written .common) ∙ tracks-written .opened ∙ opened-putCounts begun (newCounts places) ∙ opened-begun (recordsCleared words) places limit scale p m k f (omega (arith, length-cleared words));
     counts = counts-agree (rows-written .common) ∙ tracks-written .counts ∙ counts-back begun (newCounts places) (omega (arith, length-begun));
     counters = λ s.
         counter-agree (rows-written .common) s ∙ tracks-written .counters s ∙ counter-putCounts begun (newCounts places) s ∙ counter-putOpening (recordsCleared words) places limit scale s

@@ -13,6 +13,7 @@ use Rattle.rows.specs.declared.row.Row.{Row}
 use Rattle.rows.specs.declared.row.Row.the-variants.{Spare}
 use Rattle.words.specs.Layout.{atRow, Fits}
 use Rattle.words.specs.Agree.{inCommon, inStation, inRow, AgreeIn, Beyond}
+use Rattle.words.specs.Rule.{ruleAt}
 use Rattle.words.specs.Range.{linkIn}
 use Rattle.rows.specs.Row.{rowAt, putRow, inRows}
 use Rattle.words.proofs.AgreeLaws.{agree-none, agree-trans, elsewhere, common-row, station-row}
@@ -33,8 +34,8 @@ row-same rows r l = go (ℕ-discrete (r + 1) rows)
     go (yes e) = rw (le-ltb (r + 1) rows (omega arith), eq-eqb (r + 1) rows e)
     go (no d) = rw (lt-ltb (r + 1) rows (omega arith), ne-eqb (r + 1) rows d)
 
-row-in : (rows r : ℕ) → r < rows → inRows rows (newRow rows r) ≡ true
-row-in rows r l = in-rows-spare rows (cond (eqb (r + 1) rows) NONE (r + 1)) 0 ∙ go (ℕ-discrete (r + 1) rows)
+row-in : (rule rows r : ℕ) → r < rows → inRows rule rows (newRow rows r) ≡ true
+row-in rule rows r l = in-rows-spare rule rows (cond (eqb (r + 1) rows) NONE (r + 1)) 0 ∙ go (ℕ-discrete (r + 1) rows)
   where
     go : Dec (r + 1 ≡ rows) → linkIn rows (cond (eqb (r + 1) rows) NONE (r + 1)) ≡ true
     go (yes e) = rw (eq-eqb (r + 1) rows e) (link-none rows)
@@ -73,5 +74,5 @@ rows-spare rows (suc n) w m h = next (rows-spare rows n w m (omega arith))
 
         go : (r : ℕ) → r < suc n → Dec (r ≡ n) → rowAt (putRow v n row) rows r ≡ newRow rows r
         go r l (yes e) =
-            rw (e, row-same rows n (omega arith)) (rowAt-putRow-same v n (newRow rows n) rows fits (omega arith) (row-in rows n (omega arith)))
+            rw (e, row-same rows n (omega arith)) (rowAt-putRow-same v n (newRow rows n) rows fits (omega arith) (row-in (ruleAt v) rows n (omega arith)))
         go r l (no d) = rowAt-putRow-other v n row rows r d ∙ g .spare r (omega arith)

@@ -11,8 +11,10 @@ use native.Mathlib.Decide.{ℕ-discrete}
 use lib.Dec.{eqb}
 use lib.ListN.{length}
 use borrow.Author.Tests.{ne-eqb}
+use Rattle.stations.specs.Answer.{answerSound}
 use Rattle.stations.specs.Track.{nowhere}
 use Rattle.points.specs.declared.point.Point.{Point}
+use Rattle.points.specs.declared.cut.Cut.{Cut}
 use Rattle.points.specs.declared.scale.Scale.{Scale}
 use Rattle.points.specs.Word.{NONE}
 use Rattle.table.specs.Call.{Call, add, remove, contains, nearest, Answer}
@@ -34,7 +36,7 @@ use Rattle.trees.specs.Measure.{progressLeft}
 use Rattle.trees.specs.Store.{Store}
 use Rattle.trees.proofs.OthersLaws.{others-insert}
 use Rattle.history.specs.View.{Seat, phaseOf, progressOf}
-use Rattle.history.specs.Related.{Quiet, Set, Walks, Works, Says, Marking, Busy}
+use Rattle.history.specs.Related.{EntriesIn, Quiet, Set, Walks, Works, Says, Marking, Busy}
 use Rattle.history.proofs.BusyLaws.{busy-on}
 use Rattle.history.proofs.Effects.{movedCursor}
 use Rattle.history.proofs.Readings.{nearest-unsettled, insert-stand}
@@ -69,8 +71,8 @@ quiet-moved gone to seat n w = record { cursor = go (ℕ-discrete gone NONE); ph
 -- ---- after an insert
 
 -- t′ is the table with one change more and the same removals and factors
-module _ {h h′ : Heap} {tree : Option Tree} {queue : List Free} {released : ℕ} {new : Entry} {place : Option Leaf} {a b : ℕ} (t t′ : Table)
-    (w : Inserted (t .places) h h′ tree queue (allChanges t) (length (t .removals)) released new place a b) (changes : allChanges t′ ≡ suc (allChanges t)) (removals : t′ .removals ≡ t .removals)
+module _ {h h′ : Heap} {tree : Option Tree} {queue : List Free} {released : ℕ} {new : Entry} {place : Option Leaf} {k : Cut} {a b : ℕ} (t t′ : Table)
+    (w : Inserted (t .places) h h′ tree queue (allChanges t) (length (t .removals)) released new place k a b) (changes : allChanges t′ ≡ suc (allChanges t)) (removals : t′ .removals ≡ t .removals)
     (scale : t′ .scale ≡ t .scale) (seat : Seat) where
   abbrev moved : Seat
   moved = movedCursor (leafOf place) (cutFor place b) seat
@@ -103,7 +105,7 @@ module _ {h h′ : Heap} {tree : Option Tree} {queue : List Free} {released : �
     aimed = v .aimed;
     entries = v .entries;
     once = v .once;
-    ranged = v .ranged;
+    ranged = subst (λ (x : Scale). EntriesIn (x .rule) (v .entries)) (sym scale) (v .ranged);
     search = rw (changes, removals, scale, ← progress-moved (leafOf place) (cutFor place b) seat) (search-insert w l (v .search));
     answer = subst (λ (c : Scale). Set c p (v .entries) (w .tree) set) (sym scale) (set-insert (t .scale) p (v .entries) set (set-there i p set f) (v .answer));
   }
@@ -119,8 +121,8 @@ module _ {h h′ : Heap} {tree : Option Tree} {queue : List Free} {released : �
   pub says-insert : (x : Station) → released ≤ seat .track .since → (leafOf place ≡ NONE → cutFor place b ≡ NONE) → unsettled x ≡ false → Says t tree queue seat x
       → Says t′ (w .tree) (w .queue) moved x
   says-insert idle l n f v = record { state = v .state; quiet = quiet-moved (leafOf place) (cutFor place b) seat n (v .quiet) }
-  says-insert (waiting r) l n f v = record { state = v .state; sound = v .sound; answer = v .answer; quiet = quiet-moved (leafOf place) (cutFor place b) seat n (v .quiet) }
-  says-insert (unfinished i c set) l n f v = busy-on v (moved .track) (omega (arith, v .asof)) (v .phase) (works-insert i c set l f (v .works))
+  says-insert (waiting r) l n f v = record { state = v .state; sound = subst (λ (x : Scale). answerSound (x .rule) (seat .answer) ≡ true) (sym scale) (v .sound); answer = v .answer; quiet = quiet-moved (leafOf place) (cutFor place b) seat n (v .quiet) }
+  says-insert (unfinished i c set) l n f v = busy-on v (moved .track) scale (omega (arith, v .asof)) (v .phase) (works-insert i c set l f (v .works))
 
   -- an add has marked its way down to the row where its cursor is
   pub marking-insert : (marks marks′ : Marks) → Grows marks marks′ tree → (x : Station) → Marking marks tree (seat .track .cursor) x → Marking marks′ (w .tree) (moved .track .cursor) x

@@ -9,6 +9,8 @@ use borrow.Author.Tests.{eqb-true, eqb-false}
 use Rattle.points.specs.declared.point.Point.{Point}
 use Rattle.points.specs.Point.{inRange}
 use Rattle.words.specs.Agree.{inCommon, inStation, inRow, AgreeIn, OnlyIn}
+use Rattle.words.specs.Rule.{ruleAt}
+use Rattle.words.proofs.RuleLaws.{rule-agree}
 use Rattle.words.proofs.AgreeLaws.{only-none, row-common, common-station, station-station, row-station, elsewhere}
 use Rattle.stations.specs.declared.track.Track.{Track}
 use Rattle.stations.specs.Common.{openedIn}
@@ -22,7 +24,7 @@ use Rattle.stations.proofs.CountLaws.{counts-agree}
 use Rattle.stations.proofs.CounterLaws.{counter-agree}
 use Rattle.stations.proofs.TrackLaws.{track-agree, track-other, putTrack-only}
 use Rattle.stations.proofs.TargetLaws.{targetAt-agree, putTarget-only, target-other, target-back}
-use Rattle.stations.proofs.FieldLaws.{opened-putTrack, counts-putTrack, counter-putTrack, target-putTrack, opened-putTarget, counts-putTarget, track-putTarget, counter-putTarget}
+use Rattle.stations.proofs.FieldLaws.{rule-putTrack, rule-putTarget, opened-putTrack, counts-putTrack, counter-putTrack, target-putTrack, opened-putTarget, counts-putTarget, track-putTarget, counter-putTarget}
 use Rattle.rows.specs.Grades.{slotOf}
 use Rattle.calls.specs.Submit.{aimedWords}
 use Rattle.calls.proofs.UnseenLaws.{StationReads, RowReads, reads-unseen}
@@ -67,8 +69,8 @@ own-station {v} {w} s g =
       counters = counter-agree common;
       tracks = λ u n. track-agree common u;
       targets = λ u n. targetAt-agree common u;
-      stations = λ u n. reads-unseen (inStation s) (inStation u) g (station-station u s n);
-      rows = λ r. reads-unseen (inStation s) (inRow r) g (row-station r s);
+      stations = λ u n. reads-unseen (inStation s) (inStation u) (rule-agree common) g (station-station u s n);
+      rows = λ r. reads-unseen (inStation s) (inRow r) (rule-agree common) g (row-station r s);
     }
 
 -- such a write leaves the rows, and of counts and seats what is not the station's
@@ -96,8 +98,8 @@ own-track w s track = record {
   counters = counter-putTrack w s track;
   tracks = λ u n. track-other w s track u n;
   targets = λ u n. target-putTrack w s track u;
-  stations = λ u n. common-stations (putTrack-only w s track) u;
-  rows = λ r. reads-unseen inCommon (inRow r) (putTrack-only w s track) (row-common r);
+  stations = λ u n. common-stations (rule-putTrack w s track) (putTrack-only w s track) u;
+  rows = λ r. reads-unseen inCommon (inRow r) (rule-putTrack w s track) (putTrack-only w s track) (row-common r);
 }
 
 -- the target of a nearest; another call leaves it
@@ -110,6 +112,14 @@ module _ (w : List ℕ) (s kind : ℕ) (p : Point) where
       go true = putTarget-only w s p
       go false = only-none w inCommon
 
+  pub rule-aimed : ruleAt (aimedWords w s kind p) ≡ ruleAt w
+  unfolding aimedWords
+  rule-aimed = go (eqb kind 4)
+    where
+      go : (b : Bool) → ruleAt (cond b (putTarget w s p) w) ≡ ruleAt w
+      go true = rule-putTarget w s p
+      go false = refl
+
   pub own-aimed : Own (aimedWords w s kind p) w s
   unfolding aimedWords
   own-aimed = record {
@@ -119,8 +129,8 @@ module _ (w : List ℕ) (s kind : ℕ) (p : Point) where
     counters = λ u. counter (eqb kind 4) u;
     tracks = λ u n. track (eqb kind 4) u;
     targets = λ u n. targets (eqb kind 4) u n;
-    stations = λ u n. common-stations aimed-only u;
-    rows = λ r. reads-unseen inCommon (inRow r) aimed-only (row-common r);
+    stations = λ u n. common-stations rule-aimed aimed-only u;
+    rows = λ r. reads-unseen inCommon (inRow r) rule-aimed aimed-only (row-common r);
   }
     where
       opened : (b : Bool) → openedIn (cond b (putTarget w s p) w) ≡ openedIn w

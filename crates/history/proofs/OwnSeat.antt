@@ -82,22 +82,22 @@ works-walk t tree queue seat i (nearest p) to e o w = absurd (true≢false (sym 
 
 module _ {words : List ℕ} {t : Table} (s : ℕ) (l : s < stations) (r : Related words t) where
   -- an answer waits at station s
-  related-answered : (a : Given) → length (t .removals) ≤ NONE → answerSound a ≡ true
+  related-answered : (a : Given) → length (t .removals) ≤ NONE → answerSound (t .scale .rule) a ≡ true
       → Related (answeredWords words s a) (withStations t (put (t .stations) s (waiting (answerOf a))))
   related-answered a n e =
       related-seat words (answeredWords words s a) t (put (t .stations) s (waiting (answerOf a))) s (answeredSeat (seatAt words s) a) r
-      (answer-written words (t .places) (t .limit) (t .scale) (r .opened) s l a e) (answer-rows words (t .places) (t .limit) (t .scale) (r .opened) s l a)
+      (answer-written words (t .places) (t .limit) (t .scale) (r .opened) s l a (t .scale .rule) e) (answer-rows words (t .places) (t .limit) (t .scale) (r .opened) s l a)
       (omega (arith, least-removals words, r .counted .removals))
       (λ u d. put-other (t .stations) s u (waiting (answerOf a)) d)
       (rw (put-same (t .stations) s (waiting (answerOf a))) (record { state = refl; sound = e; answer = refl; quiet = record { cursor = refl; phase = refl; since = refl; missed = refl } }))
       (rw (put-same (t .stations) s (waiting (answerOf a))) tt)
 
   -- and no other search has more left
-  pub next-answered : (a : Given) → length (t .removals) ≤ NONE → answerSound a ≡ true
+  pub next-answered : (a : Given) → length (t .removals) ≤ NONE → answerSound (t .scale .rule) a ≡ true
       → Next r s (answeredWords words s a) (withStations t (put (t .stations) s (waiting (answerOf a))))
   unfolding related-answered related-seat related-written
   next-answered a n e =
-      let v = answer-written words (t .places) (t .limit) (t .scale) (r .opened) s l a e in
+      let v = answer-written words (t .places) (t .limit) (t .scale) (r .opened) s l a (t .scale .rule) e in
       let next = related-answered a n e in
       record {
         related = next;
@@ -114,7 +114,7 @@ module _ {words : List ℕ} {t : Table} (s : ℕ) (l : s < stations) (r : Relate
     unfolding seatAt
     walk-busy =
         let b : Busy t (r .tree) (r .queue) (seatAt words s) i c none = rw q at (r .seats s l) in
-        rw q (busy-on b (walkSeat .track) (b .asof) (omega arith) (works-walk t (r .tree) (r .queue) (seatAt words s) i c to e o (b .works)))
+        rw q (busy-on b (walkSeat .track) refl (b .asof) (omega arith) (works-walk t (r .tree) (r .queue) (seatAt words s) i c to e o (b .works)))
 
     walk-least : leastSince words ≤ walkSeat .track .since
     unfolding seatAt

@@ -8,7 +8,7 @@ use mathlib.Core.Option.{Option, none, some, Option·some-injective, Option·non
 use lib.Dec.{eqb, leb}
 use borrow.Author.Tests.{ne-eqb}
 use Rattle.points.specs.declared.point.Point.{Point}
-use Rattle.points.specs.Point.{inRange}
+use Rattle.points.specs.Number.{inRangeBy}
 use Rattle.points.specs.Choice.{sameGrade}
 use Rattle.stations.specs.declared.call.Best.{Best as WordBest}
 use Rattle.calls.specs.declared.aim.Aim.{Aim}
@@ -25,38 +25,38 @@ use Rattle.history.specs.View.{phaseOf, bestOf}
 abbrev pub viewOf : WordProgress → Progress
 viewOf p = record { stand = record { cursor = p .cursor; phase = phaseOf (p .phase) }; missed = p .missed; best = bestOf (p .best) }
 
--- no row was refused, and the phase and the best's point are in range
-pub record Fit (p : WordProgress) : Type 0 where
+-- no row was refused, and the phase and the best's point are in range under the rule
+pub record Fit (rule : ℕ) (p : WordProgress) : Type 0 where
   pub sound : p .sound ≡ true
   pub phase : p .phase ≤ 1
-  pub best : inRange (p .best .point) ≡ true
+  pub best : inRangeBy rule (p .best .point) ≡ true
 
 -- it is the progress q
-pub record Shows (p : WordProgress) (q : Progress) : Type 0 where
-  pub fit : Fit p
+pub record Shows (rule : ℕ) (p : WordProgress) (q : Progress) : Type 0 where
+  pub fit : Fit rule p
   pub is : viewOf p ≡ q
 
 -- it is what a move over rows comes to, where that is not refused
-abbrev pub Keeps : WordProgress → Option Progress → Type 0
-Keeps p out = (q : Progress) → out ≡ some q → Shows p q
+abbrev pub Keeps : ℕ → WordProgress → Option Progress → Type 0
+Keeps rule p out = (q : Progress) → out ≡ some q → Shows rule p q
 
-pub keeps-some : (p : WordProgress) (q : Progress) → Fit p → viewOf p ≡ q → Keeps p (some q)
-keeps-some p q f e to g = record { fit = f; is = e ∙ Option·some-injective q to g }
+pub keeps-some : (rule : ℕ) (p : WordProgress) (q : Progress) → Fit rule p → viewOf p ≡ q → Keeps rule p (some q)
+keeps-some rule p q f e to g = record { fit = f; is = e ∙ Option·some-injective q to g }
 
-pub keeps-none : (p : WordProgress) → Keeps p none
-keeps-none p to g = absurd (Option·none-ne-some to g)
+pub keeps-none : (rule : ℕ) (p : WordProgress) → Keeps rule p none
+keeps-none rule p to g = absurd (Option·none-ne-some to g)
 
 -- one of two, by one test
-pub keeps-pick : (b : Bool) (x y : WordProgress) (u v : Option Progress) → (b ≡ true → Keeps x u) → (b ≡ false → Keeps y v)
-    → Keeps (pickWordProgress b x y) (pickProgress b u v)
-keeps-pick true x y u v f g = f refl
-keeps-pick false x y u v f g = g refl
+pub keeps-pick : (rule : ℕ) (b : Bool) (x y : WordProgress) (u v : Option Progress) → (b ≡ true → Keeps rule x u) → (b ≡ false → Keeps rule y v)
+    → Keeps rule (pickWordProgress b x y) (pickProgress b u v)
+keeps-pick rule true x y u v f g = f refl
+keeps-pick rule false x y u v f g = g refl
 
 -- the search goes on at a row in a phase
-pub keeps-onward : (p : WordProgress) (x n : ℕ) (best : WordBest) (b : Option Best) → Fit p → n ≤ 1 → inRange (best .point) ≡ true → bestOf best ≡ b
-    → Keeps (onward p x n best) (goTo x (phaseOf n) (p .missed) b)
-keeps-onward p x n best b f l r e =
-    keeps-some (onward p x n best) (record { stand = record { cursor = x; phase = phaseOf n }; missed = p .missed; best = b })
+pub keeps-onward : (rule : ℕ) (p : WordProgress) (x n : ℕ) (best : WordBest) (b : Option Best) → Fit rule p → n ≤ 1 → inRangeBy rule (best .point) ≡ true → bestOf best ≡ b
+    → Keeps rule (onward p x n best) (goTo x (phaseOf n) (p .missed) b)
+keeps-onward rule p x n best b f l r e =
+    keeps-some rule (onward p x n best) (record { stand = record { cursor = x; phase = phaseOf n }; missed = p .missed; best = b })
     (record { sound = f .sound; phase = l; best = r })
     (λ i. record { stand = record { cursor = x; phase = phaseOf n }; missed = p .missed; best = e i })
 
@@ -98,11 +98,11 @@ considered-words aim best e n =
     )
 
 -- and leaves a best in range
-pub considered-ranged : (aim : Aim) (best : WordBest) (e : Entry) → inRange (best .point) ≡ true → inRange (e .point) ≡ true
-    → inRange (consideredWord aim best (e .added) (e .point) (e .curve) .point) ≡ true
+pub considered-ranged : (rule : ℕ) (aim : Aim) (best : WordBest) (e : Entry) → inRangeBy rule (best .point) ≡ true → inRangeBy rule (e .point) ≡ true
+    → inRangeBy rule (consideredWord aim best (e .added) (e .point) (e .curve) .point) ≡ true
 unfolding consideredWord
-considered-ranged aim best e f g = go ((leb (e .added) (aim .asof) && sameGrade (aim .point) (e .point)) && betterWord aim best (e .point))
+considered-ranged rule aim best e f g = go ((leb (e .added) (aim .asof) && sameGrade (aim .point) (e .point)) && betterWord aim best (e .point))
   where
-    go : (b : Bool) → inRange (pickWordBest b (record { curve = e .curve; point = e .point }) best .point) ≡ true
+    go : (b : Bool) → inRangeBy rule (pickWordBest b (record { curve = e .curve; point = e .point }) best .point) ≡ true
     go true = g
     go false = f

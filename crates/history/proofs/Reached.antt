@@ -9,7 +9,7 @@ use lib.Dec.{ltb}
 use Rattle.words.specs.Layout.{stations}
 use Rattle.points.specs.declared.point.Point.{Point}
 use Rattle.points.specs.declared.scale.Scale.{Scale}
-use Rattle.points.specs.Point.{inRange}
+use Rattle.points.specs.Number.{inRangeBy}
 use Rattle.table.specs.Call.{Call, add, remove, contains, nearest, Answer, kindInRange, isChange}
 use Rattle.table.specs.Table.{Station, idle, unfinished, waiting, Table, eight, opened, answerOf, changed, changedIf}
 use Rattle.table.specs.Event.{Event, submission, singleStep, taking, withdrawal, isIdle, curveFits, enter, submit, setDown, takeAt, take}
@@ -64,7 +64,7 @@ submit-alike t s kind p c =
     ask-all (λ r. Alike t (r .next)) (ltb s stations) 5 t _ (refl, refl, refl)
     (λ a. ask-all (λ r. Alike t (r .next)) (isIdle (t .stations s)) 6 t _ (refl, refl, refl)
     (λ b. ask-all (λ r. Alike t (r .next)) (kindInRange kind) 7 t _ (refl, refl, refl)
-    (λ d. ask-all (λ r. Alike t (r .next)) (inRange p) 8 t _ (refl, refl, refl)
+    (λ d. ask-all (λ r. Alike t (r .next)) (inRangeBy (t .scale .rule) p) 8 t _ (refl, refl, refl)
     (λ e. ask-all (λ r. Alike t (r .next)) (curveFits kind c) 9 t _ (refl, refl, refl) (λ f. (refl, refl, refl))))))
 
 take-alike : (t : Table) (s : ℕ) → Alike t (take t s .next)
@@ -160,4 +160,4 @@ history-related words places limit scale a evs = history-stands evs (begun a)
   where
     begun : Accepted words places limit scale → Stands (openedWords words places limit scale) places limit scale
     begun a =
-        record { table = opened places limit scale; sound = sound-opened places limit scale; related = related-open words places limit scale (a .places-in) (a .limit-in) (a .factors-in) (a .long); places-same = opened-places places limit scale; limit-same = opened-limit places limit scale; scale-same = opened-scale places limit scale }
+        record { table = opened places limit scale; sound = sound-opened places limit scale; related = related-open words places limit scale (a .places-in) (a .limit-in) (a .rule-in) (a .factors-in) (a .long); places-same = opened-places places limit scale; limit-same = opened-limit places limit scale; scale-same = opened-scale places limit scale }

@@ -11,7 +11,9 @@ use Rattle.stations.specs.Counts.{countsAt}
 use Rattle.points.specs.declared.point.Point.{Point}
 use Rattle.points.specs.declared.scale.Scale.{Scale}
 use Rattle.points.specs.Scale.{factorsIn}
-use Rattle.points.specs.Point.{inRange}
+use Rattle.points.specs.Number.{inRangeBy}
+use Rattle.points.specs.Rule.{ruleIn}
+use Rattle.words.specs.Rule.{ruleAt}
 use Rattle.points.specs.Word.{NONE}
 use Rattle.stations.specs.declared.call.Call.{Call}
 use Rattle.stations.specs.declared.answer.Waiting.{Waiting}
@@ -87,19 +89,21 @@ work-settles words rows s call = pick-settles (eqb (call .kind) 4) (search-settl
 
 pub open-number : (words : List ℕ) (places limit : ℕ) (scale : Scale) → openOf words places limit scale .number ≡ firstNo (openQuestions words places limit scale)
 unfolding openOf firstNo
-open-number words places limit scale = go (placesIn places) (limitIn limit) (factorsIn scale) (leb (wordsFor places) (length words))
+open-number words places limit scale = go (placesIn places) (limitIn limit) (ruleIn (scale .rule)) (factorsIn scale) (leb (wordsFor places) (length words))
   where
-    go : (a b f c : Bool)
-        → ask a 1 words (ask b 2 words (ask f 17 words (ask c 3 words (done (openedWords words places limit scale))))) .number ≡ orElse a 1 (orElse b 2 (orElse f 17 (orElse c 3 0)))
-    go true true true true = refl
-    go true true true false = refl
-    go true true false c = refl
-    go true false f c = refl
-    go false b f c = refl
+    go : (a b r f c : Bool)
+        → ask a 1 words (ask b 2 words (ask r 20 words (ask f 17 words (ask c 3 words (done (openedWords words places limit scale)))))) .number
+        ≡ orElse a 1 (orElse b 2 (orElse r 20 (orElse f 17 (orElse c 3 0))))
+    go true true true true true = refl
+    go true true true true false = refl
+    go true true true false c = refl
+    go true true false f c = refl
+    go true false r f c = refl
+    go false b r f c = refl
 
 pub submit-number : (words : List ℕ) (s kind : ℕ) (p : Point) (c : ℕ) → submitOf words s kind p c .number ≡ firstNo (submitQuestions words s kind p c)
 unfolding submitOf firstNo
-submit-number words s kind p c = go (isOpened (openedIn words)) (ltb s stations) (isIdle (stateAt words s)) (kindIn kind) (inRange p) (curveFits kind c)
+submit-number words s kind p c = go (isOpened (openedIn words)) (ltb s stations) (isIdle (stateAt words s)) (kindIn kind) (inRangeBy (ruleAt words) p) (curveFits kind c)
   where
     go : (o l i k r f : Bool)
         → ask o 4 words (ask l 5 words (ask i 6 words (ask k 7 words (ask r 8 words (ask f 9 words (done (submittedWords words s kind p c))))))) .number
@@ -207,7 +211,7 @@ unfolding openOf
 open-refused words places limit scale =
     refused-keeps words (openOf words places limit scale)
     (ask-keeps words (placesIn places) 1 _
-    (ask-keeps words (limitIn limit) 2 _ (ask-keeps words (factorsIn scale) 17 _ (ask-keeps words (leb (wordsFor places) (length words)) 3 _ (inl refl)))))
+    (ask-keeps words (limitIn limit) 2 _ (ask-keeps words (ruleIn (scale .rule)) 20 _ (ask-keeps words (factorsIn scale) 17 _ (ask-keeps words (leb (wordsFor places) (length words)) 3 _ (inl refl))))))
 
 pub submit-refused : (words : List ℕ) (s kind : ℕ) (p : Point) (c : ℕ) → ¬ (submitOf words s kind p c .number ≡ 0) → submitOf words s kind p c .words ≡ words
 unfolding submitOf
@@ -216,7 +220,7 @@ submit-refused words s kind p c =
     (ask-keeps words (isOpened (openedIn words)) 4 _
     (ask-keeps words (ltb s stations) 5 _
     (ask-keeps words (isIdle (stateAt words s)) 6 _
-    (ask-keeps words (kindIn kind) 7 _ (ask-keeps words (inRange p) 8 _ (ask-keeps words (curveFits kind c) 9 _ (inl refl)))))))
+    (ask-keeps words (kindIn kind) 7 _ (ask-keeps words (inRangeBy (ruleAt words) p) 8 _ (ask-keeps words (curveFits kind c) 9 _ (inl refl)))))))
 
 -- the questions about an unfinished call keep what its reply keeps
 unfinished-keeps : (words : List ℕ) (s : ℕ) (r : Reply) → Keeps words r → Keeps words (askUnfinished words s r)

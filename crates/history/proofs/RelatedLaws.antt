@@ -16,7 +16,8 @@ use Rattle.stations.specs.Counter.{counterAt}
 use Rattle.stations.specs.Track.{trackAt}
 use Rattle.points.specs.Word.{NONE}
 use Rattle.stations.specs.Common.{openedIn, leastSince, takenIn, isOpened, rowsIn, placesAt, limitAt}
-use Rattle.stations.proofs.OpeningLaws.{IsOpen, opened-tells}
+use Rattle.words.specs.Rule.{ruleAt}
+use Rattle.stations.proofs.OpeningLaws.{opened-rule, IsOpen, opened-tells}
 use Rattle.stations.proofs.TakenLaws.{awaiting-is, taken-is}
 use Rattle.table.specs.Call.{Call, add, remove, contains, nearest, isSearch, Answer}
 use Rattle.table.specs.Table.{Station, idle, unfinished, waiting, Table, put, taken, allChanges}
@@ -67,6 +68,10 @@ module _ {words : List ℕ} {t : Table} (r : Related words t) where
   pub word-limit : limitAt words ≡ t .limit
   word-limit = related-is-open .limit-word
 
+  -- the rule that rows and records are judged by is that of the opening
+  pub related-rule : ruleAt words ≡ t .scale .rule
+  related-rule = opened-rule words (t .places) (t .limit) (t .scale) (r .opened)
+
   -- there are two rows for each place
   pub related-rows : rowsIn words ≡ 2 * t .places
   related-rows = rows-in words (t .places) (t .limit) (t .scale) (r .opened)
@@ -101,7 +106,7 @@ module _ {words : List ℕ} {t : Table} (r : Related words t) where
   related-busy {s} l e = subst (Says t (r .tree) (r .queue) (seatAt words s)) e (r .seats s l)
 
   -- and of a waiting answer
-  pub related-waits : {s : ℕ} {a : Answer} → s < stations → t .stations s ≡ waiting a → Waits (seatAt words s) a
+  pub related-waits : {s : ℕ} {a : Answer} → s < stations → t .stations s ≡ waiting a → Waits (t .scale .rule) (seatAt words s) a
   related-waits {s} l e = subst (Says t (r .tree) (r .queue) (seatAt words s)) e (r .seats s l)
 
   -- ---- the places taken

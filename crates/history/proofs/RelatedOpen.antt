@@ -8,6 +8,7 @@ use native.Mathlib.Omega.{arith}
 use native.Mathlib.Numerals.{add-one}
 use lib.ListN.{length}
 use Rattle.points.specs.declared.scale.Scale.{Scale}
+use Rattle.points.specs.Rule.{ruleIn}
 use Rattle.points.specs.Scale.{factorsIn}
 use Rattle.stations.specs.Track.{trackAt}
 use Rattle.stations.specs.declared.track.Track.{Track}
@@ -82,6 +83,6 @@ module _ {words : List ℕ} {places limit : ℕ} {scale : Scale} (w : OpenedAs w
       }
 
 -- The words that an accepted opening leaves are related to the table at first.
-pub related-open : (words : List ℕ) (places limit : ℕ) (scale : Scale) → placesIn places ≡ true → limitIn limit ≡ true → factorsIn scale ≡ true → wordsFor places ≤ length words
+pub related-open : (words : List ℕ) (places limit : ℕ) (scale : Scale) → placesIn places ≡ true → limitIn limit ≡ true → ruleIn (scale .rule) ≡ true → factorsIn scale ≡ true → wordsFor places ≤ length words
     → Related (openedWords words places limit scale) (opened places limit scale)
-related-open words places limit scale p m f l = open-related (open-written words places limit scale p m f l)
+related-open words places limit scale p m k f l = open-related (open-written words places limit scale p m k f l)

@@ -1,22 +1,20 @@
 -- The links and records that a related slice keeps are in range: root, head, tail, cursors and missed rows are none or rows of the index, and
 -- every record held has its point and curve in range.
 use Prim.Native.Nat.{ℕ, _*_, _≤_, _<_}
-use mathlib.Core.Path.{_≡_, refl, sym, _∙_, subst}
+use mathlib.Core.Path.{_≡_, refl, subst}
 use mathlib.Core.Logic.{_⊎_, inl, inr}
-use mathlib.Core.Bool.{true, _&&_}
+use mathlib.Core.Bool.{true}
 use mathlib.Core.List.{List, [], _∷_}
 use mathlib.Core.Option.{Option, none, some}
 use native.Mathlib.Omega.{arith}
 use lib.ListN.{length}
 use Rattle.points.specs.declared.point.Point.{Point}
-use Rattle.points.specs.Point.{inRange}
+use Rattle.points.specs.Number.{inRangeBy}
 use Rattle.points.specs.Word.{NONE}
 use Rattle.words.specs.Range.{linkIn, curveIn}
 use Rattle.rows.specs.Row.{inRows}
 use Rattle.words.proofs.RangeLaws.{link-none, link-row}
-use Rattle.rows.proofs.RowLaws.{in-rows-leaf}
 use Rattle.table.specs.Table.{Table}
-use Rattle.table.proofs.Tests.{and-right}
 use Rattle.trees.specs.Row.{Entry, Heap}
 use Rattle.trees.specs.Tree.{Tree, top, topOf, Holds}
 use Rattle.trees.specs.Queue.{Free, headOf, tailOf, InQueue, Removal}
@@ -32,7 +30,9 @@ use Rattle.trees.proofs.RouteLaws.{on-route-has}
 use Rattle.trees.proofs.ShapeLaws.{held-leaf}
 use Rattle.history.specs.View.{wordRow}
 use Rattle.history.specs.Related.{Related}
+use Rattle.history.proofs.RelatedLaws.{related-rule}
 use Rattle.history.proofs.Effects.{reads-in}
+use Rattle.history.proofs.RowLinks.{LeafIn, leaf-tells}
 
 -- none, or a row of the index
 abbrev pub Link : ℕ → ℕ → Type 0
@@ -85,12 +85,11 @@ root-link (some t) s = inr (s .inside (top t) (has-top t))
 
 -- ---- records
 
--- Every record held has its point and curve in range.
-pub held-ranged : {words : List ℕ} {t : Table} (r : Related words t) (e : Entry) → Holds (r .tree) e → (inRange (e .point) ≡ true) × (curveIn (e .curve) ≡ true)
+-- Every record held has its point and curve in range, as the row of its leaf has them.
+pub held-ranged : {words : List ℕ} {t : Table} (r : Related words t) (e : Entry) → Holds (r .tree) e → (inRangeBy (t .scale .rule) (e .point) ≡ true) × (curveIn (e .curve) ≡ true)
 held-ranged {words} {t} r e m =
     let w = held-leaf (r .tree) e (r .store .shape) m in
     let l : w .0 < 2 * t .places = r .store .inside (w .0) (w .2) in
-    let i : inRows (2 * t .places) (wordRow (r .heap (w .0))) ≡ true = reads-in words (2 * t .places) (r .heap) (w .0) l (r .reads) in
-    let k : ((linkIn (2 * t .places) (w .1) && inRange (e .point)) && curveIn (e .curve)) ≡ true =
-    sym (in-rows-leaf (2 * t .places) (w .1) (e .added) (e .point) (e .curve)) ∙ subst (λ row. inRows (2 * t .places) (wordRow row) ≡ true) (w .3) i in
-    (r .store .ranged e m, and-right (linkIn (2 * t .places) (w .1) && inRange (e .point)) (curveIn (e .curve)) k)
+    let i : inRows (t .scale .rule) (2 * t .places) (wordRow (r .heap (w .0))) ≡ true = rw (related-rule r) at (reads-in words (2 * t .places) (r .heap) (w .0) l (r .reads)) in
+    let k : LeafIn (t .scale .rule) (2 * t .places) (w .1) e = leaf-tells (t .scale .rule) (2 * t .places) (w .1) e (subst (λ row. inRows (t .scale .rule) (2 * t .places) (wordRow row) ≡ true) (w .3) i) in
+    (k .point-in, k .curve-in)

@@ -37,7 +37,7 @@ entries-same r entries f q = (
 settled-busy : {words : List ℕ} {t : Table} (s : ℕ) {i : ℕ} {p : Point} → Sound t → (r : Related words t) → Busy t (r .tree) (r .queue) (seatAt words s) i (nearest p) none
     → Busy t (r .tree) (r .queue) (seatAt words s) i (nearest p) (some (answerOf t s (nearest p)))
 unfolding answerOf
-settled-busy {words} {t} s {p = p} h r b = busy-on b (seatAt words s .track) (b .asof) (b .phase) (record {
+settled-busy {words} {t} s {p = p} h r b = busy-on b (seatAt words s .track) refl (b .asof) (b .phase) (record {
   since = b .works .since;
   aimed = b .works .aimed;
   entries = b .works .entries;

@@ -14,7 +14,7 @@ use Rattle.stations.specs.declared.track.Track.{Track}
 use Rattle.stations.specs.Track.{trackAt}
 use Rattle.points.specs.declared.point.Point.{Point}
 use Rattle.points.specs.declared.scale.Scale.{Scale}
-use Rattle.points.specs.Point.{inRange}
+use Rattle.points.specs.Number.{inRangeBy}
 use Rattle.points.specs.Word.{NONE}
 use Rattle.stations.specs.declared.call.Best.{Best as WordBest}
 use Rattle.words.specs.Range.{curveIn}
@@ -35,8 +35,8 @@ use Rattle.trees.specs.Search.{Found}
 use Rattle.trees.proofs.ChoiceOf.{choiceOf}
 use Rattle.calls.specs.Step.{recordsSound}
 use Rattle.history.specs.View.{Seat, seatAt, bestOf}
-use Rattle.history.specs.Related.{kindOf, curveOf, Quiet, Walks, Busy, Says, Related}
-use Rattle.history.proofs.RelatedLaws.{related-is-open, related-rows, related-busy, word-places, word-limit, word-changes, word-held, word-root, word-head, word-tail, word-removals}
+use Rattle.history.specs.Related.{EntriesIn, kindOf, curveOf, Quiet, Walks, Busy, Says, Related}
+use Rattle.history.proofs.RelatedLaws.{related-is-open, related-rule, related-rows, related-busy, word-places, word-limit, word-changes, word-held, word-root, word-head, word-tail, word-removals}
 use Rattle.history.proofs.RelatedRows.{Link, link-in, standing-link, walking-link, missed-link, head-inside, tail-inside, root-link}
 
 -- ---- the common record
@@ -109,15 +109,15 @@ related-common {words} {t} h r =
 -- ---- the station's call
 
 -- a best that is one of the records held at submission is in range
-found-best : (scale : Scale) (target : Point) (entries : List Entry) → ((e : Entry) → List·Memᴰ e entries → (inRange (e .point) ≡ true) × (curveIn (e .curve) ≡ true))
-    → (best : WordBest) → inRange (best .point) ≡ true → Found (choiceOf scale target) (λ e. List·Memᴰ e entries) (bestOf best) → bestSound best ≡ true
+found-best : (scale : Scale) (target : Point) (entries : List Entry) → EntriesIn (scale .rule) entries
+    → (best : WordBest) → inRangeBy (scale .rule) (best .point) ≡ true → Found (choiceOf scale target) (λ e. List·Memᴰ e entries) (bestOf best) → bestSound (scale .rule) best ≡ true
 found-best scale target entries ranged best k f = go (eqb (best .curve) 0) refl f
   where
     go : (b : Bool) → eqb (best .curve) 0 ≡ b
         → Found (choiceOf scale target) (λ e. List·Memᴰ e entries) (elim b [ true ↦ none | false ↦ some (record { point = best .point; curve = best .curve }) ])
-        → bestSound best ≡ true
-    go true e f = best-none best (eqb-true (best .curve) 0 e)
-    go false e f = best-record best (omega (arith, f .curve, curve-tells (f .entry .curve) (ranged (f .entry) (f .held) .1) .1)) k
+        → bestSound (scale .rule) best ≡ true
+    go true e f = best-none (scale .rule) best (eqb-true (best .curve) 0 e)
+    go false e f = best-record (scale .rule) best (omega (arith, f .curve, curve-tells (f .entry .curve) (ranged (f .entry) (f .held) .1) .1)) k
 
 kind-range : (c : Call) → (1 ≤ kindOf c) × (kindOf c ≤ 4)
 kind-range (add p c) = omega arith
@@ -126,10 +126,10 @@ kind-range (contains p) = omega arith
 kind-range (nearest p) = omega arith
 
 module _ {t : Table} {tree : Option Tree} {q : List Free} {seat : Seat} {i : ℕ} {o : Option Answer} where
-  busy-best : (c : Call) → Busy t tree q seat i c o → bestSound (seat .call .best) ≡ true
-  busy-best (add p c) b = best-none (seat .call .best) (b .works .best)
-  busy-best (remove p) b = best-none (seat .call .best) (b .works .best)
-  busy-best (contains p) b = best-none (seat .call .best) (b .works .best)
+  busy-best : (c : Call) → Busy t tree q seat i c o → bestSound (t .scale .rule) (seat .call .best) ≡ true
+  busy-best (add p c) b = best-none (t .scale .rule) (seat .call .best) (b .works .best)
+  busy-best (remove p) b = best-none (t .scale .rule) (seat .call .best) (b .works .best)
+  busy-best (contains p) b = best-none (t .scale .rule) (seat .call .best) (b .works .best)
   busy-best (nearest p) b = found-best (t .scale) p (b .works .entries) (b .works .ranged) (seat .call .best) (b .kept) (b .works .search .found)
 
   busy-curve : (c : Call) → Busy t tree q seat i c o → curveFor (kindOf c) (curveOf c) ≡ true
@@ -139,8 +139,8 @@ module _ {t : Table} {tree : Option Tree} {q : List Free} {seat : Seat} {i : ℕ
   busy-curve (nearest p) b = refl
 
   -- the call of a seat is in range
-  pub busy-sound : (c : Call) → Busy t tree q seat i c o → callSound (seat .call) (allChanges t) ≡ true
-  busy-sound c b = call-of (seat .call) (allChanges t) (record {
+  pub busy-sound : (c : Call) → Busy t tree q seat i c o → callSound (t .scale .rule) (seat .call) (allChanges t) ≡ true
+  busy-sound c b = call-of (t .scale .rule) (seat .call) (allChanges t) (record {
     kind-least = omega (arith, kind-range c, b .kind);
     kind-most = omega (arith, kind-range c, b .kind);
     point = rw (b .point) (b .ranged);
@@ -154,4 +154,4 @@ pub related-sound : {words : List ℕ} {t : Table} {s i : ℕ} {c : Call} {o : O
     → recordsSound words s ≡ true
 unfolding recordsSound seatAt
 related-sound {words} {t} {s} {i} {c} {o} h r l e =
-    rw (related-rows r, related-common h r, word-changes r) (busy-sound c (related-busy r l e))
+    rw (related-rows r, related-common h r, word-changes r, related-rule r) (busy-sound c (related-busy r l e))

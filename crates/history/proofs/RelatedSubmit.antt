@@ -1,6 +1,6 @@
 -- A submission: a related slice refuses what the table refuses, and with the call unfinished it stays related (`related-submits`).
 use Prim.Native.Nat.{ℕ, _<_}
-use mathlib.Core.Path.{_≡_, refl, sym, _∙_}
+use mathlib.Core.Path.{_≡_, refl, sym, _∙_, ap}
 use mathlib.Core.Bool.{Bool, true, false, _&&_}
 use mathlib.Core.List.{List}
 use native.Mathlib.Omega.{arith}
@@ -8,7 +8,8 @@ use lib.Dec.{eqb, leb, ltb}
 use borrow.Author.Tests.{ltb-true, leb-true, le-leb, eq-eqb, ne-eqb}
 use Rattle.words.specs.Layout.{stations}
 use Rattle.points.specs.declared.point.Point.{Point}
-use Rattle.points.specs.Point.{inRange}
+use Rattle.points.specs.Number.{inRangeBy}
+use Rattle.words.specs.Rule.{ruleAt}
 use Rattle.words.specs.Range.{curveIn}
 use Rattle.stations.specs.Station.{isIdle as idleState, stateAt}
 use Rattle.words.proofs.RangeLaws.{curve-in, curve-tells}
@@ -25,7 +26,7 @@ use Rattle.stations.specs.Call.{kindIn}
 use Rattle.history.specs.Index.{replyOf, wordIndex}
 use Rattle.history.specs.View.{seatAt}
 use Rattle.history.specs.Related.{Related}
-use Rattle.history.proofs.RelatedLaws.{related-passes, related-idle, related-busy, related-waits}
+use Rattle.history.proofs.RelatedLaws.{related-rule, related-passes, related-idle, related-busy, related-waits}
 use Rattle.history.proofs.Submitted.{related-submitted}
 
 -- ---- the questions
@@ -73,6 +74,6 @@ related-submits {words} {t} s kind p c h r =
     (asked (ltb s stations) (ltb s stations) 5 _ _ r refl (λ l.
     asked (idleState (stateAt words s)) (isIdle (t .stations s)) 6 _ _ r (idle-same s r (ltb-true s stations l)) (λ i.
     asked (kindIn kind) (kindInRange kind) 7 _ _ r refl (λ k.
-    asked (inRange p) (inRange p) 8 _ _ r refl (λ ranged.
+    asked (inRangeBy (ruleAt words) p) (inRangeBy (t .scale .rule) p) 8 _ _ r (ap (λ k. inRangeBy k p) (related-rule r)) (λ ranged.
     asked (curveFitsWords kind c) (curveFits kind c) 9 _ _ r (fits-same kind c) (λ fits.
     record { number = refl; given = refl; next = related-submitted s kind p c h r (ltb-true s stations l) k ranged (fits-same kind c ∙ fits) }))))))

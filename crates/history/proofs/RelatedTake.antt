@@ -24,7 +24,7 @@ use Rattle.history.specs.Index.{wordIndex}
 use Rattle.history.specs.View.{Seat, seatAt, marksIn}
 use Rattle.history.specs.Related.{Waits, Related}
 use Rattle.history.proofs.Effects.{take-written, take-rows}
-use Rattle.history.proofs.RelatedLaws.{related-passes, related-idle, related-busy, related-waits}
+use Rattle.history.proofs.RelatedLaws.{related-rule, related-passes, related-idle, related-busy, related-waits}
 use Rattle.history.proofs.LeastLaws.{least-up}
 use Rattle.history.proofs.SaysLaws.{seat-put-agrees, says-put, marking-put, written-since, written-removals, related-written}
 
@@ -40,9 +40,9 @@ take-nothing {words} s r l n d e =
 -- an answer that waits is given
 take-answer : {words : List ℕ} {t : Table} (s : ℕ) (a : Answer) → Related words t → s < stations → t .stations s ≡ waiting a → takeOf words s ≡ Taken (answerAt words s)
 unfolding takeOf seatAt
-take-answer {words} s a r l e =
-    let w : Waits (seatAt words s) a = related-waits r l e in
-    let f = waiting-given words s (eq-eqb (stateAt words s .word) 2 (w .state)) (w .sound) in
+take-answer {words} {t} s a r l e =
+    let w : Waits (t .scale .rule) (seatAt words s) a = related-waits r l e in
+    let f = waiting-given words s (eq-eqb (stateAt words s .word) 2 (w .state)) (rw (related-rule r) (w .sound)) in
     rw (related-passes r, lt-ltb s stations l, f)
 
 -- ---- what is left

@@ -8,7 +8,7 @@ use native.Mathlib.Omega.{arith}
 use lib.Dec.{ltb}
 use borrow.Author.Tests.{eq-eqb, ne-eqb, lt-ltb, ltb-true}
 use Rattle.words.specs.Layout.{stations}
-use Rattle.points.specs.Point.{inRange}
+use Rattle.points.specs.Number.{inRangeBy}
 use Rattle.stations.specs.Station.{stateAt}
 use Rattle.stations.specs.Call.{callAt}
 use Rattle.stations.specs.Answer.{answerSound}
@@ -36,9 +36,9 @@ module _ {words : List ℕ} {t : Table} {s i : ℕ} {c : Call} {o : Option Answe
   unfolding seatAt
   point-is = related-busy r l q .point
 
-  said-sound : answerSound (saidOf (callAt words s)) ≡ true
+  said-sound : answerSound (t .scale .rule) (saidOf (callAt words s)) ≡ true
   said-sound =
-      answer-of (saidOf (callAt words s)) (record { code = refl; point = ap inRange point-is ∙ related-busy r l q .ranged; curve = omega arith; square = omega arith })
+      answer-of (t .scale .rule) (saidOf (callAt words s)) (record { code = refl; point = ap (inRangeBy (t .scale .rule)) point-is ∙ related-busy r l q .ranged; curve = omega arith; square = omega arith })
 
   said-is : answerOf (saidOf (callAt words s)) ≡ withdrawnAnswer c
   unfolding withdrawnAnswer

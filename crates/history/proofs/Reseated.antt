@@ -12,7 +12,9 @@ use Rattle.words.specs.Layout.{stations}
 use Rattle.stations.specs.Counts.{countsAt}
 use Rattle.points.specs.declared.point.Point.{Point}
 use Rattle.points.specs.declared.scale.Scale.{Scale}
-use Rattle.points.specs.Point.{inRange}
+use Rattle.points.specs.Number.{inRangeBy}
+use Rattle.points.proofs.NumberLaws.{in-range-by}
+use Rattle.words.specs.Rule.{ruleAt}
 use Rattle.stations.specs.declared.answer.Answer.{Answer}
 use Rattle.stations.specs.declared.answer.Waiting.{Waiting}
 use Rattle.stations.specs.declared.answer.Waiting.the-variants.{Nothing, Given}
@@ -79,12 +81,12 @@ module _ (words : List ℕ) (places limit : ℕ) (scale : Scale) (o : openedIn w
       (λ a. ask-reseats words (2 * places) s (ltb s stations) 5 _
       (λ l. ask-reseats words (2 * places) s (isIdle (stateAt words s)) 6 _
       (λ i. ask-reseats words (2 * places) s (kindIn kind) 7 _
-      (λ k. ask-reseats words (2 * places) s (inRange p) 8 _
+      (λ k. ask-reseats words (2 * places) s (inRangeBy (ruleAt words) p) 8 _
       (λ ranged. ask-reseats words (2 * places) s (curveFits kind c) 9 _ (λ f. inr (begun (ltb-true s stations l) i ranged)))))))
     where
-      begun : s < stations → isIdle (stateAt words s) ≡ true → inRange p ≡ true → Reseated words (submittedWords words s kind p c) (2 * places) s
+      begun : s < stations → isIdle (stateAt words s) ≡ true → inRangeBy (ruleAt words) p ≡ true → Reseated words (submittedWords words s kind p c) (2 * places) s
       begun l i ranged =
-          let w = submit-written words places limit scale o s l kind p c ranged in
+          let w = submit-written words places limit scale o s l kind p c (in-range-by (ruleAt words) p ranged) in
           record {
             station = l;
             rests = idle-rests words s i;

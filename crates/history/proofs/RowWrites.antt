@@ -17,8 +17,9 @@ use Rattle.rows.specs.declared.row.Row.the-variants.{Bad, Spare, Removed, Leaf,
 use Rattle.words.specs.Agree.{inRow}
 use Rattle.rows.specs.Row.{rowAt, putRow, inRows}
 use Rattle.rows.specs.Grades.{slotOf, beginGrades}
-use Rattle.words.proofs.AgreeLaws.{row-row}
-use Rattle.rows.proofs.RowLaws.{putRow-only}
+use Rattle.words.proofs.AgreeLaws.{row-row, common-row}
+use Rattle.words.proofs.RuleLaws.{rule-unseen}
+use Rattle.rows.proofs.RowLaws.{putRow-only, rule-putRow}
 use Rattle.rows.proofs.GradeLaws.{admits-putRow, begin-only, begin-rows}
 use Rattle.calls.proofs.UnseenLaws.{reads-unseen}
 use Rattle.stations.specs.Common.{openedIn, Opened}
@@ -44,7 +45,7 @@ held-first words places limit scale h o r = record { opened = o; written = recor
 
 -- a row in range is written
 pub put-row : {before words : List ℕ} {places limit : ℕ} {scale : Scale} {h : Heap} → Holding before words places limit scale h → (r : ℕ) (x : WordRow) (row : Row) → x ≡ wordRow row → r < 2 * places
-    → inRows (2 * places) (wordRow row) ≡ true → Holding before (putRow words r x) places limit scale (heapPut h r row)
+    → inRows (scale .rule) (2 * places) (wordRow row) ≡ true → Holding before (putRow words r x) places limit scale (heapPut h r row)
 put-row {before} {words} {places} {limit} {scale} {h} w r x row e l i =
     let v = row-written words r x in
     record {
@@ -87,7 +88,7 @@ pub marks-kept : (words : List ℕ) (r : ℕ) (row : WordRow) (x : ℕ) → (x �
 marks-kept words r row x f side p = go row f (ℕ-discrete x r)
   where
     other : (row : WordRow) → ¬ (x ≡ r) → marksIn (putRow words r row) x side p ≡ marksIn words x side p
-    other row n = reads-unseen (inRow r) (inRow x) (putRow-only words r row) (row-row x r n) .grades side (slotOf p) (slot-fits p)
+    other row n = reads-unseen (inRow r) (inRow x) (rule-putRow words r row) (putRow-only words r row) (row-row x r n) .grades side (slotOf p) (slot-fits p)
 
     here : (row : WordRow) → isCut row ≡ true → marksIn (putRow words r row) x side p ≡ marksIn words x side p
     here Bad e = absurd (false≢true e)
@@ -104,4 +105,5 @@ marks-kept words r row x f side p = go row f (ℕ-discrete x r)
 pub marks-begun : (words : List ℕ) (r : ℕ) (left : Bool) (here there : Point) (x : ℕ) → ¬ (x ≡ r) → (side : Bool) (p : Point)
     → marksIn (beginGrades words r left (slotOf here) (slotOf there)) x side p ≡ marksIn words x side p
 marks-begun words r left here there x n side p =
-    reads-unseen (inRow r) (inRow x) (begin-only words r left (slotOf here) (slotOf there) (slot-fits here) (slot-fits there)) (row-row x r n) .grades side (slotOf p) (slot-fits p)
+    let only = begin-only words r left (slotOf here) (slotOf there) (slot-fits here) (slot-fits there) in
+    reads-unseen (inRow r) (inRow x) (rule-unseen (inRow r) only (common-row r)) only (row-row x r n) .grades side (slotOf p) (slot-fits p)

@@ -9,6 +9,7 @@ use mathlib.Core.Option.{Option}
 use native.Mathlib.Omega.{arith}
 use lib.Dec.{eqb}
 use borrow.Author.Tests.{eqb-true, eqb-false, eq-eqb, ne-eqb}
+use Rattle.stations.specs.Answer.{answerSound}
 use Rattle.points.specs.declared.scale.Scale.{Scale}
 use Rattle.words.specs.Layout.{stations}
 use Rattle.stations.specs.Counter.{counterAt}
@@ -25,7 +26,7 @@ use Rattle.trees.specs.Queue.{Free}
 use Rattle.trees.specs.Below.{Marks, Covered}
 use Rattle.trees.proofs.Room.{store-release}
 use Rattle.history.specs.View.{Seat, seatAt, seatPut, marksIn, SameRows, Written}
-use Rattle.history.specs.Related.{Set, Works, Says, Marking, Related}
+use Rattle.history.specs.Related.{EntriesIn, Set, Works, Says, Marking, Related}
 use Rattle.history.proofs.BusyLaws.{busy-on}
 
 -- ---- the same table but for its stations
@@ -50,7 +51,7 @@ module _ (t t′ : Table) (changes : allChanges t′ ≡ allChanges t) (removals
     aimed = w .aimed;
     entries = w .entries;
     once = w .once;
-    ranged = w .ranged;
+    ranged = subst (λ (x : Scale). EntriesIn (x .rule) (w .entries)) (sym scale) (w .ranged);
     search = rw (changes, removals, scale) (w .search);
     answer = subst (λ (c : Scale). Set c p (w .entries) tree o) (sym scale) (w .answer);
   }
@@ -58,8 +59,8 @@ module _ (t t′ : Table) (changes : allChanges t′ ≡ allChanges t) (removals
   -- a seat says the same of another table with these changes and removals
   pub says-kept : (x : Station) → Says t tree queue seat x → Says t′ tree queue seat x
   says-kept idle b = b
-  says-kept (waiting a) b = b
-  says-kept (unfinished i c o) b = busy-on b (seat .track) (rw changes (b .asof)) (b .phase) (works-kept i c o (b .works))
+  says-kept (waiting a) b = record { state = b .state; sound = subst (λ (x : Scale). answerSound (x .rule) (seat .answer) ≡ true) (sym scale) (b .sound); answer = b .answer; quiet = b .quiet }
+  says-kept (unfinished i c o) b = busy-on b (seat .track) scale (rw changes (b .asof)) (b .phase) (works-kept i c o (b .works))
 
 -- ---- one seat anew
 

@@ -32,6 +32,7 @@ use Rattle.calls.specs.declared.progress.Progress.{Progress as WordProgress}
 use Rattle.calls.specs.Search.{toursOf, seek as seekWord, isFinished}
 use Rattle.calls.specs.Tour.{tour as tourWord, toured as touredWord}
 use Rattle.calls.specs.Look.{look as lookWord}
+use Rattle.words.specs.Rule.{ruleAt}
 use Rattle.history.specs.View.{Reads, marksIn, opensIn}
 use Rattle.history.proofs.ProgressWords.{viewOf, Fit, Shows, Keeps}
 use Rattle.history.proofs.LookWords.{look-words}
@@ -39,17 +40,17 @@ use Rattle.history.proofs.TourWords.{tour-words}
 use lib.Dec.{eqb}
 
 -- a search over words that no row refused, with the invariant of the search over rows that it is, and at most so many moves left
-pub record Seeks (aim : Aim) (since : ℕ) (Then : Entry → Type 0) (t : Option Tree) (q : List Free) (changes removals : ℕ) (p : WordProgress) (most : ℕ) : Type 0 where
-  pub fit : Fit p
+pub record Seeks (rule : ℕ) (aim : Aim) (since : ℕ) (Then : Entry → Type 0) (t : Option Tree) (q : List Free) (changes removals : ℕ) (p : WordProgress) (most : ℕ) : Type 0 where
+  pub fit : Fit rule p
   pub search : Search (choiceOf (aim .scale) (aim .point)) (aim .asof) since Then t q changes removals (viewOf p)
   pub left : searchLeft search ≤ most
 
 -- what a move over rows comes to, and the move over words that shows it
-shown : {aim : Aim} {since : ℕ} {Then : Entry → Type 0} {t : Option Tree} {q : List Free} {changes removals most : ℕ} (p : WordProgress) (out : Option Progress) (to : Progress)
-    → Keeps p out → out ≡ some to → (v : Search (choiceOf (aim .scale) (aim .point)) (aim .asof) since Then t q changes removals to) → searchLeft v ≤ most
-    → Seeks aim since Then t q changes removals p most
-shown {aim} {since} {Then} {t} {q} {changes} {removals} {most} p out to k e v l =
-    let w : Shows p to = k to e in
+shown : {rule : ℕ} {aim : Aim} {since : ℕ} {Then : Entry → Type 0} {t : Option Tree} {q : List Free} {changes removals most : ℕ} (p : WordProgress) (out : Option Progress) (to : Progress)
+    → Keeps rule p out → out ≡ some to → (v : Search (choiceOf (aim .scale) (aim .point)) (aim .asof) since Then t q changes removals to) → searchLeft v ≤ most
+    → Seeks rule aim since Then t q changes removals p most
+shown {rule} {aim} {since} {Then} {t} {q} {changes} {removals} {most} p out to k e v l =
+    let w : Shows rule p to = k to e in
     let z = subst (λ (x : Progress). (u : Search (choiceOf (aim .scale) (aim .point)) (aim .asof) since Then t q changes removals x) × (searchLeft u ≤ most)) (sym (w .is)) (v, l) in
     record { fit = w .fit; search = z .0; left = z .1 }
 
@@ -72,14 +73,14 @@ module _ {places : ℕ} {h : Heap} {t : Option Tree} {q : List Free} {changes re
   module _ (words : List ℕ) (reads : Reads words (2 * places) h) (covered : Covered (marksIn words) t) (aim : Aim) (since : ℕ)
       (Then : Entry → Type 0) where
     abbrev Here : WordProgress → ℕ → Type 0
-    Here p most = Seeks aim since Then t q changes removals p most
+    Here p most = Seeks (ruleAt words) aim since Then t q changes removals p most
 
     -- what is left is less than `most` by so many
     abbrev Fewer : ℕ → ℕ → WordProgress → Type 0
     Fewer by most p = (m : ℕ) × (by + m ≤ most) × Here p m
 
     -- a look leaves no more, and less where a row was missed
-    look-shows : (p : WordProgress) (most : ℕ) → Fit p → (v : Search (choiceOf (aim .scale) (aim .point)) (aim .asof) since Then t q changes removals (viewOf p))
+    look-shows : (p : WordProgress) (most : ℕ) → Fit (ruleAt words) p → (v : Search (choiceOf (aim .scale) (aim .point)) (aim .asof) since Then t q changes removals (viewOf p))
         → searchLeft (search-look st (viewOf p) v .search) ≤ most → Here (lookWord words (2 * places) aim p) most
     look-shows p most f v l =
         let a = search-look st (viewOf p) v in
@@ -105,7 +106,7 @@ module _ {places : ℕ} {h : Heap} {t : Option Tree} {q : List Free} {changes re
     toured n p = touredWord words (2 * places) slot aim n p
 
     -- a tour likewise, less where the cursor is a row
-    tour-shows : (p : WordProgress) (most : ℕ) → Fit p → (v : Search (choiceOf (aim .scale) (aim .point)) (aim .asof) since Then t q changes removals (viewOf p))
+    tour-shows : (p : WordProgress) (most : ℕ) → Fit (ruleAt words) p → (v : Search (choiceOf (aim .scale) (aim .point)) (aim .asof) since Then t q changes removals (viewOf p))
         → searchLeft (search-tour t st (opensIn words slot) closed (viewOf p) v .goes .search) ≤ most → Here (tourWord words (2 * places) slot aim p) most
     tour-shows p most f v l =
         let a = search-tour t st (opensIn words slot) closed (viewOf p) v .goes in

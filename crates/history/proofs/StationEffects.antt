@@ -9,6 +9,8 @@ use lib.ListN.{length}
 use Rattle.points.specs.declared.point.Point.{Point}
 use Rattle.points.specs.declared.scale.Scale.{Scale}
 use Rattle.points.specs.Point.{inRange}
+use Rattle.points.specs.Rule.{plainRule}
+use Rattle.points.proofs.NumberLaws.{in-range-by}
 use Rattle.points.specs.Word.{NONE}
 use Rattle.words.specs.Layout.{stations}
 use Rattle.words.specs.Agree.{inCommon, inStation, AgreeIn, OnlyIn}
@@ -21,7 +23,7 @@ use Rattle.stations.specs.Counts.{countsAt}
 use Rattle.stations.specs.Station.{hasStation, submitted, answered, emptied, stateAt, putState}
 use Rattle.stations.specs.Target.{targetAt}
 use Rattle.stations.specs.Track.{nowhere, standing, trackAt, putTrack}
-use Rattle.stations.specs.Call.{putBest, putCall}
+use Rattle.stations.specs.Call.{noBest, putBest, putCall}
 use Rattle.stations.specs.Answer.{answerSound, putAnswer}
 use Rattle.stations.proofs.OpeningLaws.{opened-station}
 use Rattle.stations.proofs.StationLaws.{there-length, putState-only, putBest-only, putCall-only, putAnswer-only}
@@ -31,7 +33,7 @@ use Rattle.stations.proofs.TargetLaws.{targetAt-agree}
 use Rattle.stations.proofs.RecordLaws.{callAt-putState, answerAt-putState, stateAt-putBest, answerAt-putBest, callAt-putAnswer, answerAt-putCall}
 use Rattle.stations.proofs.ReadBackLaws.{stateAt-putState-same, callAt-putBest, answerAt-putAnswer-same, callAt-putCall-same}
 use Rattle.stations.proofs.SoundLaws.{noBest-point, answer-tells}
-use Rattle.stations.proofs.FieldLaws.{target-putTrack}
+use Rattle.stations.proofs.FieldLaws.{rule-putTrack, target-putTrack}
 use Rattle.calls.specs.declared.progress.Progress.{Progress}
 use Rattle.calls.specs.Answer.{letGo, answeredWords}
 use Rattle.calls.specs.Submit.{callFor, sinceFor, begunTrack, begunWords, submittedWords}
@@ -39,7 +41,7 @@ use Rattle.calls.specs.Search.{keptTrack, keptWords}
 use Rattle.calls.specs.Walk.{walkedWords}
 use Rattle.history.specs.View.{seatAt, withTrack, seatPut, SameRows, Written, answeredSeat}
 use Rattle.history.proofs.Frame.{seat-of, common-stations}
-use Rattle.history.proofs.OwnEffects.{Own, own-trans, own-station, own-rows, own-written, own-track, own-aimed, aimed-only, track-aimed, target-aimed}
+use Rattle.history.proofs.OwnEffects.{Own, own-trans, own-station, own-rows, own-written, own-track, own-aimed, aimed-only, rule-aimed, track-aimed, target-aimed}
 
 module _ (words : List ℕ) (places limit : ℕ) (scale : Scale) (o : openedIn words ≡ Opened places limit scale) (s : ℕ) (l : s < stations) where
   here : hasStation words s ≡ true
@@ -85,7 +87,7 @@ module _ (words : List ℕ) (places limit : ℕ) (scale : Scale) (o : openedIn w
     submit-written r =
         let call = callFor (countsAt words .changes) kind p c in
         let aim : targetAt begun s ≡ targetAt words s = target-putTrack asked s (begunTrack (countsAt asked) kind) s ∙ targetAt-agree asked-common s in
-        let reads = common-stations (only-trans (aimed-only begun s kind p) begun-only) s in
+        let reads = common-stations (rule-aimed begun s kind p ∙ rule-putTrack asked s (begunTrack (countsAt asked) kind)) (only-trans (aimed-only begun s kind p) begun-only) s in
         let there : hasStation called s ≡ true = still called (putCall-only words s call .lengths) in
         own-written (submittedWords words s kind p c) words s _ own-submit
         (seat-of (submittedWords words s kind p c) s _
@@ -94,7 +96,7 @@ module _ (words : List ℕ) (places limit : ℕ) (scale : Scale) (o : openedIn w
         ∙ ap (λ counts. begunTrack counts kind) (counts-agree asked-common))
         (target-aimed begun s kind p (still begun (begun-only .lengths ∙ asked-only .lengths)) r ∙ ap (cond (eqb kind 4) p) aim)
         (ap (λ x. x .word) (reads .state ∙ stateAt-putState-same called s there (submitted (stateAt words s))))
-        (reads .call ∙ callAt-putState called s (submitted (stateAt words s)) ∙ callAt-putCall-same words s here call r noBest-point)
+        (reads .call ∙ callAt-putState called s (submitted (stateAt words s)) ∙ callAt-putCall-same words s here call r (in-range-by plainRule (noBest .point) (noBest-point plainRule)))
         (reads .answer ∙ answerAt-putState called s (submitted (stateAt words s)) ∙ answerAt-putCall words s call))
 
     pub submit-rows : SameRows words (submittedWords words s kind p c) (2 * places)
@@ -136,18 +138,18 @@ module _ (words : List ℕ) (places limit : ℕ) (scale : Scale) (o : openedIn w
     unfolding answeredWords letGo
     own-answer = own-trans (own-track waits s nowhere) (own-station s waits-only)
 
-    pub answer-written : answerSound a ≡ true → Written words (answeredWords words s a) (countsAt words) (counterAt words)
+    pub answer-written : (rule : ℕ) → answerSound rule a ≡ true → Written words (answeredWords words s a) (countsAt words) (counterAt words)
         (seatPut (λ u. seatAt words u) s (answeredSeat (seatAt words s) a))
     unfolding answeredWords letGo seatAt
-    answer-written e =
+    answer-written rule e =
         let common : AgreeIn waits words inCommon = elsewhere (inStation s) inCommon waits-only (common-station s) in
-        let reads = common-stations (putTrack-only waits s nowhere) s in
+        let reads = common-stations (rule-putTrack waits s nowhere) (putTrack-only waits s nowhere) s in
         let there : hasStation told s ≡ true = still told (putAnswer-only words s a .lengths) in
         own-written (answeredWords words s a) words s _ own-answer
         (seat-of (answeredWords words s a) s _ (track-back waits s nowhere (still waits (waits-only .lengths))) (target-putTrack waits s nowhere s ∙ targetAt-agree common s)
         (ap (λ x. x .word) (reads .state ∙ stateAt-putState-same told s there (answered (stateAt words s))))
         (reads .call ∙ callAt-putState told s (answered (stateAt words s)) ∙ callAt-putAnswer words s a)
-        (reads .answer ∙ answerAt-putState told s (answered (stateAt words s)) ∙ answerAt-putAnswer-same words s here a (answer-tells a e .point)))
+        (reads .answer ∙ answerAt-putState told s (answered (stateAt words s)) ∙ answerAt-putAnswer-same words s here a (in-range-by rule (a .point) (answer-tells rule a e .point))))
 
     pub answer-rows : SameRows words (answeredWords words s a) (2 * places)
     answer-rows = own-rows own-answer (2 * places)
@@ -177,7 +179,7 @@ module _ (words : List ℕ) (places limit : ℕ) (scale : Scale) (o : openedIn w
     kept-written e =
         let only = putBest-only words s (p .best) in
         let common : AgreeIn chosen words inCommon = elsewhere (inStation s) inCommon only (common-station s) in
-        let reads = common-stations (putTrack-only chosen s kept) s in
+        let reads = common-stations (rule-putTrack chosen s kept) (putTrack-only chosen s kept) s in
         own-written (keptWords words s p) words s _ own-kept
         (seat-of (keptWords words s p) s _ (track-back chosen s kept (still chosen (only .lengths))) (target-putTrack chosen s kept s ∙ targetAt-agree common s)
         (ap (λ x. x .word) (reads .state ∙ stateAt-putBest words s (p .best)))
@@ -195,7 +197,7 @@ module _ (words : List ℕ) (places limit : ℕ) (scale : Scale) (o : openedIn w
     pub walk-written : Written words (walkedWords words s to) (countsAt words) (counterAt words) (seatPut (λ u. seatAt words u) s (withTrack (seatAt words s) (standing to 0 (seatAt words s .track))))
     unfolding walkedWords seatAt
     walk-written =
-        let reads = common-stations (putTrack-only words s stands) s in
+        let reads = common-stations (rule-putTrack words s stands) (putTrack-only words s stands) s in
         own-written (walkedWords words s to) words s _ (own-track words s stands)
         (seat-of (walkedWords words s to) s _ (track-back words s stands here) (target-putTrack words s stands s) (ap (λ x. x .word) (reads .state)) (reads .call) (reads .answer))
 

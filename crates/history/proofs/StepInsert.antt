@@ -12,6 +12,9 @@ use Rattle.words.specs.Layout.{stations}
 use Rattle.stations.specs.Counts.{countsAt}
 use Rattle.stations.specs.declared.counts.Counts.{Counts}
 use Rattle.points.specs.declared.point.Point.{Point}
+use Rattle.points.specs.declared.cut.Cut.{Cut}
+use Rattle.points.specs.Cut.{cutOf}
+use Rattle.words.specs.Rule.{ruleAt}
 use Rattle.points.specs.Word.{NONE}
 use Rattle.words.specs.Words.{more}
 use Rattle.stations.specs.Common.{leastSince}
@@ -31,7 +34,7 @@ use Rattle.trees.specs.Queue.{headOf}
 use Rattle.trees.specs.Store.{Store}
 use Rattle.trees.specs.Route.{OnRoute}
 use Rattle.trees.specs.Reads.{Leaf}
-use Rattle.trees.specs.Insert.{leafOf, cutFor, Ends, OtherPoint, insertRoot, insertHead, InsertMarks, Inserted}
+use Rattle.trees.specs.Insert.{leafOf, cutFor, Ends, insertRoot, insertHead, InsertMarks, Inserted}
 use Rattle.trees.specs.Below.{Marks, Passed, Grows}
 use Rattle.trees.proofs.ReadLaws.{cut-has, cut-reads}
 use Rattle.trees.proofs.ShapeLaws.{entries-held}
@@ -44,14 +47,14 @@ use Rattle.history.specs.View.{Seat, seatAt, marksIn}
 use Rattle.history.specs.Related.{recordOf, Busy, Related}
 use Rattle.history.proofs.Readings.{added-change, addedTable, changed-add, one-more}
 use Rattle.history.proofs.Effects.{movedCursor, insert-written, insert-same-rows}
-use Rattle.history.proofs.RelatedLaws.{more-is, related-is-open, changes-word, removals-word, counters-more, related-busy, related-taken}
+use Rattle.history.proofs.RelatedLaws.{related-rule, more-is, related-is-open, changes-word, removals-word, counters-more, related-busy, related-taken}
 use Rattle.history.proofs.Outcome.{Outcome, ends, leftAt, Beside, Next}
 use Rattle.history.proofs.OwnSeat.{least-same, least-seat, next-answered}
 use Rattle.history.proofs.OtherSeats.{says-insert, marking-insert, left-insert}
 use Rattle.history.proofs.RowWrites.{Holding, held-first}
 use Rattle.history.proofs.RowKinds.{kindAt}
 use Rattle.history.proofs.InsertMarks.{marks-inserted, mark-new, mark-old}
-use Rattle.history.proofs.InsertRows.{next-word, Finds, beside-finds, besideSite, room-beside, sound-beside, beside-writes, alone-finds, aloneSite, room-alone, sound-alone, alone-writes}
+use Rattle.history.proofs.InsertRows.{next-word, Finds, beside-finds, besideSite, room-beside, sound-beside, new-cut-parts, beside-writes, alone-finds, aloneSite, room-alone, sound-alone, alone-writes}
 
 -- ---- records
 
@@ -80,24 +83,24 @@ records-insert tree tree′ new held same holds r = (forth, back)
 -- ---- marks
 
 -- what an insert makes of the marks: no cut loses one, and the new one has those of its two records
-record Gains (words words′ : List ℕ) (tree : Option Tree) (new : Entry) (place : Option Leaf) (b : ℕ) : Type 0 where
+record Gains (words words′ : List ℕ) (tree : Option Tree) (new : Entry) (place : Option Leaf) (k : Cut) (b : ℕ) : Type 0 where
   grown : Grows (marksIn words) (marksIn words′) tree
-  marked : InsertMarks (marksIn words) (marksIn words′) tree new place b
+  marked : InsertMarks (marksIn words) (marksIn words′) tree new place k b
 
 -- ---- the relation after an insert
 
 -- the words after an insert by the station `own`, given what was read, what is written and what that makes of tree and queue
-next-inserted : {words : List ℕ} {t : Table} {h′ : Heap} {a b : ℕ} {new : Entry} (own : ℕ) → own < stations → (place : Option Leaf) (site : Site) → Sound t → Settled t → (r : Related words t)
+next-inserted : {words : List ℕ} {t : Table} {h′ : Heap} {k : Cut} {a b : ℕ} {new : Entry} (own : ℕ) → own < stations → (place : Option Leaf) (site : Site) → Sound t → Settled t → (r : Related words t)
     → new .added ≡ more (countsAt words .changes) → allChanges t < NONE → countOf (r .tree) < NONE
     → (leafOf place ≡ NONE → cutFor place b ≡ NONE) → site .at ≡ leafOf place → site .second ≡ cutFor place b
     → rootAfter site (countsAt words .root) ≡ insertRoot place a b (topOf (r .tree)) → headAfter site ≡ insertHead (r .heap) place a b
     → Holding (cursorsMoved (site .at) (site .second) stations (insertCounts words own site))
     (insertRows (cursorsMoved (site .at) (site .second) stations (insertCounts words own site)) site (new .added) (new .point) (new .curve)) (t .places) (t .limit) (t .scale) h′
-    → Inserted (t .places) (r .heap) h′ (r .tree) (r .queue) (allChanges t) (length (t .removals)) (leastSince words) new place a b
-    → Gains words (insertRows (cursorsMoved (site .at) (site .second) stations (insertCounts words own site)) site (new .added) (new .point) (new .curve)) (r .tree) new place b
+    → Inserted (t .places) (r .heap) h′ (r .tree) (r .queue) (allChanges t) (length (t .removals)) (leastSince words) new place k a b
+    → Gains words (insertRows (cursorsMoved (site .at) (site .second) stations (insertCounts words own site)) site (new .added) (new .point) (new .curve)) (r .tree) new place k b
     → Next r stations (insertWords words own site (new .point) (new .curve)) (addedTable t own (new .point) (new .curve))
 unfolding insertWords
-next-inserted {words} {t} {h′} {a} {b} {new} own mine place site sound settled r number below few still at second root head v w gains =
+next-inserted {words} {t} {h′} {k} {a} {b} {new} own mine place site sound settled r number below few still at second root head v w gains =
     rw (← number) (record { related = inserted; beside = beside })
   where
     base : List ℕ
@@ -173,7 +176,12 @@ module _ {words : List ℕ} {t : Table} (r : Related words t) (sound : Sound t) 
   related-room : ¬ (taken t ≡ t .places) → countOf (r .tree) + (length (t .removals) - leastSince words) < t .places
   related-room n = omega (arith, n, sound .bounded, related-taken r sound, taken-is words, awaiting-is words, r .counted .held, r .counted .removals)
 
--- an add has marked its way down to the leaf where its walk ended
+-- the leaf where the walk ended, if there is one, has another point
+abbrev pub OtherPoint : Point → Option Leaf → Type 0
+OtherPoint p none = Unit {0}
+OtherPoint p (some l) = ¬ (p ≡ l .entry .point)
+
+-- an add has marked its way down to that leaf
 abbrev pub PassedTo : Marks → Option Tree → Point → Option Leaf → Type 0
 PassedTo marks tree p none = Unit {0}
 PassedTo marks tree p (some l) = Passed marks tree p (l .row)
@@ -200,7 +208,7 @@ module _ {words : List ℕ} {t : Table} {s i : ℕ} {p : Point} {c : ℕ} (sound
       (sym (finished-change t s (add p c) (answer 1 p c 0) (add-new t s p c free left place-left) (added-change p c)
       ∙ ap (λ (u : Table). withStations u (put (t .stations) s (waiting (answer 1 p c 0)))) (changed-add t s p c)))
       (next-after v (next-answered s l (v .related) (given 1 p c 0) (omega (arith, removals-word r sound))
-      (answer-of (given 1 p c 0) (record { code = refl; point = busy .ranged; curve = curve-tells c (busy .fits) .1; square = omega arith }))))))
+      (answer-of (t .scale .rule) (given 1 p c 0) (record { code = refl; point = busy .ranged; curve = curve-tells c (busy .fits) .1; square = omega arith }))))))
 
   abbrev entry : Entry
   entry = record { point = p; curve = c; added = more (countsAt words .changes) }
@@ -218,19 +226,19 @@ module _ {words : List ℕ} {t : Table} {s i : ℕ} {p : Point} {c : ℕ} (sound
   few : countOf (r .tree) < NONE
   few = omega (arith, related-room r sound place-left, related-is-open r .places-most)
 
-  -- into the empty tree
+  -- into the empty tree; there is no cut, and any stands for it
   alone-outcome : {n : ℕ} → r .tree ≡ none → Outcome r s (add p c) none n (insertOf words (2 * t .places) s (callAt words s) NONE)
   unfolding rootAfter headAfter
   alone-outcome e =
       let h : Heap = r .heap in
       let a : ℕ = headOf (r .queue) in
       let f = alone-finds (subst (λ (x : Option Tree). Store (t .places) h x (r .queue) (allChanges t) (length (t .removals)) (leastSince words)) e (r .store)) (omega (arith, related-room r sound place-left)) in
-      let w = alone-writes words (t .places) h a (f .0) (r .reads) (r .store .fits) entry (busy .ranged) (busy .fits) (begun (aloneSite h a)) in
-      let v : Inserted (t .places) h (w .0) (r .tree) (r .queue) (allChanges t) (length (t .removals)) (leastSince words) entry none a (nextOf (h a)) =
-      insert (w .0) entry (r .tree) none (r .store) (related-room r sound place-left) e tt (busy .ranged) entry-number (w .2) in
-      inserted-outcome NONE (aloneSite h a) (room-alone words (t .places) h a (f .0) (r .reads) (r .store .fits) (r .counted .head))
+      let w = alone-writes words (t .places) h a (f .0) (r .reads) (r .store .fits) entry (busy .ranged) (busy .fits) (begun (aloneSite (ruleAt words) h a)) in
+      let v : Inserted (t .places) h (w .0) (r .tree) (r .queue) (allChanges t) (length (t .removals)) (leastSince words) entry none (cutOf (ruleAt words) p p) a (nextOf (h a)) =
+      insert (w .0) (cutOf (ruleAt words) p p) entry (r .tree) none (r .store) (related-room r sound place-left) e tt entry-number (w .2) in
+      inserted-outcome NONE (aloneSite (ruleAt words) h a) (room-alone words (t .places) h a (f .0) (r .reads) (r .store .fits) (r .counted .head))
       (sound-alone words (t .places) h a (f .0) (r .reads) (r .store .fits) (f .1))
-      (next-inserted s l none (aloneSite h a) sound settled r refl (omega (arith, changes-word r sound)) few (λ d. refl) refl refl refl (next-word (h a)) (w .1) v
+      (next-inserted s l none (aloneSite (ruleAt words) h a) sound settled r refl (omega (arith, changes-word r sound)) few (λ d. refl) refl refl refl (next-word (h a)) (w .1) v
       (record { grown = λ x m side q g. absurd (rw e at m); marked = tt }))
 
   -- beside a leaf
@@ -241,12 +249,13 @@ module _ {words : List ℕ} {t : Table} {s i : ℕ} {p : Point} {c : ℕ} (sound
       let h : Heap = r .heap in
       let a : ℕ = headOf (r .queue) in
       let b : ℕ = nextOf (h a) in
+      let k : Cut = cutOf (ruleAt words) p (leaf .entry .point) in
       let f : Finds (t .places) h a b leaf = finds (r .tree) (r .store) (related-room r sound place-left) on in
       let site : Site = besideSite words (2 * t .places) h a b leaf in
       let there : ¬ (leaf .row ≡ NONE) = λ d. omega (arith, d, f .leaf-row, r .store .fits) in
-      let w = beside-writes words f (r .reads) (r .store .fits) entry (busy .ranged) (busy .fits) (begun site) in
-      let v : Inserted (t .places) h (w .0) (r .tree) (r .queue) (allChanges t) (length (t .removals)) (leastSince words) entry (some leaf) a b =
-      insert (w .0) entry (r .tree) (some leaf) (r .store) (related-room r sound place-left) (on, reads) other (busy .ranged) entry-number (w .2) in
+      let w = beside-writes words f (r .reads) (r .store .fits) entry (related-rule r) (rw (related-rule r) (busy .ranged)) (busy .fits) (begun site) in
+      let v : Inserted (t .places) h (w .0) (r .tree) (r .queue) (allChanges t) (length (t .removals)) (leastSince words) entry (some leaf) k a b =
+      insert (w .0) k entry (r .tree) (some leaf) (r .store) (related-room r sound place-left) (on, reads) (new-cut-parts words f (r .reads) (r .store .fits) p (rw (related-rule r) (busy .ranged)) other) entry-number (w .2) in
       inserted-outcome (leaf .row) site (room-beside words f (r .reads) (r .store .fits) (r .counted .head)) (sound-beside words f (r .reads) (r .store .fits))
       (next-inserted s l (some leaf) site sound settled r refl (omega (arith, changes-word r sound)) few (λ d. absurd (there d)) refl refl
       (rw (ne-eqb (leaf .row) NONE there, r .counted .root)) (rw (ne-eqb (leaf .row) NONE there) (next-word (h b))) (w .1) v (gains f))
@@ -254,7 +263,7 @@ module _ {words : List ℕ} {t : Table} {s i : ℕ} {p : Point} {c : ℕ} (sound
       gains : {a b : ℕ} (f : Finds (t .places) (r .heap) a b leaf)
           → Gains words
           (insertRows (cursorsMoved (leaf .row) b stations (insertCounts words s (besideSite words (2 * t .places) (r .heap) a b leaf))) (besideSite words (2 * t .places) (r .heap) a b leaf) (entry .added) p c)
-          (r .tree) entry (some leaf) b
+          (r .tree) entry (some leaf) (cutOf (ruleAt words) p (leaf .entry .point)) b
       gains {a} {b} f =
           let site : Site = besideSite words (2 * t .places) (r .heap) a b leaf in
           let base : List ℕ = cursorsMoved (leaf .row) b stations (insertCounts words s site) in

@@ -13,7 +13,9 @@ use Rattle.stations.specs.Track.{trackAt}
 use Rattle.points.specs.declared.point.Point.{Point}
 use Rattle.points.specs.declared.scale.Scale.{Scale}
 use Rattle.points.specs.Scale.{factorsIn}
-use Rattle.points.specs.Point.{inRange}
+use Rattle.points.specs.Number.{inRangeBy}
+use Rattle.points.proofs.NumberLaws.{in-range-by}
+use Rattle.words.specs.Rule.{ruleAt}
 use Rattle.points.specs.Word.{NONE}
 use Rattle.stations.specs.declared.answer.Answer.{Answer as WordAnswer}
 use Rattle.stations.specs.Common.{leastSince}
@@ -40,7 +42,7 @@ use Rattle.calls.specs.Search.{seek, aimAt, progressAt, isFinished, foundAnswer
 use Rattle.history.specs.Index.{answerOf}
 use Rattle.history.specs.View.{Seat, seatAt, progressOf, answeredSeat}
 use Rattle.history.specs.Related.{recordOf, Busy, Searching, Waits, Says, Related}
-use Rattle.history.proofs.RelatedLaws.{related-is-open, removals-word}
+use Rattle.history.proofs.RelatedLaws.{related-is-open, related-rule, removals-word}
 use Rattle.history.proofs.Effects.{answer-written, answer-rows, kept-written, kept-rows}
 use Rattle.history.proofs.Outcome.{LeftSays, Left, Aside, Outcome, goesOn, ends, beside-still, Next}
 use Rattle.history.proofs.ProgressWords.{viewOf}
@@ -77,7 +79,7 @@ module _ {words : List ℕ} {t : Table} {s i : ℕ} {p : Point} {a : Answer} (h 
 
   -- what holds of the progress of the call's search before its moves and after them
   abbrev Sought : WordProgress → ℕ → Type 0
-  Sought g m = Seeks aim (trackAt words s .since) (λ e. List·Memᴰ e entries) (r .tree) (r .queue) (allChanges t) (length (t .removals)) g m
+  Sought g m = Seeks (ruleAt words) aim (trackAt words s .since) (λ e. List·Memᴰ e entries) (r .tree) (r .queue) (allChanges t) (length (t .removals)) g m
 
   -- the search of one scale and target as that of others that are the same, with the moves left
   abbrev Sighted : Scale → Point → Progress → ℕ → Type 0
@@ -91,7 +93,7 @@ module _ {words : List ℕ} {t : Table} {s i : ℕ} {p : Point} {a : Answer} (h 
   begins n f =
       let y = subst (λ (c : Scale). Sighted c p (progressOf (seatAt words s)) n) (sym scale-is) (work .search, f) in
       let z = subst (λ (x : Point). Sighted (scaleAt words) x (progressOf (seatAt words s)) n) (sym (busy .point)) y in
-      record { fit = record { sound = refl; phase = busy .phase; best = busy .kept }; search = z .0; left = z .1 }
+      record { fit = record { sound = refl; phase = busy .phase; best = rw (related-rule r) (busy .kept) }; search = z .0; left = z .1 }
 
   module _ (g : WordProgress) (m : ℕ) (v : Sought g m) where
     -- it goes on
@@ -113,19 +115,19 @@ module _ {words : List ℕ} {t : Table} {s i : ℕ} {p : Point} {a : Answer} (h 
       ranged = busy .ranged;
       fits = busy .fits;
       asof = busy .asof;
-      kept = v .fit .best;
+      kept = rw (related-rule r) at (v .fit .best);
       phase = v .fit .phase;
       works = kept-works;
     }
 
     kept-seat : seatAt (keptWords words s g) s ≡ keptSeat (seatAt words s) g
     unfolding seatAt
-    kept-seat = kept-written words (t .places) (t .limit) (t .scale) (r .opened) s l g (v .fit .best) .seated s l ∙ seat-put-same (λ u. seatAt words u) s (keptSeat (seatAt words s) g)
+    kept-seat = kept-written words (t .places) (t .limit) (t .scale) (r .opened) s l g (in-range-by (ruleAt words) (g .best .point) (v .fit .best)) .seated s l ∙ seat-put-same (λ u. seatAt words u) s (keptSeat (seatAt words s) g)
 
     kept-related : Related (keptWords words s g) t
     unfolding seatAt
     kept-related =
-        related-seat words (keptWords words s g) t (t .stations) s (keptSeat (seatAt words s) g) r (kept-written words (t .places) (t .limit) (t .scale) (r .opened) s l g (v .fit .best))
+        related-seat words (keptWords words s g) t (t .stations) s (keptSeat (seatAt words s) g) r (kept-written words (t .places) (t .limit) (t .scale) (r .opened) s l g (in-range-by (ruleAt words) (g .best .point) (v .fit .best)))
         (kept-rows words (t .places) (t .limit) (t .scale) (r .opened) s l g) (least-since words s l) (λ u n. refl)
         (subst (λ (x : Station). Says t (r .tree) (r .queue) (keptSeat (seatAt words s) g) x) (sym q) kept-busy) (rw q tt)
 
@@ -143,7 +145,7 @@ module _ {words : List ℕ} {t : Table} {s i : ℕ} {p : Point} {a : Answer} (h 
     kept-aside = record {
       tree = refl;
       queue = refl;
-      others = λ u k n. kept-written words (t .places) (t .limit) (t .scale) (r .opened) s l g (v .fit .best) .seated u k ∙ seat-put-other (λ z. seatAt words z) s u (keptSeat (seatAt words s) g) n;
+      others = λ u k n. kept-written words (t .places) (t .limit) (t .scale) (r .opened) s l g (in-range-by (ruleAt words) (g .best .point) (v .fit .best)) .seated u k ∙ seat-put-other (λ z. seatAt words z) s u (keptSeat (seatAt words s) g) n;
     }
 
     -- it ends
@@ -151,15 +153,15 @@ module _ {words : List ℕ} {t : Table} {s i : ℕ} {p : Point} {a : Answer} (h 
       nearest-found : Nearest (choiceOf (scaleAt words) (callAt words s .point)) (λ e. List·Memᴰ e entries) (viewOf g .best)
       nearest-found = search-finish (r .tree) (r .store) (v .search) f
 
-      target-ranged : inRange (callAt words s .point) ≡ true
+      target-ranged : inRangeBy (t .scale .rule) (callAt words s .point) ≡ true
       unfolding seatAt
-      target-ranged = ap inRange (busy .point) ∙ busy .ranged
+      target-ranged = ap (inRangeBy (t .scale .rule)) (busy .point) ∙ busy .ranged
 
       scale-ranged : factorsIn (scaleAt words) ≡ true
       scale-ranged = ap factorsIn scale-is ∙ related-is-open r .factors
 
-      found-ranged : answerSound (foundAnswer aim (g .best)) ≡ true
-      found-ranged = found-sound aim (g .best) entries nearest-found scale-ranged target-ranged (v .fit .best) (work .ranged)
+      found-ranged : answerSound (t .scale .rule) (foundAnswer aim (g .best)) ≡ true
+      found-ranged = found-sound aim (g .best) entries nearest-found (t .scale .rule) (ap (λ (c : Scale). c .rule) scale-is) scale-ranged target-ranged (rw (related-rule r) at (v .fit .best)) (work .ranged)
 
       -- the answer that was set down
       found-set : answerOf (foundAnswer aim (g .best)) ≡ a
@@ -174,7 +176,7 @@ module _ {words : List ℕ} {t : Table} {s i : ℕ} {p : Point} {a : Answer} (h 
       least-none =
           omega (arith, least-removals words, r .counted .removals, removals-word r h)
 
-      ended-waits : Waits (answeredSeat (seatAt words s) (foundAnswer aim (g .best))) a
+      ended-waits : Waits (t .scale .rule) (answeredSeat (seatAt words s) (foundAnswer aim (g .best))) a
       ended-waits = record { state = refl; sound = found-ranged; answer = found-set; quiet = record { cursor = refl; phase = refl; since = refl; missed = refl } }
 
       ended-related : Related (answeredWords words s (foundAnswer aim (g .best))) (finished t s (nearest p) (some a))
@@ -182,7 +184,7 @@ module _ {words : List ℕ} {t : Table} {s i : ℕ} {p : Point} {a : Answer} (h 
       ended-related =
           let x : WordAnswer = foundAnswer aim (g .best) in
           related-seat words (answeredWords words s x) t (put (t .stations) s (waiting a)) s (answeredSeat (seatAt words s) x) r
-          (answer-written words (t .places) (t .limit) (t .scale) (r .opened) s l x found-ranged) (answer-rows words (t .places) (t .limit) (t .scale) (r .opened) s l x) least-none
+          (answer-written words (t .places) (t .limit) (t .scale) (r .opened) s l x (t .scale .rule) found-ranged) (answer-rows words (t .places) (t .limit) (t .scale) (r .opened) s l x) least-none
           (λ u n. put-other (t .stations) s u (waiting a) n)
           (subst (λ (y : Station). Says t (r .tree) (r .queue) (answeredSeat (seatAt words s) x) y) (sym (put-same (t .stations) s (waiting a))) ended-waits)
           (rw (put-same (t .stations) s (waiting a)) tt)
@@ -191,7 +193,7 @@ module _ {words : List ℕ} {t : Table} {s i : ℕ} {p : Point} {a : Answer} (h 
       ended-next : Next r s (answeredWords words s (foundAnswer aim (g .best))) (finished t s (nearest p) (some a))
       unfolding ended-related related-seat related-written
       ended-next =
-          let w = answer-written words (t .places) (t .limit) (t .scale) (r .opened) s l (foundAnswer aim (g .best)) found-ranged in
+          let w = answer-written words (t .places) (t .limit) (t .scale) (r .opened) s l (foundAnswer aim (g .best)) (t .scale .rule) found-ranged in
           record { related = ended-related; beside = beside-still r ended-related s refl refl (w .counted) (λ u k d. w .seated u k ∙ seat-put-other (λ z. seatAt words z) s u _ d) }
 
     -- what the step writes after its moves

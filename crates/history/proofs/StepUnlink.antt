@@ -17,7 +17,8 @@ use Rattle.stations.specs.Counts.{countsAt}
 use Rattle.stations.specs.declared.counts.Counts.{Counts}
 use Rattle.stations.specs.Track.{trackAt}
 use Rattle.points.specs.declared.point.Point.{Point}
-use Rattle.points.specs.Point.{inRange}
+use Rattle.points.specs.Number.{inRangeBy}
+use Rattle.words.specs.Rule.{ruleAt}
 use Rattle.points.specs.Word.{NONE}
 use Rattle.points.proofs.Tests.{and-r, and-i}
 use Rattle.stations.specs.declared.answer.Answer.{Answer as Given}
@@ -155,11 +156,11 @@ module _ (words : List ℕ) (t : Table) (s i : ℕ) (p : Point) (at parent : ℕ
   unfolding seatAt
   asked = own .point
 
-  given-sound : answerSound given ≡ true
+  given-sound : answerSound (t .scale .rule) given ≡ true
   given-sound =
-      let k = sym (in-rows-leaf rows parent (e .added) (e .point) (e .curve)) ∙ rw reads at (reads-in words rows (R .heap) at (R .store .inside at has) (R .reads)) in
-      let c = curve-tells (e .curve) (and-r (linkIn rows parent && inRange (e .point)) (curveIn (e .curve)) k) in
-      answer-of given (record { code = refl; point = own .ranged; curve = c .1; square = omega arith })
+      let k = sym (in-rows-leaf (ruleAt words) rows parent (e .added) (e .point) (e .curve)) ∙ rw reads at (reads-in words rows (R .heap) at (R .store .inside at has) (R .reads)) in
+      let c = curve-tells (e .curve) (and-r (linkIn rows parent && inRangeBy (ruleAt words) (e .point)) (curveIn (e .curve)) k) in
+      answer-of (t .scale .rule) given (record { code = refl; point = own .ranged; curve = c .1; square = omega arith })
 
   abbrev words₃ : List ℕ
   words₃ = answeredWords words₂ s given
@@ -168,7 +169,7 @@ module _ (words : List ℕ) (t : Table) (s i : ℕ) (p : Point) (at parent : ℕ
   opened₂ = counted₂ .opened ∙ R .opened
 
   answered : Written words₂ words₃ (countsAt words₂) (counterAt words₂) (seatPut (λ u. seatAt words₂ u) s (answeredSeat (seatAt words₂ s) given))
-  answered = answer-written words₂ (t .places) (t .limit) (t .scale) opened₂ s below given given-sound
+  answered = answer-written words₂ (t .places) (t .limit) (t .scale) opened₂ s below given (t .scale .rule) given-sound
 
   counts-are : countsAt words₃ ≡ counts
   counts-are = answered .counted ∙ counted₂ .counted

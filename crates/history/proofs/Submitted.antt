@@ -11,7 +11,8 @@ use borrow.Author.Tests.{leb-true}
 use Rattle.words.specs.Layout.{stations}
 use Rattle.stations.specs.Counts.{countsAt}
 use Rattle.points.specs.declared.point.Point.{Point}
-use Rattle.points.specs.Point.{inRange}
+use Rattle.points.specs.Number.{inRangeBy}
+use Rattle.points.proofs.NumberLaws.{in-range-by}
 use Rattle.points.specs.Word.{NONE}
 use Rattle.stations.specs.Common.{leastSince}
 use Rattle.stations.proofs.SoundLaws.{noBest-point}
@@ -53,7 +54,7 @@ begunSeat words s kind p c = record {
   answer = seatAt words s .answer;
 }
 
-module _ {words : List ℕ} {t : Table} (s : ℕ) (p : Point) (c : ℕ) (h : Sound t) (r : Related words t) (ranged : inRange p ≡ true) where
+module _ {words : List ℕ} {t : Table} (s : ℕ) (p : Point) (c : ℕ) (h : Sound t) (r : Related words t) (ranged : inRangeBy (t .scale .rule) p ≡ true) where
   -- a walk begins at the root
   walk-begun : (kind : ℕ) → sinceFor (countsAt words .removals) kind ≡ NONE → Walks (r .tree) (begunSeat words s kind p c) p none
   unfolding callFor
@@ -85,7 +86,7 @@ module _ {words : List ℕ} {t : Table} (s : ℕ) (p : Point) (c : ℕ) (h : Sou
     ranged = rw e ranged;
     fits = fits;
     asof = omega (arith, word-changes r);
-    kept = noBest-point;
+    kept = noBest-point (t .scale .rule);
     phase = omega arith;
     works = works;
   }
@@ -121,11 +122,11 @@ since-begun removals kind l = go (eqb kind 4)
     go false = l
 
 -- The slice with the call written is related to the table with the call entered.
-pub related-submitted : {words : List ℕ} {t : Table} (s kind : ℕ) (p : Point) (c : ℕ) → Sound t → Related words t → s < stations → kindInRange kind ≡ true → inRange p ≡ true → curveFits kind c ≡ true
+pub related-submitted : {words : List ℕ} {t : Table} (s kind : ℕ) (p : Point) (c : ℕ) → Sound t → Related words t → s < stations → kindInRange kind ≡ true → inRangeBy (t .scale .rule) p ≡ true → curveFits kind c ≡ true
     → Related (submittedWords words s kind p c) (enter t s (callOf kind p c))
 unfolding enter seatAt kindInRange
 related-submitted {words} {t} s kind p c h r l k ranged fits =
-    let w = submit-written words (t .places) (t .limit) (t .scale) (r .opened) s l kind p c ranged in
+    let w = submit-written words (t .places) (t .limit) (t .scale) (r .opened) s l kind p c (in-range-by (t .scale .rule) p ranged) in
     let x : Seat = begunSeat words s kind p c in
     let low : leastSince words ≤ sinceFor (countsAt words .removals) kind =
     omega (arith, least-removals words, since-begun (countsAt words .removals) kind (omega (arith, word-removals r, removals-word r h))) in

@@ -25,7 +25,7 @@ use Rattle.calls.specs.Step.{recordsSound, workOf, askUnfinished, stepOf}
 use Rattle.calls.specs.Withdraw.{withdrawnAnswer, withdrawOf}
 use Rattle.stations.proofs.OpeningLaws.{rows-most, rowsIn-agree}
 use Rattle.history.specs.Touch.{AgreeOn, Leaves, pickRows, searchRows, walkRows, stepRows}
-use Rattle.history.proofs.TouchLaws.{opened-same, leaves-nothing, counts-same}
+use Rattle.history.proofs.TouchLaws.{rule-same, opened-same, leaves-nothing, counts-same}
 use Rattle.history.proofs.TouchRows.{below-there, below-few}
 use Rattle.history.proofs.TouchReply.{Alike, alike-done, alike-ask, alike-rows, leaves-answered}
 use Rattle.history.proofs.TouchWalk.{walk-alike}
@@ -64,7 +64,7 @@ module _ {v w : List ℕ} {s : ℕ} {rows : List ℕ} (a : AgreeOn v w s rows) w
   unfolding recordsSound
   sound-same =
       ap₂ _&&_ (ap (commonSound v) rows-same ∙ commonSound-agree (a .common) (rowsIn w))
-      (ap₂ callSound (callAt-agree s (a .station)) (ap (λ (counts : Counts). counts .changes) (counts-same a)))
+      (λ i. callSound (rule-same a i) (callAt-agree s (a .station) i) (counts-same a i .changes))
 
   -- the questions about an unfinished call
   unfinished-alike : {r q : Reply} → (s < stations → Alike v w r q s rows) → Alike v w (askUnfinished v s r) (askUnfinished w s q) s rows

@@ -20,7 +20,7 @@ use Rattle.calls.specs.declared.insert.Site.{Site}
 use Rattle.calls.specs.Link.{nextOf, parentOf, linksTo, isLeaf, withParent, replaced, leafPoint}
 use Rattle.calls.specs.Insert.{siteAt, siteSound, newSide, putCut, insertRows, insertCounts, cursorsMoved, insertWords, insertTo, insertOf, countInserted, cursorTo, cursorMoved}
 use Rattle.history.specs.Touch.{AgreeOn, Leaves, siteRows, rowsBelow}
-use Rattle.history.proofs.TouchLaws.{leaves-nothing, counts-same, track-same, leaves-counts, leaves-counted, leaves-track}
+use Rattle.history.proofs.TouchLaws.{rule-same, leaves-nothing, counts-same, track-same, leaves-counts, leaves-counted, leaves-track}
 use Rattle.history.proofs.TouchRows.{the-first, the-second, the-third, the-fourth, row-alike, leaves-below, leaves-begun, none-idle, bad-idle}
 use Rattle.history.proofs.TouchReply.{Alike, alike-done, alike-ask, leaves-answered}
 
@@ -37,7 +37,7 @@ site-same {v} {w} {s} rows at a =
     let leaf : rowAt v rows at ≡ rowAt w rows at = row-alike rows a at at the-first refl in
     let over = ap parentOf leaf in
     let cut = row-alike rows a _ _ the-fourth over in
-    λ i. record { first = first i; front = front i; second = second i; behind = behind i; at = at; leaf = leaf i; over = over i; cut = cut i }
+    λ i. record { rule = rule-same a i; first = first i; front = front i; second = second i; behind = behind i; at = at; leaf = leaf i; over = over i; cut = cut i }
 
 -- a site in an index of so many rows: from there on there is no row, and where the walk ended at none there is no second one
 record InSite (rows : ℕ) (site : Site) : Type 0 where

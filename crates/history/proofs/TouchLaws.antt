@@ -28,6 +28,8 @@ use Rattle.stations.proofs.CounterLaws.{counted-only, counted-agree}
 use Rattle.stations.proofs.TrackLaws.{track-agree, putTrack-only, putTrack-agree}
 use Rattle.stations.proofs.TargetLaws.{targetAt-agree, putTarget-only, putTarget-agree}
 use Rattle.stations.proofs.StationLaws.{putState-only, putState-agree, putBest-only, putBest-agree, putCall-only, putCall-agree, putAnswer-only, putAnswer-agree}
+use Rattle.words.specs.Rule.{ruleAt}
+use Rattle.words.proofs.RuleLaws.{rule-agree}
 use Rattle.rows.specs.declared.row.Row.{Row}
 use Rattle.rows.specs.Row.{rowAt, putRow}
 use Rattle.rows.specs.Grades.{admits, markToward, beginGrades}
@@ -50,11 +52,14 @@ module _ {v w : List ℕ} {s : ℕ} {rows : List ℕ} (a : AgreeOn v w s rows) w
   pub scale-same : scaleAt v ≡ scaleAt w
   scale-same = scale-agree (a .common)
 
+  pub rule-same : ruleAt v ≡ ruleAt w
+  rule-same = rule-agree (a .common)
+
   pub opened-same : openedIn v ≡ openedIn w
   opened-same = openedIn-agree (a .common)
 
   pub row-same : (count r : ℕ) → List·Memᴰ r rows → rowAt v count r ≡ rowAt w count r
-  row-same count r m = rowAt-agree count r (a .row r m)
+  row-same count r m = rowAt-agree count r rule-same (a .row r m)
 
   pub admits-same : (r : ℕ) (side : Bool) (k : ℕ) → k < 128 → List·Memᴰ r rows → admits v r side k ≡ admits w r side k
   admits-same r side k h m = admits-agree r side k h (a .row r m)

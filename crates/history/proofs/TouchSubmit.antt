@@ -8,7 +8,8 @@ use lib.Dec.{eqb, ltb}
 use Rattle.words.specs.Layout.{stations}
 use Rattle.stations.specs.declared.counts.Counts.{Counts}
 use Rattle.points.specs.declared.point.Point.{Point}
-use Rattle.points.specs.Point.{inRange}
+use Rattle.points.specs.Number.{inRangeBy}
+use Rattle.words.specs.Rule.{ruleAt}
 use Rattle.stations.specs.Target.{putTarget}
 use Rattle.stations.specs.Common.{openedIn, isOpened}
 use Rattle.stations.specs.Station.{isIdle, stateAt}
@@ -16,7 +17,7 @@ use Rattle.stations.proofs.RecordLaws.{stateAt-agree}
 use Rattle.calls.specs.Submit.{curveFits, callFor, begunWords, aimedWords, submittedWords, submitOf, begunTrack}
 use Rattle.stations.specs.Call.{kindIn}
 use Rattle.history.specs.Touch.{AgreeOn, Leaves}
-use Rattle.history.proofs.TouchLaws.{opened-same, leaves-nothing, leaves-state, leaves-call, leaves-target, counts-same, leaves-track}
+use Rattle.history.proofs.TouchLaws.{rule-same, opened-same, leaves-nothing, leaves-state, leaves-call, leaves-target, counts-same, leaves-track}
 use Rattle.history.proofs.TouchReply.{Alike, alike-done, alike-ask}
 
 module _ {v w : List ℕ} {s : ℕ} {rows : List ℕ} where
@@ -51,7 +52,7 @@ module _ {v w : List ℕ} {s : ℕ} {rows : List ℕ} where
       (λ o. alike-ask a (ltb s stations) (ltb s stations) 5 refl
       (λ l. alike-ask a (isIdle (stateAt v s)) (isIdle (stateAt w s)) 6 (ap isIdle (stateAt-agree s (a .station)))
       (λ i. alike-ask a (kindIn kind) (kindIn kind) 7 refl
-      (λ k. alike-ask a (inRange p) (inRange p) 8 refl
+      (λ k. alike-ask a (inRangeBy (ruleAt v) p) (inRangeBy (ruleAt w) p) 8 (ap (λ k. inRangeBy k p) (rule-same a))
       (λ r. alike-ask a (curveFits kind c) (curveFits kind c) 9 refl (λ f. alike-done (submitted-leaves a kind p c)))))))
 
 -- Rules 5.1, of a submission: the same result, the slices agreeing there again, and every other word kept

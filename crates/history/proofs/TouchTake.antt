@@ -11,12 +11,12 @@ use Rattle.calls.specs.declared.take.Taking.the-variants.{Refused as Refusal, G
 use Rattle.stations.specs.Common.{isOpened}
 use Rattle.calls.specs.Take.{takingOf, takeOf, emptiedWords, takeWords}
 use Rattle.history.specs.Touch.{AgreeOn, Leaves}
-use Rattle.history.proofs.TouchLaws.{opened-same, leaves-nothing, leaves-state}
+use Rattle.history.proofs.TouchLaws.{rule-same, opened-same, leaves-nothing, leaves-state}
 
 module _ {v w : List ℕ} {s : ℕ} {rows : List ℕ} (a : AgreeOn v w s rows) where
   take-same : takeOf v s ≡ takeOf w s
   unfolding takeOf
-  take-same = λ i. cond (isOpened (opened-same a i)) (cond (ltb s stations) (takingOf (waitingAt-agree s (a .station) i)) (Refusal 5)) (Refusal 4)
+  take-same = λ i. cond (isOpened (opened-same a i)) (cond (ltb s stations) (takingOf (waitingAt-agree s (rule-same a) (a .station) i)) (Refusal 5)) (Refusal 4)
 
   taken-leaves : (x : Taking) → Leaves v w (emptiedWords v s x) (emptiedWords w s x) s rows
   taken-leaves (Refusal number) = leaves-nothing a

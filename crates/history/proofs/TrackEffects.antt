@@ -17,10 +17,11 @@ use Rattle.stations.specs.Common.{openedIn}
 use Rattle.stations.specs.Counts.{countsAt}
 use Rattle.stations.specs.Counter.{counterAt}
 use Rattle.stations.specs.Station.{hasStation}
+use Rattle.words.specs.Rule.{ruleAt}
 use Rattle.stations.specs.Target.{targetAt}
 use Rattle.stations.specs.Track.{trackAt, putTrack}
 use Rattle.stations.proofs.TrackLaws.{track-back, track-other, putTrack-only}
-use Rattle.stations.proofs.FieldLaws.{opened-putTrack, counts-putTrack, counter-putTrack, target-putTrack}
+use Rattle.stations.proofs.FieldLaws.{rule-putTrack, opened-putTrack, counts-putTrack, counter-putTrack, target-putTrack}
 use Rattle.table.specs.Table.{put}
 use Rattle.table.proofs.Stations.{put-same, put-other}
 use Rattle.calls.proofs.ChangeLaws.{Counting}
@@ -32,6 +33,7 @@ use Rattle.history.proofs.Frame.{seat-of, common-stations, common-rows}
 -- v is w with the track of station n moved
 pub record MovedAt (f : Point → Track → Track) (v w : List ℕ) (n : ℕ) : Type 0 where
   pub only : OnlyIn v w inCommon
+  pub rule : ruleAt v ≡ ruleAt w
   pub opened : openedIn v ≡ openedIn w
   pub counts : countsAt v ≡ countsAt w
   pub counters : (s : ℕ) → counterAt v s ≡ counterAt w s
@@ -42,6 +44,7 @@ pub record MovedAt (f : Point → Track → Track) (v w : List ℕ) (n : ℕ) : 
 -- with the tracks of the first n stations moved
 pub record Moved (f : Point → Track → Track) (v w : List ℕ) (n : ℕ) : Type 0 where
   pub only : OnlyIn v w inCommon
+  pub rule : ruleAt v ≡ ruleAt w
   pub opened : openedIn v ≡ openedIn w
   pub counts : countsAt v ≡ countsAt w
   pub counters : (s : ℕ) → counterAt v s ≡ counterAt w s
@@ -54,6 +57,7 @@ moved-at f w n here =
     let track : Track = f (targetAt w n) (trackAt w n) in
     record {
       only = putTrack-only w n track;
+      rule = rule-putTrack w n track;
       opened = opened-putTrack w n track;
       counts = counts-putTrack w n track;
       counters = counter-putTrack w n track;
@@ -63,11 +67,12 @@ moved-at f w n here =
     }
 
 pub moved-none : (f : Point → Track → Track) (w : List ℕ) → Moved f w w 0
-moved-none f w = record { only = only-none w inCommon; opened = refl; counts = refl; counters = λ s. refl; targets = λ s. refl; moved = λ s h. absurd (omega arith); others = λ s l. refl }
+moved-none f w = record { only = only-none w inCommon; rule = refl; opened = refl; counts = refl; counters = λ s. refl; targets = λ s. refl; moved = λ s h. absurd (omega arith); others = λ s l. refl }
 
 pub moved-next : {f : Point → Track → Track} {u v w : List ℕ} {n : ℕ} → MovedAt f u v n → Moved f v w n → Moved f u w (suc n)
 moved-next {f} {u} {v} {w} {n} a m = record {
   only = only-trans (a .only) (m .only);
+  rule = a .rule ∙ m .rule;
   opened = a .opened ∙ m .opened;
   counts = a .counts ∙ m .counts;
   counters = λ s. a .counters s ∙ m .counters s;
@@ -96,9 +101,9 @@ module _ (f : Point → Track → Track) (v u w : List ℕ) (counts : Counts) (n
     counted = m .counts ∙ c .counted;
     counters = λ s. m .counters s ∙ counted-one s (ℕ-discrete s n);
     seated = λ s l.
-        let reads = common-stations both-only s in
+        let reads = common-stations (m .rule ∙ c .rule) both-only s in
         seat-of v s _ (m .moved s l ∙ ap₂ f (c .targets s) (c .tracks s)) (m .targets s ∙ c .targets s) (ap (λ t. t .word) (reads .state)) (reads .call) (reads .answer);
   }
 
   pub moved-rows : (rows : ℕ) → SameRows w v rows
-  moved-rows rows = common-rows both-only rows
+  moved-rows rows = common-rows (m .rule ∙ c .rule) both-only rows

@@ -15,6 +15,7 @@ use Rattle.points.specs.Word.{NONE}
 use Rattle.words.specs.Range.{linkIn}
 use Rattle.rows.specs.Row.{putRow, inRows}
 use Rattle.stations.specs.Common.{openedIn, Opened}
+use Rattle.stations.proofs.OpeningLaws.{opened-rule}
 use Rattle.words.proofs.RangeLaws.{link-none, link-row}
 use Rattle.rows.proofs.RowLaws.{in-rows-spare}
 use Rattle.trees.specs.Row.{spareRow, removedRow, leafRow, Heap, setParent, setNext, replaceChild, WroteAt}
@@ -57,8 +58,8 @@ module _ (words : List ℕ) {places limit : ℕ} {scale : Scale} {h : Heap} {t :
   last = unlink-reads t st m .tail
 
   -- the row x, as it was read, is in range
-  in-range : (x : ℕ) → x < rows → inRows rows (wordRow (h x)) ≡ true
-  in-range x k = reads-in words rows h x k r
+  in-range : (x : ℕ) → x < rows → inRows (scale .rule) rows (wordRow (h x)) ≡ true
+  in-range x k = rw (opened-rule words places limit scale o) at (reads-in words rows h x k r)
 
   abbrev heap₁ : Heap
   heap₁ = heapPut h tail (setNext (l .row) (h tail))
@@ -73,13 +74,13 @@ module _ (words : List ℕ) {places limit : ℕ} {scale : Scale} {h : Heap} {t :
       let end : tail < rows = link-tail st (omega arith) in
       put-row
       (put-row (held-first words places limit scale h o r) tail (withNext (l .row) (wordRow (h tail))) (setNext (l .row) (h tail)) (next-words (l .row) (h tail) (last .last) (last .reads)) end
-      (next-in rows (l .row) (h tail) (last .last) (last .reads) row (in-range tail end)))
+      (next-in (scale .rule) rows (l .row) (h tail) (last .last) (last .reads) row (in-range tail end)))
       (l .row)
       (removedAs (l .parent) number (wordRow (leafRow (l .parent) (l .entry))))
       (removedRow (l .parent) number (l .entry))
       refl
       row
-      (freed-in rows (l .parent) number (l .entry) (rw f at (in-range (l .row) row)))
+      (freed-in (scale .rule) rows (l .parent) number (l .entry) (rw f at (in-range (l .row) row)))
 
   -- the only leaf: no other row is written
   alone : l .parent ≡ NONE → RowsUnlinked words (unlinkRows words (aroundOf h tail l) number) places h tail number l
@@ -128,13 +129,13 @@ module _ (words : List ℕ) {places limit : ℕ} {scale : Scale} {h : Heap} {t :
         places limit scale heap₄
     first-four =
         put-row
-        (put-row first-two (l .parent) (wordRow (spareRow NONE number)) (spareRow NONE number) refl (st .inside (l .parent) (around .cut .has)) (in-rows-spare rows NONE number ∙ link-none rows))
+        (put-row first-two (l .parent) (wordRow (spareRow NONE number)) (spareRow NONE number) refl (st .inside (l .parent) (around .cut .has)) (in-rows-spare (scale .rule) rows NONE number ∙ link-none rows))
         side
         (withParent up (linkedRow h side))
         (setParent up (h side))
         (ap (withParent up) (linked-here h side (λ z. omega (arith, side-row, st .fits))) ∙ parent-words side up (around .side-reads))
         side-row
-        (parent-in rows side up up-in (around .side-reads) (in-range side side-row))
+        (parent-in (scale .rule) rows side up up-in (around .side-reads) (in-range side side-row))
 
     -- the five writes, with the last of them as given
     ends-in : (h₅ : Heap) → WroteAt heap₄ h₅ up (replaceChild (l .parent) side (h up)) → UnlinkWrites h h₅ tail number l side up
@@ -162,8 +163,8 @@ module _ (words : List ℕ) {places limit : ℕ} {scale : Scale} {h : Heap} {t :
             let new = replaceChild (l .parent) side (h up) in
             let spelt : replaced (l .parent) side (linkedRow h up) ≡ wordRow (replaceChild (l .parent) side (h up)) =
             ap (replaced (l .parent) side) (linked-here h up there) ∙ rw (c .reads) (child-words (l .parent) side (c .parent) (c .key) (c .left) (c .right)) in
-            let ranged : inRows rows (wordRow (replaceChild (l .parent) side (h up))) ≡ true =
-            rw (c .reads) (child-in rows (l .parent) side (c .parent) (c .key) (c .left) (c .right) side-row (rw (c .reads) at (in-range up row))) in
+            let ranged : inRows (scale .rule) rows (wordRow (replaceChild (l .parent) side (h up))) ≡ true =
+            rw (c .reads) (child-in (scale .rule) rows (l .parent) side (c .parent) (c .key) (c .left) (c .right) side-row (rw (c .reads) at (in-range up row))) in
             let w = put-row first-four up (replaced (l .parent) side (linkedRow h up)) new spelt row ranged in
             record {
               heap = heapPut heap₄ up new;

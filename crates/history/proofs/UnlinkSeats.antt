@@ -178,7 +178,7 @@ module _ (t : Table) (own : ℕ) (mine : own < stations) (p : Point) (f : ℕ �
   busy-moved : (seat : Seat) (i : ℕ) (call : Call) (set : Option Answer) (v : Busy t tree queue seat i call set)
       → Works (removedTable t own p f) (w .tree) (w .queue) (moved seat) i call set → Busy (removedTable t own p f) (w .tree) (w .queue) (moved seat) i call set
   busy-moved seat i call set v works =
-      busy-on v (moved seat .track) (omega (arith, v .asof, one-more t own mine))
+      busy-on v (moved seat .track) refl (omega (arith, v .asof, one-more t own mine))
       (phase-in (eqb (seat .track .cursor) (l .row)) (landsAt seat) (seat .track .phase) (lands-in (seat .target) (l .row) (linkedRow h (l .parent))) (v .phase)) works
 
   -- Each other station's seat, moved, says what its station says after the removal.

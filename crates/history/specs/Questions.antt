@@ -6,7 +6,9 @@ use lib.Dec.{leb, ltb}
 use lib.ListN.{length}
 use Rattle.points.specs.declared.point.Point.{Point}
 use Rattle.points.specs.declared.scale.Scale.{Scale}
-use Rattle.points.specs.Point.{inRange}
+use Rattle.points.specs.Number.{inRangeBy}
+use Rattle.points.specs.Rule.{ruleIn}
+use Rattle.words.specs.Rule.{ruleAt}
 use Rattle.points.specs.Scale.{factorsIn}
 use Rattle.words.specs.Layout.{wordsFor, stations}
 use Rattle.stations.specs.Common.{placesIn, limitIn, openedIn, isOpened}
@@ -38,7 +40,7 @@ firstNo (q ∷ qs) = orElse (q .yes) (q .number) (firstNo qs)
 -- opening (Rules 7.3)
 abbrev pub openQuestions : List ℕ → ℕ → ℕ → Scale → List Question
 openQuestions words places limit scale =
-    asked (placesIn places) 1 ∷ (asked (limitIn limit) 2 ∷ (asked (factorsIn scale) 17 ∷ (asked (leb (wordsFor places) (length words)) 3 ∷ [])))
+    asked (placesIn places) 1 ∷ (asked (limitIn limit) 2 ∷ (asked (ruleIn (scale .rule)) 20 ∷ (asked (factorsIn scale) 17 ∷ (asked (leb (wordsFor places) (length words)) 3 ∷ []))))
 
 -- every other call that names a station (Rules 7.5, 7.6)
 abbrev pub stationQuestions : List ℕ → ℕ → List Question → List Question
@@ -47,7 +49,7 @@ stationQuestions words s rest = asked (isOpened (openedIn words)) 4 ∷ (asked (
 -- submission (Rules 7.7)
 abbrev pub submitQuestions : List ℕ → ℕ → ℕ → Point → ℕ → List Question
 submitQuestions words s kind p c =
-    stationQuestions words s (asked (isIdle (stateAt words s)) 6 ∷ (asked (kindIn kind) 7 ∷ (asked (inRange p) 8 ∷ (asked (curveFits kind c) 9 ∷ []))))
+    stationQuestions words s (asked (isIdle (stateAt words s)) 6 ∷ (asked (kindIn kind) 7 ∷ (asked (inRangeBy (ruleAt words) p) 8 ∷ (asked (curveFits kind c) 9 ∷ []))))
 
 -- step (Rules 7.8): question 11 is asked first of the two records, then of the rows that the step needs (Rules 7.11 to 7.15)
 abbrev pub stepQuestions : List ℕ → ℕ → List Question

@@ -14,7 +14,7 @@ use Rattle.stations.specs.declared.track.Track.{Track}
 use Rattle.stations.specs.declared.counts.Counts.{Counts}
 use Rattle.points.specs.declared.point.Point.{Point}
 use Rattle.points.specs.declared.scale.Scale.{Scale}
-use Rattle.points.specs.Point.{inRange}
+use Rattle.points.specs.Number.{inRangeBy}
 use Rattle.points.specs.Word.{NONE}
 use Rattle.words.specs.Range.{curveIn}
 use Rattle.stations.specs.Common.{openedIn, leastSince, Opened}
@@ -70,13 +70,17 @@ abbrev pub Set : Scale → Point → List Entry → Option Tree → Option Answe
 Set scale target entries tree none = (e : Entry) → List·Memᴰ e entries ↔ Holds tree e
 Set scale target entries tree (some a) = a ≡ nearestAnswer scale target (nearestOf scale target (map recordOf entries))
 
+-- point and curve of each entry are in range under the rule
+abbrev pub EntriesIn : ℕ → List Entry → Type 0
+EntriesIn rule entries = (e : Entry) → List·Memᴰ e entries → (inRangeBy rule (e .point) ≡ true) × (curveIn (e .curve) ≡ true)
+
 -- an unfinished nearest call; `entries` were held at its submission
 pub record Searching (t : Table) (tree : Option Tree) (queue : List Free) (seat : Seat) (i : ℕ) (target : Point) (set : Option Answer) : Type 0 where
   pub since : seat .track .since ≡ sinceOf i (t .removals)
   pub aimed : seat .target ≡ target
   pub entries : List Entry
   pub once : Once (map recordOf entries)
-  pub ranged : (e : Entry) → List·Memᴰ e entries → (inRange (e .point) ≡ true) × (curveIn (e .curve) ≡ true)
+  pub ranged : EntriesIn (t .scale .rule) entries
   pub search : Search (choiceOf (t .scale) target) (seat .call .asof) (seat .track .since) (λ e. List·Memᴰ e entries) tree queue (allChanges t) (length (t .removals)) (progressOf seat)
   pub answer : Set (t .scale) target entries tree set
 
@@ -100,10 +104,10 @@ pub record Busy (t : Table) (tree : Option Tree) (queue : List Free) (seat : Sea
   pub kind : seat .call .kind ≡ kindOf call
   pub point : seat .call .point ≡ pointOf call
   pub curve : seat .call .curve ≡ curveOf call
-  pub ranged : inRange (pointOf call) ≡ true
+  pub ranged : inRangeBy (t .scale .rule) (pointOf call) ≡ true
   pub fits : CurveFits call
   pub asof : seat .call .asof ≤ allChanges t
-  pub kept : inRange (seat .call .best .point) ≡ true
+  pub kept : inRangeBy (t .scale .rule) (seat .call .best .point) ≡ true
   pub phase : seat .track .phase ≤ 1
   pub works : Works t tree queue seat i call set
 
@@ -111,9 +115,9 @@ pub record Idle (seat : Seat) : Type 0 where
   pub state : seat .state ≡ 0
   pub quiet : Quiet (seat .track)
 
-pub record Waits (seat : Seat) (a : Answer) : Type 0 where
+pub record Waits (rule : ℕ) (seat : Seat) (a : Answer) : Type 0 where
   pub state : seat .state ≡ 2
-  pub sound : answerSound (seat .answer) ≡ true
+  pub sound : answerSound rule (seat .answer) ≡ true
   pub answer : answerOf (seat .answer) ≡ a
   pub quiet : Quiet (seat .track)
 
@@ -121,7 +125,7 @@ pub record Waits (seat : Seat) (a : Answer) : Type 0 where
 abbrev pub Says : Table → Option Tree → List Free → Seat → Station → Type 0
 Says t tree queue seat idle = Idle seat
 Says t tree queue seat (unfinished i call set) = Busy t tree queue seat i call set
-Says t tree queue seat (waiting a) = Waits seat a
+Says t tree queue seat (waiting a) = Waits (t .scale .rule) seat a
 
 -- an unfinished add has marked its way as far as it has come
 abbrev pub Marking : Marks → Option Tree → ℕ → Station → Type 0

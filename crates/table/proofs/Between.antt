@@ -11,7 +11,7 @@ use native.Mathlib.Decide.{ℕ-discrete}
 use lib.Dec.{eqb, ltb}
 use borrow.Author.Tests.{eqb-true, eq-eqb}
 use Rattle.points.specs.declared.point.Point.{Point}
-use Rattle.points.specs.Point.{inRange}
+use Rattle.points.specs.Number.{inRangeBy}
 use Rattle.table.specs.Call.{Call, callOf, kindInRange, Answer, isChange}
 use Rattle.table.specs.Table.{Station, idle, unfinished, waiting, Table, put, withStations, answerOf, changedIf}
 use Rattle.table.specs.Event.{Event, submission, singleStep, taking, withdrawal, Reply, accept, refuse, isIdle, curveFits, enter}
@@ -139,7 +139,7 @@ module _ (t : Table) (s i : ℕ) (c : Call) (o : Option Answer) (e : t .stations
   unfolding submit enter isIdle
   submit-stays v kind p d =
       ask-all Stays (ltb v 8) 5 t _ e (λ l. ask-all Stays (isIdle (t .stations v)) 6 t _ e (λ free. ask-all Stays (kindInRange kind) 7 t _ e
-      (λ l. ask-all Stays (inRange p) 8 t _ e (λ l. ask-all Stays (curveFits kind d) 9 t _ e
+      (λ l. ask-all Stays (inRangeBy (t .scale .rule) p) 8 t _ e (λ l. ask-all Stays (curveFits kind d) 9 t _ e
       (λ l. other v (unfinished (t .calls) (callOf kind p d) none) (λ q. false≢true (sym (ap isIdle (ap (t .stations) (sym q) ∙ e)) ∙ free)))))))
 
   take-stays : (v : ℕ) → Stays (take t v)

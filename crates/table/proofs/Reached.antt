@@ -12,7 +12,7 @@ use lib.Dec.{ltb}
 use borrow.Author.Tests.{ltb-true}
 use Rattle.points.specs.declared.point.Point.{Point}
 use Rattle.points.specs.declared.scale.Scale.{Scale}
-use Rattle.points.specs.Point.{inRange}
+use Rattle.points.specs.Number.{inRangeBy}
 use Rattle.table.specs.Call.{Call, callOf, kindInRange, Answer, withdrawnAnswer}
 use Rattle.table.specs.Table.{Station, idle, unfinished, waiting, Table, eight, opened, put, withStations, searching, searches, holding, taken}
 use Rattle.table.specs.Event.{Event, submission, singleStep, taking, withdrawal, Reply, accept, refuse, ask, isIdle, curveFits}
@@ -100,7 +100,7 @@ ask-all P false n t r x y = x
 pub sound-submit : (t : Table) (s kind : ℕ) (p : Point) (c : ℕ) → Sound t → Sound (submit t s kind p c .next)
 unfolding submit
 sound-submit t s kind p c h =
-    ask-all P (ltb s 8) 5 t _ h (λ l. ask-all P (isIdle (t .stations s)) 6 t _ h (λ e. ask-all P (kindInRange kind) 7 t _ h (λ e. ask-all P (inRange p) 8 t _ h (λ e.
+    ask-all P (ltb s 8) 5 t _ h (λ l. ask-all P (isIdle (t .stations s)) 6 t _ h (λ e. ask-all P (kindInRange kind) 7 t _ h (λ e. ask-all P (inRangeBy (t .scale .rule) p) 8 t _ h (λ e.
     ask-all P (curveFits kind c) 9 t _ h (λ e. sound-enter t s (callOf kind p c) h (ltb-true s 8 l))))))
   where
     P : Reply Table → Type 0
@@ -168,7 +168,7 @@ pub perform-keeps : {A : Type 0} (f : Table → A) (t : Table) → ((g : ℕ →
 unfolding perform submit step stepAt take takeAt
 perform-keeps f t put-stays enter-stays (submission s kind p c) answers r e =
     ap (λ (x : Reply Table). f (x .next)) (sym (Option·some-injective _ _ e)) ∙
-    ask-all P (ltb s 8) 5 t _ refl (λ l. ask-all P (isIdle (t .stations s)) 6 t _ refl (λ l. ask-all P (kindInRange kind) 7 t _ refl (λ l. ask-all P (inRange p) 8 t _ refl
+    ask-all P (ltb s 8) 5 t _ refl (λ l. ask-all P (isIdle (t .stations s)) 6 t _ refl (λ l. ask-all P (kindInRange kind) 7 t _ refl (λ l. ask-all P (inRangeBy (t .scale .rule) p) 8 t _ refl
     (λ l. ask-all P (curveFits kind c) 9 t _ refl (λ l. enter-stays s (callOf kind p c))))))
   where
     P : Reply Table → Type 0

@@ -12,7 +12,7 @@ use lib.Dec.{eqb, ltb}
 use borrow.Author.Tests.{eqb-true}
 use Rattle.points.specs.declared.point.Point.{Point}
 use Rattle.points.specs.declared.scale.Scale.{Scale}
-use Rattle.points.specs.Point.{inRange}
+use Rattle.points.specs.Number.{inRangeBy}
 use Rattle.table.specs.Record.{nearestOf}
 use Rattle.table.specs.Call.{Call, nearest, callOf, kindInRange, Answer, nearestAnswer}
 use Rattle.table.specs.Table.{Station, idle, unfinished, waiting, Table, opened, put, withStations, answerOf}
@@ -43,7 +43,7 @@ pub submit-accepted : (t : Table) (s kind : ℕ) (p : Point) (c : ℕ) → submi
 unfolding submit
 submit-accepted t s kind p c =
     ask-all P (ltb s 8) 5 t _ (λ e. absurd (omega arith)) (λ l. ask-all P (isIdle (t .stations s)) 6 t _ (λ e. absurd (omega arith))
-    (λ l. ask-all P (kindInRange kind) 7 t _ (λ e. absurd (omega arith)) (λ l. ask-all P (inRange p) 8 t _ (λ e. absurd (omega arith))
+    (λ l. ask-all P (kindInRange kind) 7 t _ (λ e. absurd (omega arith)) (λ l. ask-all P (inRangeBy (t .scale .rule) p) 8 t _ (λ e. absurd (omega arith))
     (λ l. ask-all P (curveFits kind c) 9 t _ (λ e. absurd (omega arith)) (λ l e. refl)))))
   where
     P : Reply Table → Type 0

@@ -10,7 +10,7 @@ use native.Mathlib.Omega.{arith}
 use lib.Dec.{eqb, ltb}
 use Rattle.points.specs.declared.point.Point.{Point}
 use Rattle.points.specs.declared.scale.Scale.{Scale}
-use Rattle.points.specs.Point.{inRange}
+use Rattle.points.specs.Number.{inRangeBy}
 use Rattle.table.specs.Record.{Record, nearestOf}
 use Rattle.table.specs.Call.{Call, add, remove, contains, nearest, callOf, kindInRange, isSearch, Answer, nearestAnswer, isChange}
 use Rattle.table.specs.Table.{Station, idle, unfinished, waiting, Table, eight, opened, put, withStations, searching, searches, taken, full, usedUp, answerOf, changed, changedIf}
@@ -207,11 +207,16 @@ accept-trim : (seen : ℕ → Bool) (t u : Table) → u ≡ trim seen t → acce
 unfolding trimReply
 accept-trim seen t u e = rw e
 
+rule-trim : (seen : ℕ → Bool) (t : Table) → trim seen t .scale .rule ≡ t .scale .rule
+unfolding trim
+rule-trim seen t = refl
+
 pub submit-trim : (seen : ℕ → Bool) (t : Table) (s kind : ℕ) (p : Point) (c : ℕ) → submit (trim seen t) s kind p c ≡ trimReply seen (submit t s kind p c)
 unfolding submit
 submit-trim seen t s kind p c =
-    rw (station-trim seen t s, idle-keep (seen s) (t .stations s))
-    (ask-trim seen (ltb s 8) 5 t _ _ (ask-trim seen (isIdle (t .stations s)) 6 t _ _ (ask-trim seen (kindInRange kind) 7 t _ _ (ask-trim seen (inRange p) 8 t _ _
+    let g : inRangeBy (trim seen t .scale .rule) p ≡ inRangeBy (t .scale .rule) p = ap (λ k. inRangeBy k p) (rule-trim seen t) in
+    rw (g, station-trim seen t s, idle-keep (seen s) (t .stations s))
+    (ask-trim seen (ltb s 8) 5 t _ _ (ask-trim seen (isIdle (t .stations s)) 6 t _ _ (ask-trim seen (kindInRange kind) 7 t _ _ (ask-trim seen (inRangeBy (t .scale .rule) p) 8 t _ _
     (ask-trim seen (curveFits kind c) 9 t _ _ (accept-trim seen (enter t s (callOf kind p c)) _ (enter-trim seen t s (callOf kind p c))))))))
 
 takeAt-trim : (seen : ℕ → Bool) (t : Table) (s : ℕ) (b : Bool) (x : Station) → takeAt (trim seen t) s (keepIf b x) ≡ trimReply seen (takeAt t s x)

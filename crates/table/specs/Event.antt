@@ -5,7 +5,7 @@ use mathlib.Core.List.{List, [], _∷_}
 use Prim.Native.Nat.{ℕ, _+_}
 use lib.Dec.{eqb, ltb}
 use Rattle.points.specs.declared.point.Point.{Point}
-use Rattle.points.specs.Point.{inRange}
+use Rattle.points.specs.Number.{inRangeBy}
 use Rattle.table.specs.Record.{curveInRange}
 use Rattle.table.specs.Call.{Call, callOf, kindInRange, Answer, isChange, withdrawnAnswer}
 use Rattle.table.specs.Table.{Station, idle, unfinished, waiting, Table, put, withStations, answerOf, changedIf}
@@ -64,7 +64,7 @@ enter t s c = record {
 -- Rules 4.9: "refused by questions 5 to 9, asked of the table's station; else its call is unfinished"
 unfoldable pub submit : Table → ℕ → ℕ → Point → ℕ → Reply Table
 submit t s kind p c =
-    ask (ltb s 8) 5 t (ask (isIdle (t .stations s)) 6 t (ask (kindInRange kind) 7 t (ask (inRange p) 8 t (ask (curveFits kind c) 9 t
+    ask (ltb s 8) 5 t (ask (isIdle (t .stations s)) 6 t (ask (kindInRange kind) 7 t (ask (inRangeBy (t .scale .rule) p) 8 t (ask (curveFits kind c) 9 t
     (accept (enter t s (callOf kind p c)))))))
 
 -- ## Moment
