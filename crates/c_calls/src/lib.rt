@@ -2,6 +2,7 @@
 use audits::audit::audit;
 use openings::open::open;
 use points::point::Point;
+use points::rule::PLAIN_RULE;
 use points::scale::Scale;
 use points::scale::plain_scale;
 use reports::report::read_report;
@@ -12,6 +13,7 @@ use submissions::submit::submit;
 use takings::take::number_of;
 use takings::take::take;
 ghost use mathlib.Core.Path.{_≡_};
+ghost use Rattle.points.specs.Rule.{plainRule};
 ghost use Rattle.points.specs.Scale.{plainScale};
 ghost use Rattle.calls.specs.Reply.{replied};
 ghost use Rattle.calls.specs.Open.{openOf};
@@ -23,7 +25,7 @@ ghost use Rattle.calls.specs.Withdraw.{withdrawOf};
 ghost use Rattle.calls.specs.Report.{reportOf};
 ghost use Rattle.calls.specs.Audit.{verdictOf};
 
-// Opening, with factors of one.
+// Opening under rule 1, with factors of one.
 #[no_mangle]
 pub extern "C" fn index_open(words: &mut [u32], places: u32, limit: u32) -> u32
     ensures { λ r. ⌜ replied r (now (words .exit)) ≡ openOf (now (words .entry)) places limit plainScale ⌝ }
@@ -31,7 +33,7 @@ pub extern "C" fn index_open(words: &mut [u32], places: u32, limit: u32) -> u32
     open(words, places, limit, plain_scale())
 }
 
-// Opening, with a factor for each of the axes 2 to 5.
+// Opening under rule 1, with a factor for each of the axes 2 to 5.
 #[no_mangle]
 pub extern "C" fn index_open_scaled(
     words: &mut [u32],
@@ -42,9 +44,34 @@ pub extern "C" fn index_open_scaled(
     speed: u32,
     draw: u32,
 ) -> u32
-    ensures { λ r. ⌜ replied r (now (words .exit)) ≡ openOf (now (words .entry)) places limit (record { weight = weight; moisture = moisture; speed = speed; draw = draw }) ⌝ }
+    ensures { λ r. ⌜ replied r (now (words .exit)) ≡ openOf (now (words .entry)) places limit (record { rule = plainRule; weight = weight; moisture = moisture; speed = speed; draw = draw }) ⌝ }
 {
     let scale = Scale {
+        rule: PLAIN_RULE,
+        weight: weight,
+        moisture: moisture,
+        speed: speed,
+        draw: draw,
+    };
+    open(words, places, limit, scale)
+}
+
+// Opening, with a factor for each of the axes 2 to 5 and a rule.
+#[no_mangle]
+pub extern "C" fn index_open_ruled(
+    words: &mut [u32],
+    places: u32,
+    limit: u32,
+    weight: u32,
+    moisture: u32,
+    speed: u32,
+    draw: u32,
+    rule: u32,
+) -> u32
+    ensures { λ r. ⌜ replied r (now (words .exit)) ≡ openOf (now (words .entry)) places limit (record { rule = rule; weight = weight; moisture = moisture; speed = speed; draw = draw }) ⌝ }
+{
+    let scale = Scale {
+        rule: rule,
         weight: weight,
         moisture: moisture,
         speed: speed,

@@ -5,11 +5,11 @@ use Prim.Native.Nat.{ℕ}
 use native.Mathlib.Omega.{arith}
 use lib.ListN.{replicate}
 use Rattle.frames.specs.declared.frame.Factors.{Factors}
-use Rattle.frames.specs.declared.frame.Frame.the-variants.{Open, Step, OpenScaled, Withdraw}
+use Rattle.frames.specs.declared.frame.Frame.the-variants.{Open, Step, OpenScaled, OpenRuled, Withdraw}
 use Rattle.frames.specs.declared.read.Reading.the-variants.{Read, Refused}
 use Rattle.numbers.specs.Bytes.{numberAt, bytesOf}
 use Rattle.frames.specs.Read.{isWhole, hasKind, ownLength, factorsAt, frameIn, readRest, readOf}
-use Rattle.frames.specs.Write.{headBytes, openStart, factorsBytes, frameBytes, padded, writtenBytes, writtenOf}
+use Rattle.frames.specs.Write.{headBytes, openStart, factorsBytes, scaledStart, frameBytes, padded, writtenBytes, writtenOf}
 
 -- P7: step for station 2: bytes 03 00 03 00 02
 pub p7 : (writtenOf (Step 2) .bytes ≡ (3 ∷ 0 ∷ 3 ∷ 0 ∷ 2 ∷ []) ++ replicate 23 0) × (writtenOf (Step 2) .count ≡ 5)
@@ -44,7 +44,7 @@ abbrev pub scaledBytes : List ℕ
 scaledBytes = 16 ∷ 0 ∷ 6 ∷ 0 ∷ 64 ∷ 0 ∷ 232 ∷ 3 ∷ 0 ∷ 0 ∷ 1 ∷ 0 ∷ 232 ∷ 3 ∷ 3 ∷ 0 ∷ 255 ∷ 255 ∷ []
 
 pub scaled-bytes : (writtenOf (OpenScaled 64 1000 factors) .bytes ≡ scaledBytes ++ replicate 10 0) × (writtenOf (OpenScaled 64 1000 factors) .count ≡ 18)
-unfolding writtenOf writtenBytes padded frameBytes openStart factorsBytes headBytes bytesOf
+unfolding writtenOf writtenBytes padded frameBytes openStart factorsBytes scaledStart headBytes bytesOf
 scaled-bytes = (refl, refl)
 
 -- they are read as that opening, and the next position is past its eighteen bytes
@@ -57,7 +57,7 @@ abbrev pub onesBytes : List ℕ
 onesBytes = 16 ∷ 0 ∷ 6 ∷ 0 ∷ 64 ∷ 0 ∷ 232 ∷ 3 ∷ 0 ∷ 0 ∷ 1 ∷ 0 ∷ 1 ∷ 0 ∷ 1 ∷ 0 ∷ 1 ∷ 0 ∷ []
 
 pub ones-bytes : (writtenOf (OpenScaled 64 1000 ones) .bytes ≡ onesBytes ++ replicate 10 0) × (writtenOf (OpenScaled 64 1000 ones) .count ≡ 18)
-unfolding writtenOf writtenBytes padded frameBytes openStart factorsBytes headBytes bytesOf
+unfolding writtenOf writtenBytes padded frameBytes openStart factorsBytes scaledStart headBytes bytesOf
 ones-bytes = (refl, refl)
 
 pub ones-read : readOf onesBytes 0 ≡ Read (OpenScaled 64 1000 ones) 18
@@ -68,19 +68,45 @@ pub ones-not-open : (places limit next : ℕ) → readOf onesBytes 0 ≡ Read (O
 unfolding readOf readRest isWhole hasKind ownLength frameIn factorsAt numberAt
 ones-not-open places limit next e = let z : _≡_ {A = ℕ} 0 1 = cc in absurd (omega arith)
 
--- an opening of kind 6 as long as one of kind 1, and one of kind 1 as long as one of kind 6: 15
+-- the opening of `scaledBytes` with rule 2: 11 00 07 00, its fields, then 02
+abbrev pub ruledBytes : List ℕ
+ruledBytes = 17 ∷ 0 ∷ 7 ∷ 0 ∷ 64 ∷ 0 ∷ 232 ∷ 3 ∷ 0 ∷ 0 ∷ 1 ∷ 0 ∷ 232 ∷ 3 ∷ 3 ∷ 0 ∷ 255 ∷ 255 ∷ 2 ∷ []
+
+pub ruled-bytes : (writtenOf (OpenRuled 64 1000 factors 2) .bytes ≡ ruledBytes ++ replicate 9 0) × (writtenOf (OpenRuled 64 1000 factors 2) .count ≡ 19)
+unfolding writtenOf writtenBytes padded frameBytes openStart factorsBytes scaledStart headBytes bytesOf
+ruled-bytes = (refl, refl)
+
+-- they are read as that opening, and the next position is past its nineteen bytes
+pub ruled-read : readOf ruledBytes 0 ≡ Read (OpenRuled 64 1000 factors 2) 19
+unfolding readOf readRest isWhole hasKind ownLength frameIn factorsAt numberAt
+ruled-read = refl
+
+-- with rule 1: still the kind 7, and read as no opening of kind 6
+abbrev pub firstBytes : List ℕ
+firstBytes = 17 ∷ 0 ∷ 7 ∷ 0 ∷ 64 ∷ 0 ∷ 232 ∷ 3 ∷ 0 ∷ 0 ∷ 1 ∷ 0 ∷ 1 ∷ 0 ∷ 1 ∷ 0 ∷ 1 ∷ 0 ∷ 1 ∷ []
+
+pub first-bytes : (writtenOf (OpenRuled 64 1000 ones 1) .bytes ≡ firstBytes ++ replicate 9 0) × (writtenOf (OpenRuled 64 1000 ones 1) .count ≡ 19)
+unfolding writtenOf writtenBytes padded frameBytes openStart factorsBytes scaledStart headBytes bytesOf
+first-bytes = (refl, refl)
+
+pub first-read : readOf firstBytes 0 ≡ Read (OpenRuled 64 1000 ones 1) 19
+unfolding readOf readRest isWhole hasKind ownLength frameIn factorsAt numberAt
+first-read = refl
+
+pub first-not-scaled : (places limit : ℕ) (f : Factors) (next : ℕ) → readOf firstBytes 0 ≡ Read (OpenScaled places limit f) next → ⊥
+unfolding readOf readRest isWhole hasKind ownLength frameIn factorsAt numberAt
+first-not-scaled places limit f next e = let z : _≡_ {A = ℕ} 0 1 = cc in absurd (omega arith)
+
+-- an opening of kind 6 as long as one of kind 1, and one of kind 1 as long as one of kind 6; the same of kinds 7 and 6: 15
 pub lengths-crossed :
     (readOf (8 ∷ 0 ∷ 6 ∷ 0 ∷ 64 ∷ 0 ∷ 232 ∷ 3 ∷ 0 ∷ 0 ∷ []) 0 ≡ Refused 15)
     × (readOf (16 ∷ 0 ∷ 1 ∷ 0 ∷ 64 ∷ 0 ∷ 232 ∷ 3 ∷ 0 ∷ 0 ∷ 1 ∷ 0 ∷ 1 ∷ 0 ∷ 1 ∷ 0 ∷ 1 ∷ 0 ∷ []) 0 ≡ Refused 15)
+    × (readOf (16 ∷ 0 ∷ 7 ∷ 0 ∷ 64 ∷ 0 ∷ 232 ∷ 3 ∷ 0 ∷ 0 ∷ 1 ∷ 0 ∷ 1 ∷ 0 ∷ 1 ∷ 0 ∷ 1 ∷ 0 ∷ []) 0 ≡ Refused 15)
+    × (readOf (17 ∷ 0 ∷ 6 ∷ 0 ∷ 64 ∷ 0 ∷ 232 ∷ 3 ∷ 0 ∷ 0 ∷ 1 ∷ 0 ∷ 1 ∷ 0 ∷ 1 ∷ 0 ∷ 1 ∷ 0 ∷ 1 ∷ []) 0 ≡ Refused 15)
 unfolding readOf readRest isWhole hasKind ownLength numberAt
-lengths-crossed = (refl, refl)
+lengths-crossed = (refl, refl, refl, refl)
 
--- kind 7, length 3 and a byte for the station: 14
-pub kind-between : (byte : ℕ) → readOf (3 ∷ 0 ∷ 7 ∷ 0 ∷ byte ∷ []) 0 ≡ Refused 14
-unfolding readOf readRest isWhole hasKind numberAt
-kind-between byte = refl
-
--- kind 9, the same: 14
+-- kind 9, length 3 and a byte for the station: 14
 pub kind-beyond : (byte : ℕ) → readOf (3 ∷ 0 ∷ 9 ∷ 0 ∷ byte ∷ []) 0 ≡ Refused 14
 unfolding readOf readRest isWhole hasKind numberAt
 kind-beyond byte = refl

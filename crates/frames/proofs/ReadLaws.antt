@@ -20,7 +20,7 @@ use Rattle.frames.specs.Width.{InWidth, SubmissionInWidth, FactorsInWidt
 use Rattle.frames.specs.Shape as shape
 use Rattle.frames.specs.Read.{lengthIn, kindIn, hasKind, ownLength, submissionIn, factorsAt, frameIn, readOf}
 use Rattle.frames.specs.Outcome.{Passes}
-use Rattle.frames.specs.Write.{headBytes, openStart, factorsBytes, submissionStart, submissionEnd, frameBytes, writtenOf}
+use Rattle.frames.specs.Write.{headBytes, openStart, factorsBytes, scaledStart, submissionStart, submissionEnd, frameBytes, writtenOf}
 use Rattle.frames.proofs.ShapeLaws.{by-kind}
 use Rattle.frames.proofs.QuestionLaws.{whole-there}
 use Rattle.frames.proofs.OutcomeLaws.{WasRead, was-read}
@@ -78,7 +78,7 @@ module _ (rest : List ℕ) (small : AllBytes rest) where
       ∙ parts-taken rest 0 (2 ∷ 2 ∷ 1 ∷ 1 ∷ 2 ∷ 4 ∷ 4 ∷ 4 ∷ 4 ∷ 4 ∷ []) small there
 
   same-scaled : Same shape.kindOpenScaled
-  unfolding frameIn factorsAt frameBytes openStart factorsBytes headBytes bytesOf numberAt parts total
+  unfolding frameIn factorsAt frameBytes openStart factorsBytes scaledStart headBytes bytesOf numberAt parts total
   same-scaled k s there =
       (λ i.
       (same-head shape.kindOpenScaled k s i ++ (bytesOf 2 (numberAt 2 rest shape.atPlaces) ++ bytesOf 4 (numberAt 4 rest shape.atLimit)))
@@ -86,6 +86,17 @@ module _ (rest : List ℕ) (small : AllBytes rest) where
       ++ (bytesOf 2 (numberAt 2 rest shape.atMoistureFactor)
       ++ (bytesOf 2 (numberAt 2 rest shape.atSpeedFactor) ++ bytesOf 2 (numberAt 2 rest shape.atDrawFactor)))))
       ∙ parts-taken rest 0 (2 ∷ 2 ∷ 2 ∷ 4 ∷ 2 ∷ 2 ∷ 2 ∷ 2 ∷ []) small there
+
+  same-ruled : Same shape.kindOpenRuled
+  unfolding frameIn factorsAt frameBytes openStart factorsBytes scaledStart headBytes bytesOf numberAt parts total
+  same-ruled k s there =
+      (λ i.
+      ((same-head shape.kindOpenRuled k s i ++ (bytesOf 2 (numberAt 2 rest shape.atPlaces) ++ bytesOf 4 (numberAt 4 rest shape.atLimit)))
+      ++ (bytesOf 2 (numberAt 2 rest shape.atWeightFactor)
+      ++ (bytesOf 2 (numberAt 2 rest shape.atMoistureFactor)
+      ++ (bytesOf 2 (numberAt 2 rest shape.atSpeedFactor) ++ bytesOf 2 (numberAt 2 rest shape.atDrawFactor)))))
+      ++ (sym (one-byte rest shape.atRule small) i ∷ []))
+      ∙ parts-taken rest 0 (2 ∷ 2 ∷ 2 ∷ 4 ∷ 2 ∷ 2 ∷ 2 ∷ 2 ∷ 1 ∷ []) small there
 
   -- of a kind with a station alone
   same-station : (kind : ℕ) → kindIn rest ≡ kind → lengthIn rest ≡ shape.lengthOf kind → 5 ≤ length rest → headBytes kind ++ (getD rest shape.atStation 0 ∷ []) ≡ take 5 rest
@@ -106,7 +117,8 @@ module _ (rest : List ℕ) (small : AllBytes rest) where
   same-bytes p =
       let own = own-size p in
       let there = whole-there rest (p .whole) in
-      by-kind Same same-open same-submit (same-station shape.kindStep) (same-station shape.kindTake) (same-station shape.kindRun) same-scaled (same-station shape.kindWithdraw) (kindIn rest) (the-kind p) refl own (omega arith)
+      let one = same-station in
+      by-kind Same same-open same-submit (one shape.kindStep) (one shape.kindTake) (one shape.kindRun) same-scaled same-ruled (one shape.kindWithdraw) (kindIn rest) (the-kind p) refl own (omega arith)
       ∙ ap (λ (n : ℕ). take (shape.sizeOf n) rest) (sym own)
 
   -- fields that are read are in width
@@ -143,9 +155,13 @@ module _ (rest : List ℕ) (small : AllBytes rest) where
   unfolding frameIn
   wide-scaled = (two-fits rest shape.atPlaces small, four-fits rest shape.atLimit small, wide-factors)
 
+  wide-ruled : Wide shape.kindOpenRuled
+  unfolding frameIn
+  wide-ruled = (two-fits rest shape.atPlaces small, four-fits rest shape.atLimit small, wide-factors, small shape.atRule)
+
   wide : Passes rest → InWidth (frameIn (kindIn rest) rest)
   unfolding frameIn
-  wide p = by-kind Wide wide-open wide-submit (small shape.atStation) (small shape.atStation) (small shape.atStation) wide-scaled (small shape.atStation) (kindIn rest) (the-kind p)
+  wide p = by-kind Wide wide-open wide-submit (small shape.atStation) (small shape.atStation) (small shape.atStation) wide-scaled wide-ruled (small shape.atStation) (kindIn rest) (the-kind p)
 
 -- bytes from a position on
 dropped : (bytes : List ℕ) (at : ℕ) → AllBytes bytes → AllBytes (drop at bytes)

@@ -14,7 +14,7 @@ use Rattle.points.proofs.Tests.{and-i}
 use Rattle.frames.specs.declared.frame.Submission.{Submission}
 use Rattle.frames.specs.declared.frame.Factors.{Factors}
 use Rattle.frames.specs.declared.frame.Frame.{Frame}
-use Rattle.frames.specs.declared.frame.Frame.the-variants.{Open, Submit, Step, Take, Run, OpenScaled, Withdraw}
+use Rattle.frames.specs.declared.frame.Frame.the-variants.{Open, Submit, Step, Take, Run, OpenScaled, OpenRuled, Withdraw}
 use Rattle.frames.specs.declared.read.Reading.the-variants.{Read}
 use Rattle.numbers.specs.Bytes.{numberAt, bytesOf}
 use Rattle.numbers.specs.Signed.{unsignedOf, signedOf}
@@ -24,7 +24,7 @@ use Rattle.frames.specs.Width.{InWidth, SubmissionInWidth, FactorsInWidt
 use Rattle.frames.specs.Shape as shape
 use Rattle.frames.specs.Read.{lengthIn, kindIn, isWhole, hasKind, ownLength, submissionIn, factorsAt, frameIn, readRest, readOf}
 use Rattle.frames.specs.Outcome.{Passes}
-use Rattle.frames.specs.Write.{headBytes, openStart, factorsBytes, submissionStart, submissionEnd, frameBytes, padded, writtenBytes, writtenOf}
+use Rattle.frames.specs.Write.{headBytes, openStart, factorsBytes, scaledStart, submissionStart, submissionEnd, frameBytes, padded, writtenBytes, writtenOf}
 use Rattle.frames.proofs.OutcomeLaws.{read-passes}
 
 -- the bytes used are those of the frame
@@ -70,7 +70,7 @@ open-says places limit post p l = record {
 
 scaled-says : (places limit : ℕ) (factors : Factors) (post : List ℕ) → places < 65536 → limit < 4294967296 → FactorsInWidth factors
     → Says (frameBytes (OpenScaled places limit factors) ++ post) (OpenScaled places limit factors) (shape.lengthOf shape.kindOpenScaled) shape.kindOpenScaled
-unfolding frameBytes openStart factorsBytes headBytes bytesOf numberAt frameIn factorsAt
+unfolding frameBytes openStart factorsBytes scaledStart headBytes bytesOf numberAt frameIn factorsAt
 scaled-says places limit factors post p l w = record {
   there = omega arith;
   says-size = refl;
@@ -84,6 +84,29 @@ scaled-says places limit factors post p l w = record {
     speed = two-whole (factors .speed) (w .speed) i;
     draw = two-whole (factors .draw) (w .draw) i;
   });
+}
+
+ruled-says : (places limit : ℕ) (factors : Factors) (rule : ℕ) (post : List ℕ) → places < 65536 → limit < 4294967296 → FactorsInWidth factors
+    → Says (frameBytes (OpenRuled places limit factors rule) ++ post) (OpenRuled places limit factors rule) (shape.lengthOf shape.kindOpenRuled) shape.kindOpenRuled
+unfolding frameBytes openStart factorsBytes scaledStart headBytes bytesOf numberAt frameIn factorsAt
+ruled-says places limit factors rule post p l w = record {
+  there = omega arith;
+  says-size = refl;
+  says-kind = refl;
+  sized = refl;
+  is-kind = refl;
+  enough = lit≤ tt;
+  says-frame = λ i.
+      OpenRuled
+      (two-whole places p i)
+      (four-whole limit l i)
+      (record {
+        weight = two-whole (factors .weight) (w .weight) i;
+        moisture = two-whole (factors .moisture) (w .moisture) i;
+        speed = two-whole (factors .speed) (w .speed) i;
+        draw = two-whole (factors .draw) (w .draw) i;
+      })
+      rule;
 }
 
 -- four bytes of a signed number are read as the number
@@ -128,24 +151,26 @@ station-says kind station f post small size frame = record {
 
 -- the bytes of a frame in width, with any bytes after them, are read as the frame
 frame-reads : (f : Frame) → InWidth f → (post : List ℕ) (at : ℕ) → readRest (frameBytes f ++ post) at ≡ Read f (at + length (frameBytes f))
-unfolding frameBytes openStart factorsBytes submissionStart submissionEnd headBytes bytesOf frameIn
+unfolding frameBytes openStart factorsBytes scaledStart submissionStart submissionEnd headBytes bytesOf frameIn
 frame-reads (Open places limit) w post at = says-reads at (open-says places limit post (w .0) (w .1))
 frame-reads (Submit s) w post at = says-reads at (submit-says s post w)
 frame-reads (Step station) w post at = says-reads at (station-says shape.kindStep station (Step station) post (lit< tt) refl refl)
 frame-reads (Take station) w post at = says-reads at (station-says shape.kindTake station (Take station) post (lit< tt) refl refl)
 frame-reads (Run station) w post at = says-reads at (station-says shape.kindRun station (Run station) post (lit< tt) refl refl)
 frame-reads (OpenScaled places limit factors) w post at = says-reads at (scaled-says places limit factors post (w .0) (w .1) (w .2))
+frame-reads (OpenRuled places limit factors rule) w post at = says-reads at (ruled-says places limit factors rule post (w .0) (w .1) (w .2))
 frame-reads (Withdraw station) w post at = says-reads at (station-says shape.kindWithdraw station (Withdraw station) post (lit< tt) refl refl)
 
 -- a frame has at least its length bytes
 pub frame-length : (f : Frame) → 2 ≤ length (frameBytes f)
-unfolding frameBytes openStart factorsBytes submissionStart submissionEnd headBytes bytesOf
+unfolding frameBytes openStart factorsBytes scaledStart submissionStart submissionEnd headBytes bytesOf
 frame-length (Open places limit) = lit≤ tt
 frame-length (Submit s) = lit≤ tt
 frame-length (Step station) = lit≤ tt
 frame-length (Take station) = lit≤ tt
 frame-length (Run station) = lit≤ tt
 frame-length (OpenScaled places limit factors) = lit≤ tt
+frame-length (OpenRuled places limit factors rule) = lit≤ tt
 frame-length (Withdraw station) = lit≤ tt
 
 -- the same among other bytes

@@ -7,7 +7,7 @@ use lib.Dec.{eqb, leb, ltb}
 use Rattle.frames.specs.declared.frame.Submission.{Submission}
 use Rattle.frames.specs.declared.frame.Factors.{Factors}
 use Rattle.frames.specs.declared.frame.Frame.{Frame}
-use Rattle.frames.specs.declared.frame.Frame.the-variants.{Open, Submit, Step, Take, Run, OpenScaled, Withdraw}
+use Rattle.frames.specs.declared.frame.Frame.the-variants.{Open, Submit, Step, Take, Run, OpenScaled, OpenRuled, Withdraw}
 use Rattle.frames.specs.declared.read.Reading.{Reading}
 use Rattle.frames.specs.declared.read.Reading.the-variants.{Read, End, Refused}
 use Rattle.numbers.specs.Bytes.{numberAt}
@@ -26,7 +26,7 @@ kindIn rest = numberAt 2 rest shape.atKind
 unfoldable pub isWhole : List ℕ → Bool
 isWhole rest = leb 2 (length rest) && leb (shape.sizeOf (lengthIn rest)) (length rest)
 
--- Rules 7.1, question 14: "Is there a kind, 1 to 6 or 8?"; there is none "also for the lengths 0 and 1" (Rules 7.18)
+-- Rules 7.1, question 14: "Is there a kind, 1 to 8?"; there is none "also for the lengths 0 and 1" (Rules 7.18)
 unfoldable pub hasKind : List ℕ → Bool
 hasKind rest = leb 2 (lengthIn rest) && shape.isKind (kindIn rest)
 
@@ -56,7 +56,7 @@ factorsAt rest = record {
   draw = numberAt 2 rest shape.atDrawFactor;
 }
 
--- the frame of a kind; any number but the first six kinds is taken for a withdrawal's
+-- the frame of a kind; any number but the first seven kinds is taken for a withdrawal's
 unfoldable pub frameIn : ℕ → List ℕ → Frame
 frameIn kind rest =
     cond (eqb kind shape.kindOpen) (Open (numberAt 2 rest shape.atPlaces) (numberAt 4 rest shape.atLimit))
@@ -65,7 +65,9 @@ frameIn kind rest =
     (cond (eqb kind shape.kindTake) (Take (getD rest shape.atStation 0))
     (cond (eqb kind shape.kindRun) (Run (getD rest shape.atStation 0))
     (cond (eqb kind shape.kindOpenScaled) (OpenScaled (numberAt 2 rest shape.atPlaces) (numberAt 4 rest shape.atLimit) (factorsAt rest))
-    (Withdraw (getD rest shape.atStation 0)))))))
+    (cond (eqb kind shape.kindOpenRuled)
+    (OpenRuled (numberAt 2 rest shape.atPlaces) (numberAt 4 rest shape.atLimit) (factorsAt rest) (getD rest shape.atRule 0))
+    (Withdraw (getD rest shape.atStation 0))))))))
 
 -- the first of questions 13 to 15 that fails, or 0
 unfoldable pub frameQuestion : List ℕ → ℕ

@@ -23,6 +23,9 @@ kindRun = 5
 abbrev pub kindOpenScaled : ℕ
 kindOpenScaled = 6
 
+abbrev pub kindOpenRuled : ℕ
+kindOpenRuled = 7
+
 abbrev pub kindWithdraw : ℕ
 kindWithdraw = 8
 
@@ -33,14 +36,14 @@ atLength = 0
 abbrev pub atKind : ℕ
 atKind = 2
 
--- Rules 9.3: "places 2, limit 4", in an opening with factors as in one without
+-- Rules 9.3: "places 2, limit 4", in every opening
 abbrev pub atPlaces : ℕ
 atPlaces = 4
 
 abbrev pub atLimit : ℕ
 atLimit = 6
 
--- Rules 9.3: "places 2, limit 4, factors of weight, moisture, speed, draw 2 each"
+-- Rules 9.3: "places 2, limit 4, factors of weight, moisture, speed, draw 2 each", in an opening with a rule as in one without
 abbrev pub atWeightFactor : ℕ
 atWeightFactor = 10
 
@@ -52,6 +55,10 @@ atSpeedFactor = 14
 
 abbrev pub atDrawFactor : ℕ
 atDrawFactor = 16
+
+-- Rules 9.3: "places 2, limit 4, factors of weight, moisture, speed, draw 2 each, rule 1"
+abbrev pub atRule : ℕ
+atRule = 18
 
 -- Rules 9.3: "station 1", in every frame that names one
 abbrev pub atStation : ℕ
@@ -102,10 +109,11 @@ lengthOf kind =
     (cond (eqb kind kindTake) 3
     (cond (eqb kind kindRun) 3
     (cond (eqb kind kindOpenScaled) 16
+    (cond (eqb kind kindOpenRuled) 17
     (cond (eqb kind kindWithdraw) 3
-    0))))))
+    0)))))))
 
--- Rules 7.1, question 14: a kind, "1 to 6 or 8"; `ShapeLaws` says it so
+-- Rules 7.1, question 14: a kind, "1 to 8"; `ShapeLaws` says it so
 abbrev pub isKind : ℕ → Bool
 isKind kind = ltb 0 (lengthOf kind)
 

@@ -5,7 +5,7 @@ use lib.Signed.{mag}
 use Rattle.frames.specs.declared.frame.Submission.{Submission}
 use Rattle.frames.specs.declared.frame.Factors.{Factors}
 use Rattle.frames.specs.declared.frame.Frame.{Frame}
-use Rattle.frames.specs.declared.frame.Frame.the-variants.{Open, Submit, Step, Take, Run, OpenScaled, Withdraw}
+use Rattle.frames.specs.declared.frame.Frame.the-variants.{Open, Submit, Step, Take, Run, OpenScaled, OpenRuled, Withdraw}
 
 -- every field of a submission is of its width
 pub record SubmissionInWidth (s : Submission) : Type 0 where
@@ -33,6 +33,7 @@ InWidth (Step station) = station < 256
 InWidth (Take station) = station < 256
 InWidth (Run station) = station < 256
 InWidth (OpenScaled places limit factors) = (places < 65536) × (limit < 4294967296) × FactorsInWidth factors
+InWidth (OpenRuled places limit factors rule) = (places < 65536) × (limit < 4294967296) × FactorsInWidth factors × (rule < 256)
 InWidth (Withdraw station) = station < 256
 
 -- every field of every frame of the list

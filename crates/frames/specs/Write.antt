@@ -7,7 +7,7 @@ use lib.Dec.{eqb}
 use Rattle.frames.specs.declared.frame.Submission.{Submission}
 use Rattle.frames.specs.declared.frame.Factors.{Factors}
 use Rattle.frames.specs.declared.frame.Frame.{Frame}
-use Rattle.frames.specs.declared.frame.Frame.the-variants.{Open, Submit, Step, Take, Run, OpenScaled, Withdraw}
+use Rattle.frames.specs.declared.frame.Frame.the-variants.{Open, Submit, Step, Take, Run, OpenScaled, OpenRuled, Withdraw}
 use Rattle.frames.specs.declared.write.Written.{Written}
 use Rattle.frames.specs.declared.write.Fields.{Fields}
 use Rattle.frames.specs.declared.write.Writing.{Writing}
@@ -28,6 +28,10 @@ unfoldable pub factorsBytes : Factors → List ℕ
 factorsBytes factors =
     bytesOf 2 (factors .weight) ++ (bytesOf 2 (factors .moisture) ++ (bytesOf 2 (factors .speed) ++ bytesOf 2 (factors .draw)))
 
+-- an opening of this kind up to its factors
+unfoldable pub scaledStart : ℕ → ℕ → ℕ → Factors → List ℕ
+scaledStart kind places limit factors = openStart kind places limit ++ factorsBytes factors
+
 -- a submission up to its grade
 unfoldable pub submissionStart : Submission → List ℕ
 submissionStart s = headBytes shape.kindSubmit ++ (s .station ∷ s .kind ∷ bytesOf 2 (s .grade))
@@ -46,7 +50,8 @@ frameBytes (Submit s) = submissionStart s ++ submissionEnd s
 frameBytes (Step station) = headBytes shape.kindStep ++ (station ∷ [])
 frameBytes (Take station) = headBytes shape.kindTake ++ (station ∷ [])
 frameBytes (Run station) = headBytes shape.kindRun ++ (station ∷ [])
-frameBytes (OpenScaled places limit factors) = openStart shape.kindOpenScaled places limit ++ factorsBytes factors
+frameBytes (OpenScaled places limit factors) = scaledStart shape.kindOpenScaled places limit factors
+frameBytes (OpenRuled places limit factors rule) = scaledStart shape.kindOpenRuled places limit factors ++ (rule ∷ [])
 frameBytes (Withdraw station) = headBytes shape.kindWithdraw ++ (station ∷ [])
 
 -- with zeros behind, as many bytes as the longest frame has
@@ -82,7 +87,7 @@ submissionFrom fields = record {
   curve = fields .curve;
 }
 
--- the frame of a kind with its own of these fields; any number but the first six kinds is taken for a withdrawal's
+-- the frame of a kind with its own of these fields; any number but the first seven kinds is taken for a withdrawal's
 unfoldable pub frameFrom : ℕ → Fields → Frame
 frameFrom kind fields =
     cond (eqb kind shape.kindOpen) (Open (fields .places) (fields .limit))
@@ -91,7 +96,8 @@ frameFrom kind fields =
     (cond (eqb kind shape.kindTake) (Take (fields .station))
     (cond (eqb kind shape.kindRun) (Run (fields .station))
     (cond (eqb kind shape.kindOpenScaled) (OpenScaled (fields .places) (fields .limit) (fields .factors))
-    (Withdraw (fields .station)))))))
+    (cond (eqb kind shape.kindOpenRuled) (OpenRuled (fields .places) (fields .limit) (fields .factors) (fields .rule))
+    (Withdraw (fields .station))))))))
 
 -- Rules 9.6: "The writer takes a kind (question 14) and fields of exactly these widths"
 unfoldable pub writeOf : ℕ → Fields → Writing

@@ -20,7 +20,7 @@ pub struct Factors {
     pub draw: u16,
 }
 
-// A frame, kinds 1 to 6 and 8 in this order.
+// A frame, kinds 1 to 8 in this order.
 pub enum Frame {
     Open {
         places: u16,
@@ -40,6 +40,12 @@ pub enum Frame {
         places: u16,
         limit: u32,
         factors: Factors,
+    },
+    OpenRuled {
+        places: u16,
+        limit: u32,
+        factors: Factors,
+        rule: u8,
     },
     Withdraw {
         station: u8,

@@ -30,7 +30,7 @@ fn is_whole(rest: &[u8]) -> bool
     (2 <= rest.len()) & (size_of(two_at(rest, shape::AT_LENGTH)) <= rest.len())
 }
 
-// Question 14: there is a kind, 1 to 6 or 8.
+// Question 14: there is a kind, 1 to 8.
 fn has_kind(rest: &[u8]) -> bool
     ensures { λ r. ⌜ r ≡ hasKind (now (rest .entry)) ⌝ }
 {
@@ -82,7 +82,7 @@ fn factors_at(rest: &[u8]) -> Factors
     }
 }
 
-// The frame of a kind that starts the bytes. Any number but the first six kinds is taken for a withdrawal's.
+// The frame of a kind that starts the bytes. Any number but the first seven kinds is taken for a withdrawal's.
 fn frame_in(kind: u16, rest: &[u8]) -> Frame
     ensures { λ r. ⌜ r ≡ frameIn kind (now (rest .entry)) ⌝ }
 {
@@ -105,6 +105,12 @@ fn frame_in(kind: u16, rest: &[u8]) -> Frame
             places: two_at(rest, shape::AT_PLACES),
             limit: four_at(rest, shape::AT_LIMIT),
             factors: factors_at(rest),
+        },
+        shape::KIND_OPEN_RULED => Frame::OpenRuled {
+            places: two_at(rest, shape::AT_PLACES),
+            limit: four_at(rest, shape::AT_LIMIT),
+            factors: factors_at(rest),
+            rule: one_at(rest, shape::AT_RULE),
         },
         _ => Frame::Withdraw {
             station: one_at(rest, shape::AT_STATION),

@@ -17,6 +17,8 @@ pub(crate) const KIND_RUN: u16 = 5;
 
 pub(crate) const KIND_OPEN_SCALED: u16 = 6;
 
+pub(crate) const KIND_OPEN_RULED: u16 = 7;
+
 pub(crate) const KIND_WITHDRAW: u16 = 8;
 
 // What every frame begins with. An offset is counted from the first byte of the frame.
@@ -24,12 +26,12 @@ pub(crate) const AT_LENGTH: u8 = 0;
 
 pub(crate) const AT_KIND: u8 = 2;
 
-// The fields of an opening, with factors or without.
+// The fields of every opening.
 pub(crate) const AT_PLACES: u8 = 4;
 
 pub(crate) const AT_LIMIT: u8 = 6;
 
-// The factors, behind them.
+// The factors, behind them, in an opening with a rule as in one without.
 pub(crate) const AT_WEIGHT_FACTOR: u8 = 10;
 
 pub(crate) const AT_MOISTURE_FACTOR: u8 = 12;
@@ -37,6 +39,9 @@ pub(crate) const AT_MOISTURE_FACTOR: u8 = 12;
 pub(crate) const AT_SPEED_FACTOR: u8 = 14;
 
 pub(crate) const AT_DRAW_FACTOR: u8 = 16;
+
+// The rule, behind these.
+pub(crate) const AT_RULE: u8 = 18;
 
 // The station, in every frame that names one.
 pub(crate) const AT_STATION: u8 = 4;
@@ -77,6 +82,7 @@ pub(crate) fn length_of(kind: u16) -> u16
         KIND_TAKE => 3,
         KIND_RUN => 3,
         KIND_OPEN_SCALED => 16,
+        KIND_OPEN_RULED => 17,
         KIND_WITHDRAW => 3,
         _ => 0,
     }

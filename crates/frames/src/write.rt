@@ -12,7 +12,7 @@ use numbers::put::put_signed;
 use numbers::put::put_two;
 ghost use mathlib.Core.Path.{_≡_};
 ghost use Rattle.frames.specs.declared.frame.Frame.{Frame};
-ghost use Rattle.frames.specs.Write.{headBytes, openStart, submissionStart, padded, counted, stationWritten, writtenOf, submissionFrom, frameFrom, writeOf};
+ghost use Rattle.frames.specs.Write.{headBytes, openStart, scaledStart, submissionStart, padded, counted, stationWritten, writtenOf, submissionFrom, frameFrom, writeOf};
 
 // The bytes of a frame, and how many of them are used.
 pub struct Written {
@@ -25,6 +25,7 @@ pub struct Fields {
     pub places: u16,
     pub limit: u32,
     pub factors: Factors,
+    pub rule: u8,
     pub station: u8,
     pub call: u8,
     pub grade: u16,
@@ -81,16 +82,35 @@ fn write_open(places: u16, limit: u32) -> Written
     )
 }
 
-// An opening with factors, written.
-fn write_open_scaled(places: u16, limit: u32, factors: Factors) -> Written
-    ensures { λ r. ⌜ r ≡ writtenOf (Frame.OpenScaled places limit factors) ⌝ }
+// The bytes of an opening of this kind up to its factors.
+fn scaled_start(kind: u16, places: u16, limit: u32, factors: Factors) -> [u8; shape::LONGEST]
+    ensures { λ r. ⌜ r ≡ padded (scaledStart kind places limit factors) ⌝ }
 {
-    let mut bytes = open_start(shape::KIND_OPEN_SCALED, places, limit);
+    let mut bytes = open_start(kind, places, limit);
     put_two(&mut bytes, shape::AT_WEIGHT_FACTOR, factors.weight);
     put_two(&mut bytes, shape::AT_MOISTURE_FACTOR, factors.moisture);
     put_two(&mut bytes, shape::AT_SPEED_FACTOR, factors.speed);
     put_two(&mut bytes, shape::AT_DRAW_FACTOR, factors.draw);
-    counted(shape::KIND_OPEN_SCALED, bytes)
+    bytes
+}
+
+// An opening with factors, written.
+fn write_open_scaled(places: u16, limit: u32, factors: Factors) -> Written
+    ensures { λ r. ⌜ r ≡ writtenOf (Frame.OpenScaled places limit factors) ⌝ }
+{
+    counted(
+        shape::KIND_OPEN_SCALED,
+        scaled_start(shape::KIND_OPEN_SCALED, places, limit, factors),
+    )
+}
+
+// An opening with factors and a rule, written.
+fn write_open_ruled(places: u16, limit: u32, factors: Factors, rule: u8) -> Written
+    ensures { λ r. ⌜ r ≡ writtenOf (Frame.OpenRuled places limit factors rule) ⌝ }
+{
+    let mut bytes = scaled_start(shape::KIND_OPEN_RULED, places, limit, factors);
+    put_one(&mut bytes, shape::AT_RULE, rule);
+    counted(shape::KIND_OPEN_RULED, bytes)
 }
 
 // The bytes of a submission up to its grade.
@@ -141,6 +161,12 @@ pub fn write_frame(frame: Frame) -> Written
             limit,
             factors,
         } => write_open_scaled(places, limit, factors),
+        Frame::OpenRuled {
+            places,
+            limit,
+            factors,
+            rule,
+        } => write_open_ruled(places, limit, factors, rule),
         Frame::Withdraw { station } => write_station(shape::KIND_WITHDRAW, station),
     }
 }
@@ -161,7 +187,7 @@ fn submission_from(fields: Fields) -> Submission
     }
 }
 
-// The frame of a kind with its own of these fields. Any number but the first six kinds is taken for a withdrawal's.
+// The frame of a kind with its own of these fields. Any number but the first seven kinds is taken for a withdrawal's.
 fn frame_from(kind: u16, fields: Fields) -> Frame
     ensures { λ r. ⌜ r ≡ frameFrom kind fields ⌝ }
 {
@@ -186,6 +212,15 @@ fn frame_from(kind: u16, fields: Fields) -> Frame
                 places: fields.places,
                 limit: fields.limit,
                 factors: factors,
+            }
+        }
+        shape::KIND_OPEN_RULED => {
+            let factors = fields.factors;
+            Frame::OpenRuled {
+                places: fields.places,
+                limit: fields.limit,
+                factors: factors,
+                rule: fields.rule,
             }
         }
         _ => Frame::Withdraw {

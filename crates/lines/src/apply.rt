@@ -7,6 +7,7 @@ use numbers::cast::byte_as_word;
 use numbers::cast::pair_as_word;
 use openings::open::open;
 use points::point::Point;
+use points::rule::PLAIN_RULE;
 use points::scale::Scale;
 use points::scale::plain_scale;
 use runs::run::run;
@@ -61,11 +62,12 @@ fn submit_all(words: &mut [u32], s: Submission) -> u32
     )
 }
 
-// The scale of four factors.
-fn scale_of(factors: Factors) -> Scale
-    ensures { λ r. ⌜ r ≡ scaleOf factors ⌝ }
+// The scale of a rule and four factors.
+fn scale_of(rule: u32, factors: Factors) -> Scale
+    ensures { λ r. ⌜ r ≡ scaleOf rule factors ⌝ }
 {
     Scale {
+        rule: rule,
         weight: pair_as_word(factors.weight),
         moisture: pair_as_word(factors.moisture),
         speed: pair_as_word(factors.speed),
@@ -106,7 +108,13 @@ pub fn apply_frame(words: &mut [u32], frame: Frame) -> Applied
             places,
             limit,
             factors,
-        } => Applied::Number(open_all(words, places, limit, scale_of(factors))),
+        } => Applied::Number(open_all(words, places, limit, scale_of(PLAIN_RULE, factors))),
+        Frame::OpenRuled {
+            places,
+            limit,
+            factors,
+            rule,
+        } => Applied::Number(open_all(words, places, limit, scale_of(byte_as_word(rule), factors))),
         Frame::Withdraw { station } => Applied::Number(withdraw(words, byte_as_word(station))),
     }
 }

@@ -4,7 +4,7 @@ use Rattle.frames.proofs.read.frame_in.Statement.{statement}
 use Rattle.frames.proofs.read.frame_in.Tie as tie
 use borrow.Author.Tests.{ne-eqb}
 use mathlib.Core.Path.{ap}
-use Rattle.frames.specs.declared.frame.Frame.the-variants.{Submit, Step, Take, Run, OpenScaled, Withdraw}
+use Rattle.frames.specs.declared.frame.Frame.the-variants.{Submit, Step, Take, Run, OpenScaled, OpenRuled, Withdraw}
 use Rattle.frames.specs.Read.{frameIn}
 
 two-at-requires : tie.Need-two-at-requires
@@ -34,8 +34,20 @@ four-at-requires-2 c κs = search needs
 factors-at-requires : tie.Need-factors-at-requires
 factors-at-requires c κs = search needs
 
+two-at-requires-3 : tie.Need-two-at-requires-3
+two-at-requires-3 c κs = search needs
+
+four-at-requires-3 : tie.Need-four-at-requires-3
+four-at-requires-3 c κs = search needs
+
+factors-at-requires-2 : tie.Need-factors-at-requires-2
+factors-at-requires-2 c κs = search needs
+
 one-at-requires-4 : tie.Need-one-at-requires-4
 one-at-requires-4 c κs = search needs
+
+one-at-requires-5 : tie.Need-one-at-requires-5
+one-at-requires-5 c κs = search needs
 
 returns : tie.Need-returns
 unfolding frameIn
@@ -66,15 +78,27 @@ returns-6 c =
 returns-7 : tie.Need-returns-7
 unfolding frameIn
 returns-7 c =
+    rw (c .before .before .before .before .match .keys7)
+    (λ i.
+    OpenRuled
+    (c .before .before .before .two-at3 .ensures i)
+    (c .before .before .four-at3 .ensures i)
+    (c .before .factors-at2 .ensures i)
+    (c .one-at4 .ensures i))
+
+returns-8 : tie.Need-returns-8
+unfolding frameIn
+returns-8 c =
     let r = c .before .match .rest in
     simp (
+      ne-eqb _ _ (r .0 .0 .0 .0 .0 .0 .1),
       ne-eqb _ _ (r .0 .0 .0 .0 .0 .1),
       ne-eqb _ _ (r .0 .0 .0 .0 .1),
       ne-eqb _ _ (r .0 .0 .0 .1),
       ne-eqb _ _ (r .0 .0 .1),
       ne-eqb _ _ (r .0 .1),
       ne-eqb _ _ (r .1),
-    ) (ap Withdraw (c .one-at4 .ensures))
+    ) (ap Withdraw (c .one-at5 .ensures))
 
 pub frame-in-spec : {M : Type 1} → statement M
 frame-in-spec =
@@ -89,11 +113,16 @@ frame-in-spec =
     two-at-requires-2
     four-at-requires-2
     factors-at-requires
+    two-at-requires-3
+    four-at-requires-3
+    factors-at-requires-2
     one-at-requires-4
+    one-at-requires-5
     returns
     returns-2
     returns-3
     returns-4
     returns-5
     returns-6
-    returns-7)
+    returns-7
+    returns-8)

@@ -25,9 +25,13 @@ returns-7 : tie.Need-returns-7
 returns-7 c = rw (c .match .keys7)
 
 returns-8 : tie.Need-returns-8
-returns-8 c =
+returns-8 c = rw (c .match .keys8)
+
+returns-9 : tie.Need-returns-9
+returns-9 c =
     let r = c .match .rest in
     simp (
+      ne-eqb _ _ (r .0 .0 .0 .0 .0 .0 .0 .1),
       ne-eqb _ _ (r .0 .0 .0 .0 .0 .0 .1),
       ne-eqb _ _ (r .0 .0 .0 .0 .0 .1),
       ne-eqb _ _ (r .0 .0 .0 .0 .1),
@@ -39,4 +43,4 @@ returns-8 c =
 
 pub length-of-spec : {M : Type 1} → statement M
 length-of-spec =
-    tie.close (tie.spec returns returns-2 returns-3 returns-4 returns-5 returns-6 returns-7 returns-8)
+    tie.close (tie.spec returns returns-2 returns-3 returns-4 returns-5 returns-6 returns-7 returns-8 returns-9)

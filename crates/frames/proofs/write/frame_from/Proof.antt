@@ -36,9 +36,14 @@ returns-6 c = rw (c .before .match .keys6)
 
 returns-7 : tie.Need-returns-7
 unfolding frameFrom
-returns-7 c =
+returns-7 c = rw (c .before .match .keys7)
+
+returns-8 : tie.Need-returns-8
+unfolding frameFrom
+returns-8 c =
     let r = c .match .rest in
     simp (
+      ne-eqb _ _ (r .0 .0 .0 .0 .0 .0 .1),
       ne-eqb _ _ (r .0 .0 .0 .0 .0 .1),
       ne-eqb _ _ (r .0 .0 .0 .0 .1),
       ne-eqb _ _ (r .0 .0 .0 .1),
@@ -49,4 +54,4 @@ returns-7 c =
 
 pub frame-from-spec : {M : Type 1} → statement M
 frame-from-spec =
-    tie.close (tie.spec submission-from-requires returns returns-2 returns-3 returns-4 returns-5 returns-6 returns-7)
+    tie.close (tie.spec submission-from-requires returns returns-2 returns-3 returns-4 returns-5 returns-6 returns-7 returns-8)

@@ -8,7 +8,7 @@ returns : tie.Need-returns
 unfolding submissionFrom
 returns c =
     let f = c .before .args .fields in
-    let told = c .struct-told .given .1 .1 .1 .1 .1 .1 in
+    let told = c .struct-told .given .1 .1 .1 .1 .1 .1 .1 in
     λ i. record {
       station = f .station;
       kind = f .call;

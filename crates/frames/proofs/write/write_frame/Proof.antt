@@ -44,6 +44,12 @@ write-open-scaled-requires c κs = search needs
 enum-known-frame-7 : tie.Need-enum-known-frame-7
 enum-known-frame-7 c = search needs
 
+write-open-ruled-requires : tie.Need-write-open-ruled-requires
+write-open-ruled-requires c κs = search needs
+
+enum-known-frame-8 : tie.Need-enum-known-frame-8
+enum-known-frame-8 c = search needs
+
 write-station-requires-4 : tie.Need-write-station-requires-4
 write-station-requires-4 c κs = search needs
 
@@ -69,8 +75,11 @@ returns-6 : tie.Need-returns-6
 returns-6 c = rw (c .before .before .frame6 .given .1) (c .write-open-scaled .ensures)
 
 returns-7 : tie.Need-returns-7
+returns-7 c = rw (c .before .before .frame7 .given .1) (c .write-open-ruled .ensures)
+
+returns-8 : tie.Need-returns-8
 unfolding writtenOf writtenBytes stationWritten counted frameBytes headBytes bytesOf
-returns-7 c = rw (c .before .before .frame7 .given .1) (c .write-station4 .ensures)
+returns-8 c = rw (c .before .before .frame8 .given .1) (c .write-station4 .ensures)
 
 pub write-frame-spec : {M : Type 1} → statement M
 write-frame-spec =
@@ -89,6 +98,8 @@ write-frame-spec =
     enum-known-frame-6
     write-open-scaled-requires
     enum-known-frame-7
+    write-open-ruled-requires
+    enum-known-frame-8
     write-station-requires-4
     returns
     returns-2
@@ -96,4 +107,5 @@ write-frame-spec =
     returns-4
     returns-5
     returns-6
-    returns-7)
+    returns-7
+    returns-8)

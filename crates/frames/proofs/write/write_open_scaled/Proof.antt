@@ -2,67 +2,18 @@
 use borrow.Author.Needs.{needs}
 use Rattle.frames.proofs.write.write_open_scaled.Statement.{statement}
 use Rattle.frames.proofs.write.write_open_scaled.Tie as tie
-use Rattle.numbers.specs.Bytes.{bytesOf, putNumber}
-use Rattle.frames.specs.Write.{headBytes, openStart, factorsBytes, frameBytes, padded, counted, writtenBytes, writtenOf}
+use Rattle.numbers.specs.Bytes.{bytesOf}
+use Rattle.frames.specs.Write.{headBytes, openStart, factorsBytes, scaledStart, frameBytes, counted, writtenBytes, writtenOf}
 
-open-start-requires : tie.Need-open-start-requires
-open-start-requires c κs = search needs
-
-slice-aggregate-put-two : tie.Need-slice-aggregate-put-two
-slice-aggregate-put-two c = search needs
-
-put-two-requires : tie.Need-put-two-requires
-put-two-requires c κs = search needs
-
-slice-aggregate-put-two-2 : tie.Need-slice-aggregate-put-two-2
-slice-aggregate-put-two-2 c = search needs
-
-put-two-requires-2 : tie.Need-put-two-requires-2
-put-two-requires-2 c κs = search needs
-
-slice-aggregate-put-two-3 : tie.Need-slice-aggregate-put-two-3
-slice-aggregate-put-two-3 c = search needs
-
-put-two-requires-3 : tie.Need-put-two-requires-3
-put-two-requires-3 c κs = search needs
-
-slice-aggregate-put-two-4 : tie.Need-slice-aggregate-put-two-4
-slice-aggregate-put-two-4 c = search needs
-
-put-two-requires-4 : tie.Need-put-two-requires-4
-put-two-requires-4 c κs = search needs
+scaled-start-requires : tie.Need-scaled-start-requires
+scaled-start-requires c κs = search needs
 
 counted-requires : tie.Need-counted-requires
 counted-requires c κs = search needs
 
 returns : tie.Need-returns
-unfolding writtenOf writtenBytes frameBytes openStart factorsBytes headBytes padded counted bytesOf putNumber
-returns c =
-    let draw = c .before .before in
-    let speed = draw .before .before .before in
-    let moisture = speed .before .before .before in
-    let weight = moisture .before .before .before in
-    rw (
-      c .counted .ensures,
-      draw .put-two4 .ensures,
-      speed .put-two3 .ensures,
-      moisture .put-two2 .ensures,
-      weight .put-two .ensures,
-      weight .before .before .open-start .ensures,
-    )
+unfolding writtenOf writtenBytes frameBytes scaledStart openStart factorsBytes headBytes counted bytesOf
+returns c = rw (c .counted .ensures, c .before .scaled-start .ensures)
 
 pub write-open-scaled-spec : {M : Type 1} → statement M
-write-open-scaled-spec =
-    tie.close
-    (tie.spec
-    open-start-requires
-    slice-aggregate-put-two
-    put-two-requires
-    slice-aggregate-put-two-2
-    put-two-requires-2
-    slice-aggregate-put-two-3
-    put-two-requires-3
-    slice-aggregate-put-two-4
-    put-two-requires-4
-    counted-requires
-    returns)
+write-open-scaled-spec = tie.close (tie.spec scaled-start-requires counted-requires returns)

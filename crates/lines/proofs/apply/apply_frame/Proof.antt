@@ -6,8 +6,9 @@ use mathlib.Core.Path.{_≡_, ap}
 use Rattle.calls.specs.Reply.{Reply}
 use Rattle.calls.specs.Open.{openOf}
 use Rattle.lines.specs.declared.apply.Applied.the-variants.{Number}
-use Rattle.lines.specs.Apply.{applyOf, applyWords}
+use Rattle.lines.specs.Apply.{scaleOf, applyOf, applyWords}
 use mathlib.Core.Path.{_∙_}
+use Prim.Native.Nat.{ℕ}
 use denote.Ref.{now}
 use Rattle.calls.specs.Step.{stepOf}
 use Rattle.calls.specs.Run.{runOf}
@@ -72,6 +73,18 @@ enum-known-frame-7 c = search needs
 
 byte-as-word-requires-4 : tie.Need-byte-as-word-requires-4
 byte-as-word-requires-4 c κs = search needs
+
+scale-of-requires-2 : tie.Need-scale-of-requires-2
+scale-of-requires-2 c κs = search needs
+
+open-all-requires-3 : tie.Need-open-all-requires-3
+open-all-requires-3 c κs = search needs
+
+enum-known-frame-8 : tie.Need-enum-known-frame-8
+enum-known-frame-8 c = search needs
+
+byte-as-word-requires-5 : tie.Need-byte-as-word-requires-5
+byte-as-word-requires-5 c κs = search needs
 
 withdraw-requires : tie.Need-withdraw-requires
 withdraw-requires c κs = search needs
@@ -142,9 +155,24 @@ same-length-7 c = search needs
 returns-7 : tie.Need-returns-7
 unfolding applyOf applyWords
 returns-7 c =
-    let f = c .before .before .before .before .before .before .frame7 in
+    let f = c .before .before .before .before .before .before .before .frame7 in
+    let words = now (c .before .before .before .before .before .before .before .before .before .before .args .words) in
+    let opening = openOf words (f .given .0 .0) (f .given .0 .1 .0) in
+    let byte = c .before .before .before .before .byte-as-word4 .ensures in
+    let e = c .before .before .open-all3 .ensures
+    ∙ ap opening (c .before .before .before .scale-of2 .ensures)
+    ∙ ap (λ (rule : ℕ). opening (scaleOf rule (f .given .0 .1 .1 .0))) byte in
+    rw (f .given .1) (ap (λ (r : Reply). Number (r .number)) e, ap (λ (r : Reply). r .words) e)
+
+same-length-8 : tie.Need-same-length-8
+same-length-8 c = search needs
+
+returns-8 : tie.Need-returns-8
+unfolding applyOf applyWords
+returns-8 c =
+    let f = c .before .before .before .before .before .before .frame8 in
     let words = now (c .before .before .before .before .before .before .before .before .before .args .words) in
-    let e = c .before .before .withdraw .ensures ∙ ap (withdrawOf words) (c .before .before .before .byte-as-word4 .ensures) in
+    let e = c .before .before .withdraw .ensures ∙ ap (withdrawOf words) (c .before .before .before .byte-as-word5 .ensures) in
     rw (f .given .1) (ap (λ (r : Reply). Number (r .number)) e, ap (λ (r : Reply). r .words) e)
 
 pub apply-frame-spec : {M : Type 1} → statement M
@@ -171,6 +199,10 @@ apply-frame-spec =
     open-all-requires-2
     enum-known-frame-7
     byte-as-word-requires-4
+    scale-of-requires-2
+    open-all-requires-3
+    enum-known-frame-8
+    byte-as-word-requires-5
     withdraw-requires
     same-length
     returns
@@ -185,4 +217,6 @@ apply-frame-spec =
     same-length-6
     returns-6
     same-length-7
-    returns-7)
+    returns-7
+    same-length-8
+    returns-8)
