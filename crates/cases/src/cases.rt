@@ -102,11 +102,11 @@ pub fn frame_refusals(to: &mut [u8], at: usize) -> usize {
         to,
         at,
         b"
-        # A length byte and a byte that it counts not there; no kind, and kinds 0, 7, 9 and 65,535; another kind's length; the later questions
+        # A length byte and a byte that it counts not there; no kind, and kinds 0, 9, 10 and 65,535; another kind's length; the later questions
           failing as well. The last four frames are whole, and their calls are refused.
         =refusals 13, 14 and 15|frames|
         O 672 2 10 0 0 0; F 672 1 3 3 0 13; F 672 4 3 3 0 13; F 672 5 4 9 0 13; F 672 2 0 0 0 14; F 672 3 1 3 0 14; F 672 4 2 0 0 14;
-        F 672 4 2 7 0 14; F 672 5 3 7 0 14; F 672 5 3 9 0 14; F 672 4 2 65535 0 14; F 672 4 2 1 0 15; F 672 10 8 2 0 15;
+        F 672 4 2 9 0 14; F 672 5 3 9 0 14; F 672 5 3 10 0 14; F 672 4 2 65535 0 14; F 672 4 2 1 0 15; F 672 10 8 2 0 15;
         F 672 6 4 3 0 15; F 672 4 2 8 0 15; F 672 5 3 3 0 10; F 672 5 3 4 0 12; F 672 5 3 8 0 10; F 672 10 8 1 0 1;",
     )
 }
@@ -178,21 +178,27 @@ pub fn histories(to: &mut [u8], at: usize) -> usize {
           its slot with the stair's grade 12, so that every side admits it.
         =eight searches in turn on a stair of 4,096 records|steps without an answer, of 65536 at most|
         x 0; e 0 4 139 500 10; a 66000; l;
-        # Short random histories, audited after every event, half of their openings with factors.
+        # Short random histories, audited after every event, half of their openings under rule 2 and half of them with factors.
         =random histories, one place, full at times|events|h 1 500000000 2 3 200 600 1 40;
         =random histories, 5 places, full at times|events|h 5 500000000 9 3 200 600 1 40;
         =random histories, 6 places, 2 changes of each station, spent at times|events|h 6 2 9 4 200 600 1 40;
         =random histories, 30 places|events|h 30 500000000 60 8 200 600 1 40;
         =random histories, 20 places, points all over the ranges|events|h 20 500000000 100000 8 200 600 1 40 1;
+        =random histories, 4 places, sheets near in dry weight|events|h 4 500000000 0 3 200 600 1 40 2;
+        =random histories, 30 places, sheets near in dry weight|events|h 30 500000000 0 8 200 600 1 40 2;
         # Long random histories, and the deepest trees with calls and a random history on them.
         =long random histories, 60 places, near points|events|h 60 500000000 50 3 5 100000 0 400;
         =long random histories, 500 places, all weights|events|h 500 500000000 99999 8 5 100000 0 400;
         =long random histories, 200 places, points all over the ranges|events|h 200 500000000 100000 8 5 50000 0 400 1;
+        =long random histories, 300 places, sheets near in dry weight|events|h 300 500000000 0 8 5 50000 0 400 2;
         =a stair of 4,096 records, lightest first|events|
         x 0; n 4096; c 0 4 12 1; c 1 4 12 100000; c 2 4 12 40011; c 3 4 13 40011; c 4 1 12 100000 7; n 4096;
         c 5 2 12 40021; n 4095; c 6 1 12 100000 8; c 7 3 12 40021; n 4096; b 4096 500000000 81920 3 1 6000 0 250;
         =a stair of 4,096 records, heaviest first|events|
         x 1; n 4096; c 0 4 12 1; c 1 4 12 100000; c 2 4 12 40011; c 3 4 13 40011; c 4 1 12 100000 7; n 4096;
+        c 5 2 12 40021; n 4095; c 6 1 12 100000 8; c 7 3 12 40021; n 4096; b 4096 500000000 81920 3 1 6000 0 250;
+        =a stair of 4,096 records under rule 2, lightest first|events|
+        x 0 2; n 4096; c 0 4 12 1; c 1 4 12 100000; c 2 4 12 40011; c 3 4 13 40011; c 4 1 12 100000 7; n 4096;
         c 5 2 12 40021; n 4095; c 6 1 12 100000 8; c 7 3 12 40021; n 4096; b 4096 500000000 81920 3 1 6000 0 250;",
     )
 }

@@ -59,14 +59,15 @@ pub fn stored(to: &mut [u8], at: usize) -> usize {
         to,
         at,
         b"
-        # Every call fails, with the limit above its range and with the marks of the layouts before, of which the first had no counters and neither had factors.
-          With the words mended calls go on.
+        # Every call fails, with the limit above its range and with the marks of the layouts before, of which the first had no counters, the first two no
+          factors and all three no rule. With the words mended calls go on.
         =stored limit 500,000,000, and refusal 4 for one more and for the marks before|calls|
         O 672 2 10 0 0 0; W 672 2 500000000 0 0 0; S 672 0 3 8000 0 0; T 672 0 0 0 0 0; K 672 0 6 0 0 0; W 672 2 500000001 0 0 0; S 672 0 3 8000 0 4;
         T 672 0 0 0 0 4; R 672 0 0 0 0 4; K 672 0 0 0 0 4; D 672 0 0 0 0 4; P 672 0 0 0 0 4; A 672 0 0 0 0 4; W 672 2 1 0 0 0; P 672 0 0 0 0 0;
         W 672 0 1279683398 0 0 0; S 672 0 3 8000 0 4; T 672 0 0 0 0 4; R 672 0 0 0 0 4; K 672 0 0 0 0 4; D 672 0 0 0 0 4; P 672 0 0 0 0 4; A 672 0 0 0 0 4;
         W 672 0 1279683399 0 0 0; S 672 0 3 8000 0 4; T 672 0 0 0 0 4; R 672 0 0 0 0 4; K 672 0 0 0 0 4; D 672 0 0 0 0 4; P 672 0 0 0 0 4; A 672 0 0 0 0 4;
-        W 672 0 1279683400 0 0 0; S 672 0 3 8000 0 0; T 672 0 0 0 0 0; K 672 0 6 0 0 0;
+        W 672 0 1279683400 0 0 0; S 672 0 3 8000 0 4; T 672 0 0 0 0 4; R 672 0 0 0 0 4; K 672 0 0 0 0 4; D 672 0 0 0 0 4; P 672 0 0 0 0 4; A 672 0 0 0 0 4;
+        W 672 0 1279683401 0 0 0; S 672 0 3 8000 0 0; T 672 0 0 0 0 0; K 672 0 6 0 0 0;
         # Of limits 10, 1 and 500,000,000.
         =all changes at 8 times the limit, and refusal 11 for one more|calls|
         O 672 2 10 0 0 0; S 672 0 3 8000 0 0; W 672 3 81 0 0 0; T 672 0 0 0 0 11; R 672 0 0 0 0 11; D 672 0 0 0 0 11; W 672 3 80 0 0 0; T 672 0 0 0 0 0;

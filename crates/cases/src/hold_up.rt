@@ -23,6 +23,8 @@ pub fn held_up(to: &mut [u8], at: usize) -> usize {
         =searches beside stations that remove and add around them, 256 places|thousandths of the own steps allowed, at most|
         v 256 1 40 4000; p;
         =searches by factors beside stations that remove and add around them, 2 to 32 places|thousandths of the own steps allowed, at most|
-        v 2 31 1000 250 1; p;",
+        v 2 31 1000 250 1; p;
+        =searches by dry weight beside stations that remove and add around them, 2 to 32 places|thousandths of the own steps allowed, at most|
+        v 2 31 1000 250 2; p;",
     )
 }

@@ -4,6 +4,8 @@ use crate::counters;
 use crate::factors;
 use crate::grades;
 use crate::hold_up;
+use crate::rule_words;
+use crate::rules;
 use crate::tally::refuse;
 use crate::withdrawals;
 use libc::STDIN_FILENO;
@@ -58,6 +60,31 @@ fn factored(to: &mut [u8], at: usize) -> usize {
     factors::beside(to, end)
 }
 
+// Openings with a rule, and calls on the words that it judges.
+fn judged(to: &mut [u8], at: usize) -> usize {
+    let mut end = rules::opened(to, at);
+    end = rules::moist(to, end);
+    end = rule_words::stored(to, end);
+    end = rule_words::rows(to, end);
+    end = rule_words::records(to, end);
+    rules::framed(to, end)
+}
+
+// Searches by dry weight.
+fn dried(to: &mut [u8], at: usize) -> usize {
+    let mut end = rules::nearest(to, at);
+    end = rules::tops(to, end);
+    end = rules::beyond(to, end);
+    end = rules::tied(to, end);
+    rules::beside(to, end)
+}
+
+// The two rules.
+fn ruled(to: &mut [u8], at: usize) -> usize {
+    let end = judged(to, at);
+    dried(to, end)
+}
+
 // All the cases of the program.
 fn all(to: &mut [u8]) -> usize {
     let mut end = lone(to, 0);
@@ -67,6 +94,7 @@ fn all(to: &mut [u8]) -> usize {
     end = grades::shared(to, end);
     end = counted(to, end);
     end = factored(to, end);
+    end = ruled(to, end);
     random(to, end)
 }
 

@@ -6,6 +6,8 @@ mod grades;
 mod hold_up;
 mod input;
 mod play;
+mod rule_words;
+mod rules;
 mod tally;
 mod withdrawals;
 
@@ -22,7 +24,7 @@ fn main() {
     let mut words = [0u32; 131680];
     let mut copied = [0u32; 131680];
     let mut book = [0u64; 29000];
-    let mut text = io::large_buffer();
+    let mut text = [0u8; 131072];
     fill(&mut words, 1515870811);
     let end = input::ready(&mut text, &mut book);
     run(&mut words, &mut copied, &mut book, &text, end);

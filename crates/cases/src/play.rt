@@ -2,11 +2,13 @@
 use crate::tally::end_case;
 use contests::contest::contests;
 use contests::hindered;
+use lone_calls::ends::ends;
 use lone_calls::raw;
 use paired::history::busy;
 use paired::history::histories;
 use paired::history::plan_of;
 use paired::orders::every_order;
+use paired::script::rule_given;
 use paired::stairs::build;
 use plain_list::own;
 use plain_list::parts::end_from;
@@ -18,17 +20,17 @@ use plain_list::text::item_of;
 use plain_list::verdict::begin_case;
 use plain_list::verdict::judge;
 
-// What an item asks for: h random histories of a plan, b one on the index as it is, x a stair, y every axis at its ends, v contests; l, m and p what
-// the line tells: the longest stretch, the most own steps of a search, their greatest share; a capital letter for a call on the index alone, and
-// any other for an event on the index and on the plain table, which is wrong where there is no such event.
+// What an item asks for: h random histories of a plan, b one on the index as it is, x a stair and y every axis at its ends, both under a rule, v
+// contests; l, m and p what the line tells: the longest stretch, the most own steps of a search, their greatest share; a capital letter for a call on the
+// index alone, and any other for an event on the index and on the plain table, which is wrong where there is no such event.
 fn perform(words: &mut [u32], copied: &mut [u32], book: &mut [u64], item: Item) {
     let n = item.n;
     let letter = item.letter;
     match letter {
         b'h' => histories(words, copied, book, plan_of(n)),
         b'b' => busy(words, copied, book, n),
-        b'x' => build(words, book, n[0] == 1),
-        b'y' => raw::ends(words, copied, book),
+        b'x' => build(words, book, n[0] == 1, rule_given(n[1])),
+        b'y' => ends(words, copied, book, rule_given(n[0])),
         b'v' => contests(words, book, n),
         b'l' => stretch::tell(book),
         b'm' => own::tell(book),

@@ -68,7 +68,7 @@ fn end_line(book: &mut [u64]) {
 pub fn refuse(book: &mut [u64]) {
     io::write_all(
         STDOUT_FILENO,
-        b"not understood: cases such as =two adds|events|o 4 100; c 0 1 12 8000 41 41; c 1 1 12 9000 42 42; or a line such as seed 7, from 1 to 4294967295, or both; below 65536 bytes\n",
+        b"not understood: cases such as =two adds|events|o 4 100; c 0 1 12 8000 41 41; c 1 1 12 9000 42 42; or a line such as seed 7, from 1 to 4294967295, or both; below 131072 bytes\n",
     );
     count(book, AT_CASES);
     count(book, AT_WRONG_CASES);

@@ -4,9 +4,9 @@ use crate::disturb::searches;
 use crate::disturb::submit_change;
 use crate::stand;
 use paired::drive;
-use paired::factors::some_scale;
 use paired::history::some_curve;
 use paired::history::some_grade;
+use paired::scales::scale_by;
 use paired::script::turn;
 use paired::stairs::weight_at;
 use plain_list::book::AT_PLACES;
@@ -232,32 +232,36 @@ fn turns(words: &mut [u32], book: &mut [u64], contest: Contest, count: u32) {
     }
 }
 
-// The factors of a contest's opening: drawn, or four ones.
-fn scale_for(book: &mut [u64], scaled: bool) -> PlainScale {
-    if scaled { some_scale(book) } else { ones() }
+// The scale of a contest's opening: factors that are drawn under a rule, or four ones where that is 0.
+fn scale_for(book: &mut [u64], rule: u32) -> PlainScale {
+    if rule == 0 {
+        ones()
+    } else {
+        scale_by(book, rule)
+    }
 }
 
 // The opening, and as many records as there are places.
-fn begin(words: &mut [u32], book: &mut [u64], contest: Contest, places: u32, scaled: bool) {
-    let scale = scale_for(book, scaled);
+fn begin(words: &mut [u32], book: &mut [u64], contest: Contest, places: u32, rule: u32) {
+    let scale = scale_for(book, rule);
     drive::open(words, book, places, 500000000, scale);
     fill(words, book, contest, places);
 }
 
-// A contest in an index of so many places, with factors or without, with so many turns, and an audit at the end.
-fn played(words: &mut [u32], book: &mut [u64], places: u32, scaled: bool, count: u32) {
+// A contest in an index of so many places, by the factors of a rule or without, with so many turns, and an audit at the end.
+fn played(words: &mut [u32], book: &mut [u64], places: u32, rule: u32, count: u32) {
     let contest = drawn(book);
-    begin(words, book, contest, places, scaled);
+    begin(words, book, contest, places, rule);
     turns(words, book, contest, count);
     drive::judge_audit(words, book);
 }
 
-// A contest of a seed: the least number of its places, how many numbers they are drawn from, its turns, and 1 for factors stand in the row.
+// A contest of a seed: the least number of its places, how many numbers they are drawn from, its turns, and the rule of its factors stand in the row.
 fn one_contest(words: &mut [u32], book: &mut [u64], n: [u32; 9], number: u32) {
     seeds::begin(book, number);
     let more = low(below(book, n[1] as u64));
     let places = std::num::wrapping_add_u32(n[0], more);
-    played(words, book, places, n[4] == 1, n[3]);
+    played(words, book, places, n[4], n[3]);
 }
 
 // So many contests of different seeds.

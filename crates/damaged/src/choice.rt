@@ -1,27 +1,45 @@
-// The factors of an opening; the kind of a call, and its station. Most calls go to a station at which there is something to do, so that few are refused for its state alone.
+// The rule and the factors of an opening; the kind of a call, and its station. Most calls go to a station at which there is something to do, so that few
+// are refused for its state alone.
 use crate::attempts;
 use points::scale::Scale;
 use stations::station::read_state;
 use trial::cells::low;
 use trial::random::below;
 use trial::random::next;
+ghost use Prim.Native.Nat.{_≤_};
 
-// A factor in range.
-fn some_factor(book: &mut [u64]) -> u32 {
+// Rule 1 or 2.
+pub fn some_rule(book: &mut [u64]) -> u32 {
+    if below(book, 2) == 0 { 1 } else { 2 }
+}
+
+// The greatest factor under a rule.
+pub fn most_factor(rule: u32) -> u32
+    ensures { λ r. ⌜ r ≤ 1000 ⌝ }
+{
+    if rule == 2 { 16 } else { 1000 }
+}
+
+// A factor in range under a rule.
+fn some_factor(book: &mut [u64], rule: u32) -> u32 {
+    let any = low(below(book, most_factor(rule) as u64));
     match below(book, 4) {
         0 => 1,
-        1 => 1000,
-        _ => 1 + low(below(book, 1000)) % 1000,
+        1 => most_factor(rule),
+        _ => 1 + any % 1000,
     }
 }
 
-// Factors in range.
+// A rule, and factors in range under it; in half of the cases under either rule.
 pub fn some_scale(book: &mut [u64]) -> Scale {
-    let weight = some_factor(book);
-    let moisture = some_factor(book);
-    let speed = some_factor(book);
-    let draw = some_factor(book);
+    let rule = some_rule(book);
+    let by = if below(book, 2) == 0 { 2 } else { rule };
+    let weight = some_factor(book, by);
+    let moisture = some_factor(book, by);
+    let speed = some_factor(book, by);
+    let draw = some_factor(book, by);
     Scale {
+        rule: rule,
         weight: weight,
         moisture: moisture,
         speed: speed,

@@ -1,8 +1,10 @@
 // Damages words of a live index at random and makes every call on it: each call returns with one of the numbers of Rules 7.1 or an answer, a
-// refused one changes nothing, a withdrawal changes no row, and none touches a word outside of its slice.
+// refused one changes nothing, a withdrawal changes no row, an audit that says yes finds every row in range under the rule, and none touches a word outside of
+// its slice.
 mod attempts;
 mod choice;
 mod harm;
+mod ranges;
 mod tally;
 
 use attempts::call;
@@ -12,6 +14,8 @@ use choice::some_scale;
 use libc::STDIN_FILENO;
 use libc::STDOUT_FILENO;
 use points::scale::Scale;
+use ranges::rows_stored;
+use ranges::scale_stored;
 use tally::AT_DAMAGED;
 use tally::count_call;
 use tally::judge;
@@ -22,7 +26,6 @@ use trial::cells::copy;
 use trial::cells::count;
 use trial::cells::fill;
 use trial::cells::same;
-use trial::cells::word;
 use trial::random::below;
 use trial::random::seed;
 use words::layout::RECORDS;
@@ -32,9 +35,6 @@ use words::layout::ROW_SIZE;
 const START: usize = 100;
 
 const PLACES: u32 = 6;
-
-// Where its four factors begin.
-const FACTORS: usize = START + 48;
 
 // Where its rows begin, and where they end.
 const ROWS: usize = START + RECORDS;
@@ -72,23 +72,28 @@ fn outside_kept(whole: &[u32], copied: &[u32]) -> bool {
     same(whole, copied, 0, START) & same(whole, copied, END, WHOLE)
 }
 
-// Whether a word is a factor in range.
-fn is_factor(x: u32) -> bool {
-    (1 <= x) & (x <= 1000)
+// Whether the rule and the factors of the middle part are in range.
+fn scale_within(whole: &[u32]) -> bool {
+    if whole.len() < END {
+        return false;
+    }
+    scale_stored(&whole[START..END])
 }
 
-// Whether all four stored factors are in range.
-fn factors_stored(whole: &[u32]) -> bool {
-    is_factor(word(whole, FACTORS))
-        & is_factor(word(whole, FACTORS + 1))
-        & is_factor(word(whole, FACTORS + 2))
-        & is_factor(word(whole, FACTORS + 3))
+// Whether the rows of the middle part are in range under its rule, as far as that goes.
+fn rows_within(whole: &[u32]) -> bool {
+    if whole.len() < END {
+        return false;
+    }
+    rows_stored(&whole[START..END], 2 * PLACES)
 }
 
-// Whether a call on these words may give this number: 4 alone where a stored factor is out of range, unless it opens.
+// Whether a call on these words may give this number: 4 alone where the stored rule or a stored factor is out of range, unless it opens; and an audit says yes
+// only to rows in range under the rule.
 fn may_give(copied: &[u32], kind: u64, number: u32) -> bool {
-    let asked = (kind != attempts::OPEN) & !factors_stored(copied);
-    is_allowed(kind, number) & (!asked | (number == 4))
+    let asked = (kind != attempts::OPEN) & !scale_within(copied);
+    let praised = (kind == attempts::AUDIT) & (number == 0);
+    is_allowed(kind, number) & (!asked | (number == 4)) & (!praised | rows_within(copied))
 }
 
 // What is asked after a call: its number, the words around the slice, every word where it changes nothing, and the rows where it is a withdrawal.

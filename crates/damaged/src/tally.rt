@@ -105,11 +105,12 @@ fn say_checks(book: &[u64]) {
     say(b"wrong: ", get(book, AT_WRONG));
 }
 
-// All that was counted. Beside the numbers up to 12 an opening can give 17.
+// All that was counted. Beside the numbers up to 12 an opening can give 17 and 20.
 pub fn say_all(book: &[u64]) {
     say_calls(book);
     say_more_calls(book);
     say_numbers(book);
     say_number(book, 17);
+    say_number(book, 20);
     say_checks(book);
 }

@@ -86,3 +86,29 @@ pub fn opened_scaled(words: &mut [u32], n: [u32; 9]) -> u32 {
     ];
     line_number(words, &bytes)
 }
+
+// The number of an opening with factors and a rule: a frame of kind 7, with the places, the limit, the factors and the rule of an item.
+pub fn opened_ruled(words: &mut [u32], n: [u32; 9]) -> u32 {
+    let bytes = [
+        17,
+        0,
+        7,
+        0,
+        low(n[1]),
+        low(n[1] / 256),
+        low(n[2]),
+        low(n[2] / 256),
+        low(n[2] / 65536),
+        low(n[2] / 16777216),
+        low(n[3]),
+        low(n[3] / 256),
+        low(n[4]),
+        low(n[4] / 256),
+        low(n[5]),
+        low(n[5] / 256),
+        low(n[6]),
+        low(n[6] / 256),
+        low(n[7]),
+    ];
+    line_number(words, &bytes)
+}

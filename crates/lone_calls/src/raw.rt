@@ -1,13 +1,17 @@
 // Calls on the index alone, from the items of a text: each gives the number that its item says, and a refused one leaves every word. An item has
-// a capital letter for the call, how many words it is lent, four arguments and the number; one that opens with factors, six arguments and the number.
+// a capital letter for the call, how many words it is lent, four arguments and the number; one that opens with factors, six arguments and the number, and one
+// that opens with factors and a rule, seven and the number.
 use crate::framed::framed;
 use crate::opened::opened_plain;
+use crate::opened::opened_ruled;
 use crate::opened::opened_scaled;
 use audits::audit::audit;
 use calls::take::Taking;
 use openings::open::open;
+use plain_list::book::PlainPoint;
 use plain_list::book::at_weight;
 use plain_list::book::point_of;
+use plain_list::scale::PLAIN_RULE;
 use plain_list::text::Item;
 use plain_list::verdict::judge;
 use plain_list::verdict::tried;
@@ -63,9 +67,10 @@ fn taken(words: &mut [u32], s: u32, code: u32) -> u32 {
     }
 }
 
-// The factors of an item, behind its places and its limit.
-fn scale_given(n: [u32; 9]) -> Scale {
+// A rule, and the factors of an item, behind its places and its limit.
+fn scale_given(rule: u32, n: [u32; 9]) -> Scale {
     Scale {
+        rule: rule,
         weight: n[3],
         moisture: n[4],
         speed: n[5],
@@ -73,19 +78,34 @@ fn scale_given(n: [u32; 9]) -> Scale {
     }
 }
 
-// The call of an item, and its number. Places and limit of an opening (O, and J as a frame), and the four factors of one that has them (X, and G as a
-// frame); station, kind, weight of a point of grade 12 and curve of a submission; the station of a step, a run, a taking and a withdrawal (D), and of a
-// taking the code that its answer may have, 0 where it may be any; the bytes there, the length and the kind of a frame; an offset and the word that is
-// written there (W) or stands there (V).
+// The point of grade 12, a weight and a moisture.
+fn moist(weight: u32, moisture: u32) -> Point {
+    let p = at_weight(12, weight);
+    point_of(PlainPoint {
+        grade: p.grade,
+        weight: p.weight,
+        moisture: moisture as u64,
+        speed: p.speed,
+        draw: p.draw,
+    })
+}
+
+// The call of an item, and its number. Places and limit of an opening (O, and J as a frame), the four factors of one that has them (X, and G as a
+// frame), and factors and rule (Y, and H as a frame); station, kind, weight of a point of grade 12 and curve of a submission (S), or its weight and moisture,
+// the curve being 41 (M); the station of a step, a run, a taking and a withdrawal (D), and of a taking the code that its answer may have, 0 where it may be
+// any; the bytes there, the length and the kind of a frame; an offset and the word that is written there (W) or stands there (V).
 fn perform(words: &mut [u32], item: Item) -> u32 {
     let n = item.n;
     let letter = item.letter;
     match letter {
         b'O' => open(words, n[1], n[2], plain_scale()),
-        b'X' => open(words, n[1], n[2], scale_given(n)),
+        b'X' => open(words, n[1], n[2], scale_given(PLAIN_RULE, n)),
+        b'Y' => open(words, n[1], n[2], scale_given(n[7], n)),
         b'J' => opened_plain(words, n),
         b'G' => opened_scaled(words, n),
+        b'H' => opened_ruled(words, n),
         b'S' => submit(words, n[1], n[2], point_of(at_weight(12, n[3])), n[4]),
+        b'M' => submit(words, n[1], n[2], moist(n[3], n[4]), 41),
         b'T' => step(words, n[1]),
         b'R' => run(words, n[1]),
         b'K' => taken(words, n[1], n[2]),
@@ -131,12 +151,17 @@ fn perform_in(words: &mut [u32], length: usize, item: Item) -> u32 {
 
 // Whether an item opens.
 fn opens(item: Item) -> bool {
-    (item.letter == b'O') | (item.letter == b'J') | opens_scaled(item)
+    (item.letter == b'O') | (item.letter == b'J') | opens_scaled(item) | opens_ruled(item)
 }
 
 // Whether an item opens with factors.
 fn opens_scaled(item: Item) -> bool {
     (item.letter == b'X') | (item.letter == b'G')
+}
+
+// Whether an item opens with factors and a rule.
+fn opens_ruled(item: Item) -> bool {
+    (item.letter == b'Y') | (item.letter == b'H')
 }
 
 // Where the words begin that a call must leave: all of them for a refusal, and those past its rows for an opening.
@@ -154,6 +179,9 @@ fn kept_from(item: Item, number: u32) -> usize {
 // The number that an item says.
 fn due_of(item: Item) -> u32 {
     let n = item.n;
+    if opens_ruled(item) {
+        return n[8];
+    }
     if opens_scaled(item) { n[7] } else { n[5] }
 }
 
@@ -165,74 +193,4 @@ pub fn judged(words: &mut [u32], copied: &mut [u32], book: &mut [u64], item: Ite
     let number = perform_in(words, length_of(n[0]), item);
     judge(book, (number == due_of(item)) & (number != NEVER));
     judge(book, same_from(words, copied, kept_from(item, number)));
-}
-
-// Of each axis the coordinate before the least, the least, the greatest and the one after it.
-const ENDS: [i32; 20] = [
-    0,
-    1,
-    9999,
-    10000, //
-    0,
-    1,
-    100000,
-    100001, //
-    -1,
-    0,
-    10000,
-    10001, //
-    -1,
-    0,
-    30000,
-    30001, //
-    -2001,
-    -2000,
-    2000,
-    2001,
-];
-
-// A number of the ends.
-fn end_at(ends: &[i32], n: usize) -> i32 {
-    if n < ends.len() { ends[n] } else { 0 }
-}
-
-// A point in the middle of its ranges but for the coordinate on one axis, counted from 0.
-fn point_with(axis: usize, x: i32) -> Point {
-    Point {
-        grade: if axis == 0 { x } else { 12 },
-        weight: if axis == 1 { x } else { 8000 },
-        moisture: if axis == 2 { x } else { 550 },
-        speed: if axis == 3 { x } else { 9000 },
-        draw: if axis == 4 { x } else { 0 },
-    }
-}
-
-// The number of an add at one of the ends: 0 at the middle two of an axis, 8 at the outer two.
-fn end_due(n: usize) -> u32 {
-    match n % 4 {
-        1 | 2 => 0,
-        _ => 8,
-    }
-}
-
-// An add of a point at one of the ends, on a new index, which is copied before.
-fn end_number(words: &mut [u32], copied: &mut [u32], n: usize) -> u32 {
-    open(words, 1, 10, plain_scale());
-    copy(words, copied);
-    submit(words, 3, 1, point_with(n / 4, end_at(&ENDS, n)), 41)
-}
-
-// The add has its number, and a refused one left every word.
-fn end_judged(words: &mut [u32], copied: &mut [u32], book: &mut [u64], n: usize) {
-    let number = end_number(words, copied, n);
-    tried(book);
-    judge(book, number == end_due(n));
-    judge(book, (number == 0) | same_from(words, copied, 0));
-}
-
-// Every axis at its ends.
-pub fn ends(words: &mut [u32], copied: &mut [u32], book: &mut [u64]) {
-    for n in 0..20usize {
-        end_judged(words, copied, book, n);
-    }
 }

@@ -34,9 +34,10 @@ pub fn most_steps(book: &[u64]) -> u64 {
     }
 }
 
-// The factors for a call of the index.
+// The rule and the factors for a call of the index.
 fn scale_of(scale: PlainScale) -> Scale {
     Scale {
+        rule: scale.rule,
         weight: scale.weight,
         moisture: scale.moisture,
         speed: scale.speed,

@@ -1,6 +1,8 @@
 // Long random histories over all eight stations, from the fixed generator, each event judged by the plain table.
 use crate::drive;
-use crate::factors::some_scale;
+use crate::scales::some_scale;
+use crate::sheets::Sheet;
+use crate::sheets::some_sheet;
 use plain_list::book::AT_HELD;
 use plain_list::book::PlainPoint;
 use plain_list::list::record_point;
@@ -16,8 +18,9 @@ use trial::random::below;
 use words::layout::words_for;
 
 // A kind of history: places and limit of its openings, how many weights its points have, a code that must come up, how many histories and their events,
-// whether the audit is asked after each event, after how many events each unfinished call is tried alone, and whether moisture, speed and draw are
-// drawn from all of their ranges, of which there are three of each else.
+// whether the audit is asked after each event, after how many events each unfinished call is tried alone, whether moisture, speed and draw are
+// drawn from all of their ranges, of which there are three of each else, and whether weight and moisture are those of sheets that lie near each
+// other in dry weight.
 pub struct Plan {
     pub places: u32,
     pub limit: u32,
@@ -28,6 +31,7 @@ pub struct Plan {
     pub audited: bool,
     pub alone: u64,
     pub spread: bool,
+    pub dry: bool,
 }
 
 // A station; now and then one that there is not.
@@ -71,18 +75,30 @@ fn some_coordinate(book: &mut [u64], spread: bool, count: u64) -> u64 {
     below(book, if spread { count } else { 3 })
 }
 
+// Weight and moisture of a point of the plan.
+fn new_sheet(book: &mut [u64], plan: Plan) -> Sheet {
+    if plan.dry {
+        return some_sheet(book);
+    }
+    let weight = below(book, plan.weights);
+    let moisture = some_coordinate(book, plan.spread, 10001);
+    Sheet {
+        weight: weight,
+        moisture: moisture,
+    }
+}
+
 // A point of the plan; now and then one out of range.
 fn new_point(book: &mut [u64], plan: Plan) -> PlainPoint {
     let grade = some_grade(book);
-    let weight = below(book, plan.weights);
-    let moisture = some_coordinate(book, plan.spread, 10001);
+    let sheet = new_sheet(book, plan);
     let speed = some_coordinate(book, plan.spread, 30001);
     let draw = some_coordinate(book, plan.spread, 4001);
     let past = below(book, 64) == 0;
     PlainPoint {
         grade: grade,
-        weight: if past { 100000 } else { weight },
-        moisture: moisture,
+        weight: if past { 100000 } else { sheet.weight },
+        moisture: sheet.moisture,
         speed: speed,
         draw: draw,
     }
@@ -182,7 +198,7 @@ fn events(
     drive::judge_audit(words, book);
 }
 
-// The index is opened with factors that are drawn, whatever the stations are doing, and events follow.
+// The index is opened with a rule and factors that are drawn, whatever the stations are doing, and events follow.
 fn opened_events(
     words: &mut [u32],
     copied: &mut [u32],
@@ -196,7 +212,7 @@ fn opened_events(
     events(words, copied, book, plan, first, end);
 }
 
-// A history from its opening. Half way it is opened again, with other factors.
+// A history from its opening. Half way it is opened again, with another rule or other factors.
 fn history(words: &mut [u32], copied: &mut [u32], book: &mut [u64], plan: Plan, number: u32) {
     let end = plan.events;
     begin(book, number);
@@ -238,7 +254,7 @@ pub fn histories(words: &mut [u32], copied: &mut [u32], book: &mut [u64], plan: 
     judge(book, most_met(book) & met(book, plan.code));
 }
 
-// The plan of an item: its numbers in the order of the fields.
+// The plan of an item: its numbers in the order of the fields. The last is 1 for points all over the ranges, 2 for sheets near in dry weight.
 pub fn plan_of(n: [u32; 9]) -> Plan {
     Plan {
         places: n[0],
@@ -250,6 +266,7 @@ pub fn plan_of(n: [u32; 9]) -> Plan {
         audited: n[6] == 1,
         alone: n[7] as u64,
         spread: n[8] == 1,
+        dry: n[8] == 2,
     }
 }
 

@@ -5,8 +5,9 @@ use crate::drive;
 use plain_list::book::PlainPoint;
 use plain_list::book::at_weight;
 use plain_list::reference;
+use plain_list::scale::PLAIN_RULE;
 use plain_list::scale::PlainScale;
-use plain_list::scale::ones;
+use plain_list::scale::ones_by;
 use plain_list::text::Item;
 use plain_list::verdict::judge;
 use reports::report::read_report;
@@ -144,9 +145,13 @@ fn judge_taken(words: &[u32], book: &mut [u64], n: u32) {
     judge(book, report.taken == n as u64);
 }
 
-// A number of so many millions and a rest.
-fn in_millions(millions: u32, rest: u32) -> u64 {
-    1000000 * (millions as u64) + (rest as u64)
+// A number of so many millions of millions, millions and a rest; 0 where it may not fit.
+fn in_millions(twice: u32, once: u32, rest: u32) -> u64 {
+    if twice < 18000000 {
+        1000000000000 * (twice as u64) + 1000000 * (once as u64) + (rest as u64)
+    } else {
+        0
+    }
 }
 
 // The answer that waits at a station has this square.
@@ -158,16 +163,23 @@ fn judge_square(words: &[u32], book: &mut [u64], s: u32, square: u64) {
     judge(book, right);
 }
 
-// The factors of an opening: four ones where all four are left out.
+// The rule of an item: 1 where it is left out.
+pub fn rule_given(rule: u32) -> u32 {
+    if rule == 0 { PLAIN_RULE } else { rule }
+}
+
+// The rule and the factors of an opening: four ones where all four are left out.
 fn scale_given(n: [u32; 9]) -> PlainScale {
     let none = (n[2] == 0) & (n[3] == 0) & (n[4] == 0) & (n[5] == 0);
+    let rule = rule_given(n[6]);
     let given = PlainScale {
+        rule: rule,
         weight: n[2],
         moisture: n[3],
         speed: n[4],
         draw: n[5],
     };
-    if none { ones() } else { given }
+    if none { ones_by(rule) } else { given }
 }
 
 // An opening, accepted or not.
@@ -185,8 +197,9 @@ fn take_back(words: &mut [u32], book: &mut [u64], s: u32) {
     drive::withdraw(words, book, s);
 }
 
-// The event of an item: o an opening with its places, limit and factors, c or f a whole call, s or g a submission, t a step, r a run, k a taking, w a
-// withdrawal, n the places taken, z the square that waits, in millions and the rest, e eight calls at once, a turns of all stations. Any other letter is wrong.
+// The event of an item: o an opening with its places, limit, factors and rule, c or f a whole call, s or g a submission, t a step, r a run, k a taking, w
+// a withdrawal, n the places taken, z the square that waits, in millions of millions, millions and the rest, e eight calls at once, a turns of all stations.
+// Any other letter is wrong.
 fn perform(words: &mut [u32], book: &mut [u64], item: Item) {
     let n = item.n;
     let letter = item.letter;
@@ -199,7 +212,7 @@ fn perform(words: &mut [u32], book: &mut [u64], item: Item) {
         b'k' => take(words, book, call_of(item)),
         b'w' => take_back(words, book, n[0]),
         b'n' => judge_taken(words, book, n[0]),
-        b'z' => judge_square(words, book, n[0], in_millions(n[1], n[2])),
+        b'z' => judge_square(words, book, n[0], in_millions(n[1], n[2], n[3])),
         b'e' => eight(words, book, n),
         b'a' => rounds(words, book, turns_of(n[0])),
         _ => judge(book, false),

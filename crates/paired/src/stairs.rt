@@ -1,7 +1,7 @@
 // The deepest trees: 4,096 records added in the order of their weight make a stair, in which the way down passes every cut.
 use crate::drive;
 use plain_list::book::at_weight;
-use plain_list::scale::ones;
+use plain_list::scale::ones_by;
 use plain_list::verdict::tried;
 
 // The places of the largest index.
@@ -27,9 +27,9 @@ fn add(words: &mut [u32], book: &mut [u64], s: u32, weight: u32, curve: u32) {
     drive::take(words, book, s);
 }
 
-// Records are added one after the other, by the eight stations in turn.
-pub fn build(words: &mut [u32], book: &mut [u64], falling: bool) {
-    drive::open(words, book, PLACES, 500000000, ones());
+// Records are added one after the other under a rule, by the eight stations in turn.
+pub fn build(words: &mut [u32], book: &mut [u64], falling: bool, rule: u32) {
+    drive::open(words, book, PLACES, 500000000, ones_by(rule));
     for n in 0..PLACES {
         add(words, book, n % 8, weight_at(n, falling), 1 + n);
     }

@@ -7,7 +7,7 @@ use trial::bytes::is_digit;
 use trial::bytes::seed_in;
 
 // A text of so many bytes may have been cut off.
-const CUT: usize = 65536;
+const CUT: usize = 131072;
 
 // The cases to be run: all that the program has, those of them with random histories, or those of the text; none where it is not understood.
 pub enum Given {

@@ -8,6 +8,7 @@ use crate::book::read_point;
 use crate::book::same_plain;
 use crate::scale::PlainScale;
 use crate::scale::read_scale;
+use crate::square::square;
 use trial::cells::get;
 use trial::cells::less;
 use trial::cells::more;
@@ -55,37 +56,6 @@ pub fn drop_record(book: &mut [u64], p: PlainPoint) {
     let curve = curve_at(book, last);
     put_record(book, i, moved, curve);
     put(book, AT_HELD, last);
-}
-
-// How far apart two numbers lie.
-fn apart(x: u64, y: u64) -> u64 {
-    if x < y { y - x } else { x - y }
-}
-
-// The square of a number, 0 for one past every range.
-fn squared(d: u64) -> u64 {
-    if d < 4294967296 { d * d } else { 0 }
-}
-
-// A squared difference as often as its factor says, 0 for numbers past every range.
-fn times(factor: u32, x: u64) -> u64 {
-    if factor < 1024 {
-        if x < 18014398509481984 {
-            return (factor as u64) * x;
-        }
-    }
-    0
-}
-
-// The square of two points: the sum of the squared differences on axes 2 to 5, each times its factor.
-fn square(scale: PlainScale, a: PlainPoint, b: PlainPoint) -> u64 {
-    let weight = times(scale.weight, squared(apart(a.weight, b.weight)));
-    let moisture = times(scale.moisture, squared(apart(a.moisture, b.moisture)));
-    let speed = times(scale.speed, squared(apart(a.speed, b.speed)));
-    let draw = times(scale.draw, squared(apart(a.draw, b.draw)));
-    let first = std::num::wrapping_add_u64(weight, moisture);
-    let second = std::num::wrapping_add_u64(speed, draw);
-    std::num::wrapping_add_u64(first, second)
 }
 
 // Whether a point is lower than another, axis by axis.

@@ -8,6 +8,7 @@ use crate::book::at_station;
 use crate::reference::IDLE;
 use crate::scale::PlainScale;
 use crate::scale::in_range;
+use crate::scale::is_rule;
 use crate::scale::put_scale;
 use trial::cells::put;
 
@@ -34,13 +35,16 @@ fn is_enough(length: usize, places: u32) -> bool {
     608 + 32 * (places as u64) <= length as u64
 }
 
-// The first of questions 1, 2, 17 and 3, asked in this order, that an opening in so many words fails, or 0.
+// The first of questions 1, 2, 20, 17 and 3, asked in this order, that an opening in so many words fails, or 0.
 fn opening_question(length: usize, places: u32, limit: u32, scale: PlainScale) -> u32 {
     if (places < 1) | (4096 < places) {
         return 1;
     }
     if (limit < 1) | (500000000 < limit) {
         return 2;
+    }
+    if !is_rule(scale.rule) {
+        return 20;
     }
     if !in_range(scale) {
         return 17;

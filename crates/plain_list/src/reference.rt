@@ -17,6 +17,8 @@ use crate::list::hold;
 use crate::list::nearest;
 use crate::removals::release;
 use crate::removals::set_down;
+use crate::scale::DRY_RULE;
+use crate::scale::read_rule;
 use trial::cells::count;
 use trial::cells::get;
 use trial::cells::put;
@@ -43,21 +45,26 @@ pub fn taken(book: &[u64]) -> u64 {
     std::num::wrapping_add_u64(get(book, AT_HELD), get(book, AT_AWAITED))
 }
 
-// Whether every coordinate is in range.
-fn in_range(p: PlainPoint) -> bool {
+// The greatest moisture under a rule.
+fn most_moisture(rule: u32) -> u64 {
+    if rule == DRY_RULE { 9999 } else { 10000 }
+}
+
+// Whether every coordinate is in range under a rule.
+fn in_range(rule: u32, p: PlainPoint) -> bool {
     (p.grade < 9999)
         & (p.weight < 100000)
-        & (p.moisture <= 10000)
+        & (p.moisture <= most_moisture(rule))
         & (p.speed <= 30000)
         & (p.draw <= 4000)
 }
 
-// The first of questions 7 to 9 that a call fails, or 0.
-fn call_question(kind: u32, p: PlainPoint, curve: u32) -> u32 {
+// The first of questions 7 to 9 that a call fails under a rule, or 0.
+fn call_question(rule: u32, kind: u32, p: PlainPoint, curve: u32) -> u32 {
     if (kind < 1) | (4 < kind) {
         return 7;
     }
-    if !in_range(p) {
+    if !in_range(rule, p) {
         return 8;
     }
     if (kind == 1) & ((curve < 1) | (999999 < curve)) {
@@ -195,7 +202,7 @@ pub fn submit(book: &mut [u64], s: u32, kind: u32, p: PlainPoint, curve: u32) ->
     if state(book, s) != IDLE {
         return 6;
     }
-    let failed = call_question(kind, p, curve);
+    let failed = call_question(read_rule(book), kind, p, curve);
     if failed == 0 {
         write_call(book, s, kind, p, curve);
     }

@@ -6,13 +6,13 @@ use lib.ListN.{length}
 use Prim.Native.Nat.{_-_}
 
 abbrev Inv-loop : tie.InvT-loop
-Inv-loop words₀ book₀ falling n₀ words book n = (length words ≡ length words₀) × (length book ≡ length book₀)
+Inv-loop words₀ book₀ falling rule n₀ words book n = (length words ≡ length words₀) × (length book ≡ length book₀)
 
 abbrev μ-loop : tie.MeasureT-loop
-μ-loop words₀ book₀ falling n₀ words book n = 4096 - n
+μ-loop words₀ book₀ falling rule n₀ words book n = 4096 - n
 
-ones-requires : tie.Need-ones-requires Inv-loop μ-loop
-ones-requires c κs = search needs
+ones-by-requires : tie.Need-ones-by-requires Inv-loop μ-loop
+ones-by-requires c κs = search needs
 
 open-requires : tie.Need-open-requires Inv-loop μ-loop
 open-requires c κs = search needs
@@ -53,7 +53,7 @@ build-spec =
     (tie.spec
     Inv-loop
     μ-loop
-    ones-requires
+    ones-by-requires
     open-requires
     loop-holds
     weight-at-requires

@@ -1,15 +1,15 @@
 use borrow.Author.Needs.{needs}
-use Rattle.lone_calls.proofs.raw.ends.Statement.{statement}
-use Rattle.lone_calls.proofs.raw.ends.Tie as tie
+use Rattle.lone_calls.proofs.ends.ends.Statement.{statement}
+use Rattle.lone_calls.proofs.ends.ends.Tie as tie
 use mathlib.Core.Path.{_≡_}
 use lib.ListN.{length}
 use Prim.Native.Nat.{_-_}
 
 abbrev Inv-loop : tie.InvT-loop
-Inv-loop words₀ copied₀ book₀ n₀ words copied book n = (length words ≡ length words₀) × (length copied ≡ length copied₀) × (length book ≡ length book₀)
+Inv-loop words₀ copied₀ book₀ rule n₀ words copied book n = (length words ≡ length words₀) × (length copied ≡ length copied₀) × (length book ≡ length book₀)
 
 abbrev μ-loop : tie.MeasureT-loop
-μ-loop words₀ copied₀ book₀ n₀ words copied book n = 20 - n
+μ-loop words₀ copied₀ book₀ rule n₀ words copied book n = 20 - n
 
 loop-holds : tie.Need-loop-holds Inv-loop μ-loop
 loop-holds c = search needs
