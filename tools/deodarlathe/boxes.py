@@ -1,7 +1,7 @@
 """The boxes of a picture: leaves, cuts and free rows, and the tags of the calls that stand at them."""
 
 from .placement import Box
-from .points import AXES
+from .points import AXES, DRY_WEIGHT, NUMBERS, TIMES
 from .rows import Cut, Leaf, Removed
 from .svg import GREY, WHITE
 
@@ -53,9 +53,10 @@ def leaf(drawing, box, number, row):
 
 
 def cut_words(row):
-    """What a point must be to go left: less than half the sum, which may end in .5."""
-    half = f"{row.sum / 2:,.1f}" if row.sum % 2 else f"{row.sum // 2:,}"
-    return f"{AXES[row.axis]} < {half}"
+    """What a point must be to go left: less than half the sum, which may end in .5; a coordinate as it is, not times 10,000."""
+    total = row.sum // TIMES if row.axis > DRY_WEIGHT else row.sum
+    half = f"{total / 2:,.1f}" if total % 2 else f"{total // 2:,}"
+    return f"{NUMBERS[row.axis]} < {half}"
 
 
 def cut(drawing, box, number, row):

@@ -63,6 +63,7 @@ class Stop(NamedTuple):
 
 OPENING = {"places": "H", "limit": "I"}
 FACTORS = {"weight factor": "H", "moisture factor": "H", "speed factor": "H", "draw factor": "H"}
+RULE = {"rule number": "B"}
 STATION = {"station": "B"}
 POINT = {"grade": "H", "weight": "i", "moisture": "i", "speed": "i", "draw": "i"}
 SHAPES = (
@@ -72,6 +73,7 @@ SHAPES = (
     Shape(4, take=STATION),
     Shape(5, run=STATION),
     Shape(6, open=OPENING, factors=FACTORS),
+    Shape(7, open=OPENING, factors=FACTORS, rule=RULE),
     Shape(8, withdraw=STATION),
 )
 BY_NAME = {shape.name: shape for shape in SHAPES}

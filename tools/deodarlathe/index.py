@@ -10,7 +10,7 @@ from dataclasses import dataclass, field
 from .frame import ADD, CALLS, NEAREST
 from .lines import Answer
 from .moves import walk
-from .points import CURVES, FACTORS, ONES, in_range
+from .points import CURVES, ONES, PLAIN, RULES, Scale, in_range
 from .rows import Spare
 from .search import search
 
@@ -64,7 +64,7 @@ class Index:
     def __init__(self, words=RUNNER_WORDS):
         self.words = words
         self.places = self.limit = 0
-        self.factors = ONES
+        self.scale = Scale()
         self.stations = []
 
     @property
@@ -82,17 +82,20 @@ class Index:
         """The places taken."""
         return self.held + self.awaiting
 
-    def open(self, places, limit, factors=ONES):
-        """Questions 1, 2, 17 and 3; then no record is held, every row is spare, and every station idle with no change made."""
+    def open(self, places, limit, factors=ONES, rule=PLAIN):
+        """Questions 1, 2, 20, 17 and 3; then no record is held, every row is spare, and every station is idle and has made
+        no change."""
         if not 1 <= places <= 4_096:
             return 1
         if not 1 <= limit <= 500_000_000:
             return 2
-        if not all(FACTORS[0] <= factor <= FACTORS[1] for factor in factors):
+        if rule not in RULES:
+            return 20
+        if not all(1 <= factor <= RULES[rule].most_factor for factor in factors):
             return 17
         if self.words < 32 * places + 608:
             return 3
-        self.places, self.limit, self.factors = places, limit, factors
+        self.places, self.limit, self.scale = places, limit, Scale(factors, rule)
         self.changes = self.held = self.removals = 0
         self.root, self.head, self.tail = None, 0, 2 * places - 1
         self.rows = [*map(Spare, range(1, 2 * places)), Spare(None)]
@@ -114,7 +117,7 @@ class Index:
             return refused
         if kind not in CALLS.values():
             return 7
-        if not in_range(point):
+        if not in_range(point, self.scale.rule):
             return 8
         if kind == ADD and not CURVES[0] <= curve <= CURVES[1]:
             return 9

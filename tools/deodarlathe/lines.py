@@ -10,7 +10,7 @@ HEADER = "frame result code grade weight moisture speed draw curve square"
 COLUMNS = HEADER.split()
 NO_ANSWER = ["-"] * 8
 # every number that a line can have lies between these
-LEAST, GREATEST = -2_000, 2**63
+LEAST, GREATEST = -2_000, 2**64 - 1
 
 
 class Answer(NamedTuple):

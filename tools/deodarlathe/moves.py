@@ -67,7 +67,7 @@ def insert(index, call, at):
     else:
         second = new.parent = rows[first].next
         index.head = rows[second].next
-        rows[second] = cut_over(first, new, at, rows[at])
+        rows[second] = cut_over(index.scale.rule, first, new, at, rows[at])
         hang(index, second, rows[at].parent, at)
         rows[at].parent = second
         for station in index.stations:
@@ -76,9 +76,9 @@ def insert(index, call, at):
     rows[first] = new
 
 
-def cut_over(first, new, at, old):
-    """The cut between the new leaf at row `first` and the old one, with the slots of both."""
-    axis, total = cut_between(new.point, old.point)
+def cut_over(rule, first, new, at, old):
+    """The cut under a rule between the new leaf at row `first` and the old one, with the slots of both."""
+    axis, total = cut_between(new.point, old.point, rule)
     left = goes_left(axis, total, new.point)
     cut = Cut(old.parent, axis, total, *((first, at) if left else (at, first)))
     cut.slots(left).add(slot_of(new.point))

@@ -4,7 +4,7 @@ from . import boxes
 from .frame import CALL_NAMES, NEAREST
 from .index import IDLE, UNFINISHED
 from .placement import Box, queue_boxes, queue_groups, tree_boxes
-from .points import AXES, GRADE, ONES
+from .points import DRY, NUMBERS, ONES, RULES, Scale
 from .rows import Cut, Leaf
 from .svg import GREY, Drawing
 from .words import CODES, point_words
@@ -100,8 +100,20 @@ def tags(drawing, index, rows):
             x = boxes.tag(drawing, x, y, words, COLOURS[number], cursor).right + 2
 
 
+def scale_words(scale):
+    """By what the squares and cuts shown go, where that is not rule 1 with four ones."""
+    words = []
+    if scale.rule == DRY:
+        words.append("rule 2: dry weight, and moisture, speed and draw times 10,000")
+    if scale.factors != ONES:
+        axes = RULES[scale.rule].axes[1:]
+        factors = ", ".join(f"{NUMBERS[axis]} {factor:,}" for axis, factor in zip(axes, scale.factors))
+        words.append(f"factors of the squared differences: {factors}")
+    return "; ".join(words)
+
+
 def heading(drawing, title, subtitle, index):
-    """The title, what the frame did, the counts, and the factors where they are not all 1: the squares shown go by them."""
+    """The title, what the frame did, the counts, and the rule and the factors where they are not rule 1 and four ones."""
     drawing.text(MARGIN, 36, title, font_size=18, font_weight="bold")
     drawing.text(MARGIN, 60, subtitle, font_size=14)
     counts = (
@@ -109,9 +121,8 @@ def heading(drawing, title, subtitle, index):
         f"changes {index.changes:,}, of them removals {index.removals:,}; change limit of each station {index.limit:,}"
     )
     drawing.text(MARGIN, 82, counts, fill=GREY)
-    if index.factors != ONES:
-        factors = ", ".join(f"{axis} {factor:,}" for axis, factor in zip(AXES[GRADE + 1:], index.factors))
-        drawing.text(MARGIN, 99, f"factors of the squared differences: {factors}", fill=GREY)
+    if index.scale != Scale():
+        drawing.text(MARGIN, 99, scale_words(index.scale), fill=GREY)
 
 
 def picture(index, title, subtitle):

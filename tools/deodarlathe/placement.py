@@ -4,10 +4,13 @@ from __future__ import annotations
 
 from dataclasses import dataclass
 
+from .points import DRY
 from .rows import Leaf, Spare
 
 LEAF_WIDTH, LEAF_HEIGHT = 116, 118
 CUT_WIDTH, CUT_HEIGHT = 152, 40
+# under rule 2, where a dry weight has up to ten digits
+DRY_CUT_WIDTH = 208
 COLUMN, LEVEL = LEAF_WIDTH + 16, 88
 REMOVED_HEIGHT, SPARE_HEIGHT = LEAF_HEIGHT + 17, 43
 QUEUE_GAP, QUEUE_LINE = 26, REMOVED_HEIGHT + 52
@@ -45,7 +48,7 @@ def tree_boxes(index, x, y):
     boxes = {}
     if index.root is None:
         return boxes
-    leaves = 0
+    leaves, width = 0, DRY_CUT_WIDTH if index.scale.rule == DRY else CUT_WIDTH
 
     def place(row, depth):
         """The middle of a row, after all that is below it."""
@@ -56,7 +59,7 @@ def tree_boxes(index, x, y):
             leaves += 1
         else:
             middle = (place(index.rows[row].left, depth + 1) + place(index.rows[row].right, depth + 1)) / 2
-            boxes[row] = Box(middle - CUT_WIDTH / 2, y + LEVEL * depth, CUT_WIDTH, CUT_HEIGHT)
+            boxes[row] = Box(middle - width / 2, y + LEVEL * depth, width, CUT_HEIGHT)
         return middle
 
     place(index.root, 0)

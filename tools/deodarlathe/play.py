@@ -22,9 +22,9 @@ def apply(index, frame):
     if frame.name == "submit":
         station, kind, *point, curve = frame.fields
         return index.submit(station, kind, tuple(point), curve), None
-    if frame.name == "open factors":
-        places, limit, *factors = frame.fields
-        return index.open(places, limit, tuple(factors)), None
+    if frame.name in ("open factors", "open factors rule"):
+        places, limit, *factors = frame.fields[:6]
+        return index.open(places, limit, tuple(factors), *frame.fields[6:]), None
     if frame.name == "take":
         return index.take(*frame.fields)
     return getattr(index, frame.name)(*frame.fields), None

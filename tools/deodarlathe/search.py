@@ -23,8 +23,8 @@ def search(index, station):
 def consider(index, call, row):
     """A record that was held at the submission and is of the grade becomes the best where it is chosen over that."""
     if row.added <= call.asof and row.point[0] == call.point[0]:
-        target, factors = call.point, index.factors
-        if call.best is None or rank(target, row.point, factors) < rank(target, call.best[0], factors):
+        target, scale = call.point, index.scale
+        if call.best is None or rank(target, row.point, scale) < rank(target, call.best[0], scale):
             call.best = row.point, row.curve
 
 
@@ -43,7 +43,7 @@ def far_open(index, call, cut, left):
     best = call.best[0] if call.best else None
     if slot_of(call.point) not in cut.slots(not left):
         return False
-    return not excluded(cut.axis, cut.sum, call.point, best, index.factors)
+    return not excluded(cut.axis, cut.sum, call.point, best, index.scale)
 
 
 def tour(index, call, track):
@@ -81,4 +81,4 @@ def finish(index, station):
     if call.best is None:
         station.answered(NONE_OF_GRADE, call.point)
     else:
-        station.answered(FOUND, *call.best, square(call.point, call.best[0], index.factors))
+        station.answered(FOUND, *call.best, square(call.point, call.best[0], index.scale))

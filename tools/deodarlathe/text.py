@@ -122,8 +122,8 @@ def places_in(data, frames):
 
 
 def line_of(frame):
-    """A frame as a line of text. A curve is left out where the call is no add and the curve is 0; factors never are, since
-    an opening without them is another kind of frame."""
+    """A frame as a line of text. A curve is left out where the call is no add and the curve is 0; factors and a rule never
+    are, since an opening without them is another kind of frame."""
     if frame.name != "submit":
         numbers = iter(frame.fields)
         parts = BY_NAME[frame.name].parts.items()

@@ -2,6 +2,7 @@
 
 from .fault import Fault
 from .frame import ADD, CALL_NAMES, MOST_BYTES, STOPS, Stop, frames_in
+from .points import DRY, PLAIN, in_range
 from .text import line_of
 
 # the questions (Rules 7.1), by what is wrong where they are answered no
@@ -20,6 +21,13 @@ REFUSALS = {
     12: "no answer waits there",
     **STOPS,
     17: "a factor is not 1 to 1,000",
+    20: "the rule is not 1 or 2",
+}
+
+# the same where rule 2 asks for less
+DRY_REFUSALS = {
+    8: "the moisture is not 0 to 9,999, as rule 2 wants it",
+    17: "a factor is not 1 to 16, as rule 2 wants it",
 }
 
 # the codes of answers (Rules 2.4)
@@ -37,9 +45,12 @@ CODES = {
 }
 
 # what an accepted frame did, by its name and fields; a submission and a taking have more to say
+OPENED = "opened with places {} and limit {}"
+FACTORS = ", and factors weight {}, moisture {}, speed {} and draw {}"
 DONE = {
-    "open": "opened with places {} and limit {}",
-    "open factors": "opened with places {} and limit {}, and factors weight {}, moisture {}, speed {} and draw {}",
+    "open": OPENED,
+    "open factors": OPENED + FACTORS,
+    "open factors rule": OPENED + FACTORS + ", under rule {}",
     "step": "station {} made a step",
     "run": "station {} ran until it was answered",
     "withdraw": "station {} withdrew its call",
@@ -70,8 +81,17 @@ def refusal_words(number):
     return f"{number}, {REFUSALS.get(number, 'no question has this number')}"
 
 
+def asked_by_rule_2(frame):
+    """Rule 2 refused a frame: an opening under that rule, or a point that is in range under rule 1."""
+    if frame.name == "submit":
+        return in_range(frame.fields[2:7], PLAIN)
+    return frame.name == "open factors rule" and frame.fields[-1] == DRY
+
+
 def frame_words(frame, line):
     """What a frame did, or why it was refused."""
+    if line.result in DRY_REFUSALS and asked_by_rule_2(frame):
+        return f"{line_of(frame)}: refused: {line.result}, {DRY_REFUSALS[line.result]}"
     if line.result:
         return f"{line_of(frame)}: refused: {refusal_words(line.result)}"
     if frame.name == "submit":

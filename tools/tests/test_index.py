@@ -8,7 +8,7 @@ from deodarlathe.index import IDLE, UNFINISHED, WAITING, Index
 from deodarlathe.lines import printed
 from deodarlathe.placement import queue_rows
 from deodarlathe.play import play
-from deodarlathe.points import ONES, RANGES, cut_between, excluded, goes_left, rank, square
+from deodarlathe.points import DRY, ONES, PLAIN, RANGES, Scale, cut_between, excluded, goes_left, number, rank, square
 from deodarlathe.rows import Leaf
 from deodarlathe.text import written
 
@@ -132,15 +132,30 @@ class Changes(unittest.TestCase):
         self.assertEqual(self.codes(index, (0, ADD, 1), (0, ADD, 2)), [1, 4])
 
 
-class Factors(unittest.TestCase):
-    """Each squared difference is multiplied by the factor of its axis."""
+class Measured(unittest.TestCase):
+    """What an opening measures with."""
 
-    RECORDS = "submit 0 add 12 8000 550 9000 0 41\nrun 0\ntake 0\nsubmit 0 add 12 8030 560 9000 0 42\nrun 0\ntake 0\n"
+    RECORDS = ("12 8000 550 9000 0 41", "12 8030 560 9000 0 42")
 
-    def nearest(self, opening, target):
-        """What the nearest of two records is answered with."""
-        text = f"{opening}\n{self.RECORDS}submit 7 nearest {target}\nrun 7\ntake 7"
+    def nearest(self, opening, target, records=RECORDS):
+        """What the nearest of some records is answered with."""
+        adds = "".join(f"submit 0 add {record}\nrun 0\ntake 0\n" for record in records)
+        text = f"{opening}\n{adds}submit 7 nearest {target}\nrun 7\ntake 7"
         return lines_for(text).splitlines()[-1].split(" ", 2)[2]
+
+    def root_cut(self, *points, factors=ONES, rule=PLAIN):
+        """The axis and the sum of the cut at the root, when these points are added."""
+        index = Index()
+        self.assertEqual(index.open(len(points), len(points), factors, rule), 0)
+        for point in points:
+            index.submit(0, ADD, point, 7)
+            index.run(0)
+            index.take(0)
+        return index.rows[index.root].axis, index.rows[index.root].sum
+
+
+class Factors(Measured):
+    """Each squared difference is multiplied by the factor of its axis."""
 
     def test_nearest(self):
         target = "12 8020 556 9000 0"
@@ -172,13 +187,13 @@ class Factors(unittest.TestCase):
     def test_a_refused_opening_leaves_the_factors(self):
         index = Index()
         self.assertEqual([index.open(4, 10, (1, 9, 1, 4)), index.open(4, 10, (1, 0, 1, 4))], [0, 17])
-        self.assertEqual(index.factors, (1, 9, 1, 4))
-        self.assertEqual((index.open(4, 10), index.factors), (0, ONES))
+        self.assertEqual(index.scale, Scale((1, 9, 1, 4), PLAIN))
+        self.assertEqual((index.open(4, 10), index.scale), (0, Scale(ONES, PLAIN)))
 
     def test_greatest_square(self):
         low, high = zip(*RANGES)
-        self.assertEqual(square(low, high, ONES), 11_015_800_001)
-        self.assertEqual(square(low, high, (1_000,) * 4), 11_015_800_001_000)
+        self.assertEqual(square(low, high, Scale()), 11_015_800_001)
+        self.assertEqual(square(low, high, Scale((1_000,) * 4)), 11_015_800_001_000)
         text = "open 1 1 factors 1000 1000 1000 1000\nsubmit 0 add 1 1 0 0 -2000 1\nrun 0\ntake 0\n"
         lines = lines_for(text + "submit 0 nearest 1 100000 10000 30000 2000\nrun 0\ntake 0")
         self.assertEqual(lines.split()[-1], "11015800001000")
@@ -188,33 +203,136 @@ class Factors(unittest.TestCase):
         for axis in (2, 3, 4):
             own = tuple(5 if axis == other else 1 for other in range(1, 5))
             others = tuple(1 if axis == other or other == 1 else 5 for other in range(1, 5))
-            self.assertTrue(excluded(axis, 10, target, best, own))
+            self.assertTrue(excluded(axis, 10, target, best, Scale(own)))
             for total, factors in ((10, ONES), (8, own), (10, others)):
-                self.assertFalse(excluded(axis, total, target, best, factors))
-            self.assertTrue(excluded(axis, 21, target, best, others))
-            self.assertFalse(excluded(axis, 20, target, best, others))
+                self.assertFalse(excluded(axis, total, target, best, Scale(factors)))
+            self.assertTrue(excluded(axis, 21, target, best, Scale(others)))
+            self.assertFalse(excluded(axis, 20, target, best, Scale(others)))
 
     def test_cuts_do_not_see_the_factors(self):
+        self.assertEqual(self.root_cut((1, 1, 0, 0, 0), (1, 4, 2, 0, 0), factors=(1, 1_000, 1, 1)), (1, 5))
+
+
+class DryWeight(Measured):
+    """Under rule 2 squares and cuts go by the dry weight, and by moisture, speed and draw times 10,000."""
+
+    DRIEST, WETTEST = (1, 100_000, 0, 0, -2_000), (1, 1, 9_999, 30_000, 2_000)
+
+    def test_numbers(self):
+        point = (12, 8030, 560, 9000, -5)
+        self.assertEqual([number(point, axis) for axis in range(9)], [*point, 75_803_200, 5_600_000, 90_000_000, -50_000])
+
+    def test_nearest(self):
+        target = "12 8020 555 9000 0"
+        self.assertEqual(self.nearest("open 2 10 factors 1 1 1 1 rule 2", target), "8 12 8030 560 9000 0 42 5448490000")
+        for opening in ("open 2 10", "open 2 10 factors 1 1 1 1", "open 2 10 factors 1 1 1 1 rule 1"):
+            self.assertEqual(self.nearest(opening, target), "8 12 8030 560 9000 0 42 125")
+        target = "12 8015 554 9001 3"
+        self.assertEqual(self.nearest("open 2 10 factors 2 3 5 7 rule 1", target), "8 12 8000 550 9000 0 41 566")
+        self.assertEqual(self.nearest("open 2 10 factors 2 3 5 7 rule 2", target), "8 12 8030 560 9000 0 42 35088240200")
+
+    def test_the_example_of_dry_weight(self):
+        answers = [played.line.answer for played in play((EXAMPLES / "dry_weight.frames").read_bytes()) if played.line.answer]
+        found = [(answer.curve, answer.square) for answer in answers if answer.code == 8]
+        self.assertEqual(found, [(81, 12_100), (82, 883_656_550_400), (82, 883_656_550_400)])
+
+    def test_a_tie_goes_by_basis_weight(self):
+        # as far in moisture and in dry weight: the heavier has the lesser dry weight
+        records = ("12 4800 4000 0 0 41", "12 5300 6000 0 0 42")
+        for order in (records, records[::-1]):
+            answer = self.nearest("open 2 10 factors 1 1 1 1 rule 2", "12 5000 5000 0 0", order)
+            self.assertEqual(answer, "8 12 5300 6000 0 0 42 114440000000000")
+        records = ("12 5000 5000 0 3 41", "12 5000 5000 0 -3 42")
+        self.assertEqual(self.nearest("open 2 10 factors 1 1 1 9 rule 2", "12 5000 5000 0 0", records), "8 12 5000 5000 0 -3 42 8100000000")
+
+    def test_questions(self):
+        text = "\n".join(
+            ["open 1 1 factors 1 1 1 1 rule 0", "open 1 1 factors 1 1 1 1 rule 3", "open 1 1 factors 1 1 1 1 rule 255", "step 0"]
+            + ["open 1 1 factors 0 1 1 1 rule 3", "open 1 0 factors 1 1 1 1 rule 3", "open 0 0 factors 0 1 1 1 rule 0"]
+            + ["open 257 1 factors 1 1 1 1 rule 0", "open 257 1 factors 1 1 1 17 rule 2", "open 257 1 factors 1 1 1 16 rule 2"]
+        )
+        self.assertEqual(results_for(text), "20 20 20 4 20 2 1 20 17 3".split())
+
+    def test_factors_end_at_sixteen(self):
+        for axis in range(4):
+            results = []
+            for factor in (0, 1, 16, 17, 1_000, 1_001):
+                factors = " ".join(str(factor if axis == other else 1) for other in range(4))
+                results += results_for(f"open 1 1 factors {factors} rule 2\nopen 1 1 factors {factors} rule 1")
+            self.assertEqual(results, "17 17 0 0 0 0 17 0 17 0 17 17".split())
+
+    def test_a_refused_opening_leaves_the_rule(self):
         index = Index()
-        self.assertEqual(index.open(2, 2, (1, 1_000, 1, 1)), 0)
-        for point in ((1, 1, 0, 0, 0), (1, 4, 2, 0, 0)):
-            index.submit(0, ADD, point, 7)
-            index.run(0)
-            index.take(0)
-        self.assertEqual((index.rows[index.root].axis, index.rows[index.root].sum), (1, 5))
+        self.assertEqual([index.open(4, 10, ONES, 2), index.open(4, 10, ONES, 3), index.open(4, 10, (1, 17, 1, 1), 2)], [0, 20, 17])
+        self.assertEqual(index.scale, Scale(ONES, DRY))
+        self.assertEqual((index.open(4, 10), index.scale), (0, Scale(ONES, PLAIN)))
+
+    def test_moisture(self):
+        for call in ("add", "remove", "contains", "nearest"):
+            for rule, results in ((1, "0 0 0"), (2, "0 0 8")):
+                text = "".join(f"open 1 1 factors 1 1 1 1 rule {rule}\nsubmit 0 {call} 1 1 {moisture} 0 0 5\n" for moisture in (0, 9_999, 10_000))
+                self.assertEqual(results_for(text)[1::2], results.split())
+
+    def test_greatest_square(self):
+        self.assertEqual(square(self.DRIEST, self.WETTEST, Scale((16,) * 4, DRY)), 17_625_567_969_600_000_016)
+        record = f"{' '.join(map(str, self.DRIEST))} 7"
+        answer = self.nearest("open 1 1 factors 16 16 16 16 rule 2", "1 1 9999 30000 2000", [record])
+        self.assertEqual(answer, f"8 {record} 17625567969600000016")
+
+    def test_cuts(self):
+        # the weights differ most, the dry weights do not at all
+        a, b = (1, 5_000, 0, 0, 0), (1, 10_000, 5_000, 0, 0)
+        self.assertEqual((self.root_cut(a, b), self.root_cut(a, b, rule=DRY)), ((1, 15_000), (6, 50_000_000)))
+        # one unit of moisture is more than all grades
+        a, b = (1, 1, 0, 0, 0), (9_999, 1, 1, 0, 0)
+        self.assertEqual((self.root_cut(a, b), self.root_cut(a, b, rule=DRY)), ((0, 10_000), (6, 10_000)))
+        self.assertEqual(self.root_cut((1, 1, 9_999, 0, 0), (3, 1, 9_999, 0, 0), rule=DRY), (0, 4))
+        # on a tie the lowest axis
+        self.assertEqual(self.root_cut((1, 1, 0, 0, 0), (1, 2, 0, 1, 1), rule=DRY), (5, 30_000))
+        self.assertEqual(self.root_cut((1, 1, 0, 0, -2_000), (1, 1, 0, 0, 2_000), rule=DRY), (8, 0))
+        # the greatest sum
+        self.assertEqual(self.root_cut((1, 100_000, 0, 0, 0), (1, 99_999, 0, 0, 0), rule=DRY), (5, 1_999_990_000))
+
+    def test_cuts_do_not_see_the_factors(self):
+        self.assertEqual(self.root_cut((1, 4, 0, 0, 0), (1, 8, 2, 0, 0), factors=(1, 16, 1, 1), rule=DRY), (5, 119_984))
+
+    def test_exclusion_goes_by_the_factor_of_its_axis(self):
+        target, best = (1, 100, 0, 0, 0), (1, 90, 0, 0, 0)
+        for axis in (6, 7, 8):
+            own = tuple(5 if axis == other else 1 for other in range(5, 9))
+            others = tuple(1 if axis == other or other == 5 else 5 for other in range(5, 9))
+            self.assertTrue(excluded(axis, 100_000, target, best, Scale(own, DRY)))
+            for total, factors in ((100_000, ONES), (80_000, own), (100_000, others)):
+                self.assertFalse(excluded(axis, total, target, best, Scale(factors, DRY)))
+            self.assertTrue(excluded(axis, 200_001, target, best, Scale(others, DRY)))
+            self.assertFalse(excluded(axis, 200_000, target, best, Scale(others, DRY)))
+
+    def test_exclusion_by_dry_weight(self):
+        target, best = (1, 100, 5_000, 0, 0), (1, 100, 5_001, 0, 0)
+        self.assertEqual(4 * square(target, best, Scale(ONES, DRY)), 20_001 * 20_001 - 1)
+        self.assertFalse(excluded(5, 1_000_000 + 20_000, target, best, Scale(ONES, DRY)))
+        self.assertTrue(excluded(5, 1_000_000 + 20_001, target, best, Scale(ONES, DRY)))
+
+    def test_nothing_is_excluded_beyond_64_bits(self):
+        scale, best = Scale((16,) * 4, DRY), (1, 60_000, 0, 0, 0)
+        target = (1, 1, 0, 0, 0)
+        self.assertGreater(4 * square(target, best, scale), 2**64)
+        self.assertGreater(16 * (1_999_990_000 - 20_000) ** 2, 4 * square(target, best, scale))
+        self.assertFalse(excluded(5, 1_999_990_000, target, best, scale))
+        self.assertTrue(excluded(5, 1_999_990_000, target, (1, 50_000, 0, 0, 0), scale))
 
 
 class Points(unittest.TestCase):
     """The cases P1 to P5 of Rules 13."""
 
     def test_cases(self):
-        self.assertEqual(square((1, 1, 0, 0, -3), (1, 1, 0, 0, 4), ONES), 49)
-        self.assertEqual(cut_between((1, 3, 0, 0, 0), (1, 4, 0, 0, 0)), (1, 7))
+        self.assertEqual(square((1, 1, 0, 0, -3), (1, 1, 0, 0, 4), Scale()), 49)
+        self.assertEqual(cut_between((1, 3, 0, 0, 0), (1, 4, 0, 0, 0), PLAIN), (1, 7))
         self.assertTrue(goes_left(1, 7, (1, 3, 0, 0, 0)) and not goes_left(1, 7, (1, 4, 0, 0, 0)))
         self.assertTrue(goes_left(4, -7, (1, 1, 0, 0, -4)) and not goes_left(4, -7, (1, 1, 0, 0, -3)))
-        self.assertEqual(cut_between((1, 1, 0, 0, 0), (1, 6, 0, 5, 0)), (1, 7))
+        self.assertEqual(cut_between((1, 1, 0, 0, 0), (1, 6, 0, 5, 0), PLAIN), (1, 7))
         target = (1, 9000, 0, 0, 0)
-        self.assertLess(rank(target, (1, 9010, 0, 0, 0), ONES), rank(target, (1, 8990, 0, 0, 0), ONES))
+        self.assertLess(rank(target, (1, 9010, 0, 0, 0), Scale()), rank(target, (1, 8990, 0, 0, 0), Scale()))
 
 
 class Histories(unittest.TestCase):
@@ -225,7 +343,8 @@ class Histories(unittest.TestCase):
         station = index.stations[number]
         if station.state == IDLE:
             kind = rng.choice([1, 1, 1, 2, 2, 3, 4, 4])
-            point = (rng.choice([1, 2, 128]), rng.randint(1, 6), rng.randint(0, 2), rng.randint(0, 2), rng.randint(-1, 1))
+            moisture = rng.choice([0, 1, 2, 5_000, 9_999])
+            point = (rng.choice([1, 2, 128]), rng.randint(1, 6), moisture, rng.randint(0, 2), rng.randint(-1, 1))
             if kind == 2 and plain.held and rng.random() < 0.8:
                 point = rng.choice(sorted(plain.held))
             self.assertEqual(index.submit(number, kind, point, rng.randint(1, 999_999)), 0)
@@ -246,11 +365,11 @@ class Histories(unittest.TestCase):
 
     def test_random_histories(self):
         rng = random.Random(5)
-        for _ in range(60):
+        for rule in (PLAIN, DRY) * 40:
             places, limit = rng.choice([1, 2, 5, 12, 40]), rng.choice([1, 4, 500_000_000])
-            factors = rng.choice([ONES, tuple(rng.choice([1, 2, 9, 1_000]) for _ in range(4))])
-            index, plain = Index(), Plain(places, limit, factors)
-            self.assertEqual(index.open(places, limit, factors), 0)
+            factors = rng.choice([ONES, tuple(rng.choice([1, 2, 9, 1_000 if rule == PLAIN else 16]) for _ in range(4))])
+            index, plain = Index(), Plain(places, limit, factors, rule)
+            self.assertEqual(index.open(places, limit, factors, rule), 0)
             for _ in range(400):
                 self.event(rng, index, plain, rng.randrange(8))
             records, rows = leaves_below(index, index.root)

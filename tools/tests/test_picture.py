@@ -12,7 +12,7 @@ from deodarlathe.rows import Cut
 from deodarlathe.text import written
 from deodarlathe.words import played_words
 
-from .sample import HALF_DONE, HISTORIES, REPOSITORY, with_lines
+from .sample import EXAMPLES, HALF_DONE, HISTORIES, REPOSITORY, with_lines
 
 
 def drawn(data, at):
@@ -77,12 +77,13 @@ class Any(unittest.TestCase):
                 self.assertIn(f"After frame {at}", words_in(drawn(file.read_bytes(), at)[0]))
 
     def test_boxes_do_not_overlap(self):
-        index = drawn((HISTORIES / "2.frames").read_bytes(), 500)[1]
-        boxes = list(tree_boxes(index, 0, 0).values())
-        self.assertGreater(len(boxes), 3)
-        for at, one in enumerate(boxes):
-            for other in boxes[at + 1:]:
-                self.assertTrue(one.right <= other.x or other.right <= one.x or one.bottom <= other.y or other.bottom <= one.y)
+        for file in ("2.frames", "8.frames"):
+            index = drawn((HISTORIES / file).read_bytes(), 500)[1]
+            boxes = list(tree_boxes(index, 0, 0).values())
+            self.assertGreater(len(boxes), 3)
+            for at, one in enumerate(boxes):
+                for other in boxes[at + 1:]:
+                    self.assertTrue(one.right <= other.x or other.right <= one.x or one.bottom <= other.y or other.bottom <= one.y)
 
     def test_deepest_tree(self):
         text = "open 256 1000\n" + "".join(f"submit 0 add 1 {300 * n + 1} 0 0 0 1\nrun 0\ntake 0\n" for n in range(256))
@@ -106,6 +107,24 @@ class Any(unittest.TestCase):
         self.assertIn(told, words_in(drawn(written(b"open 2 9 factors 1 1000 2 4"), 1)[0]))
         for text in (b"open 2 9", b"open 2 9 factors 1 1 1 1"):
             self.assertFalse([word for word in words_in(drawn(written(text), 1)[0]) if word.startswith("factors")])
+
+    def test_rule_2_is_told(self):
+        rule = "rule 2: dry weight, and moisture, speed and draw times 10,000"
+        told = f"{rule}; factors of the squared differences: dry weight 1, moisture 16, speed 2, draw 4"
+        self.assertIn(told, words_in(drawn(written(b"open 2 9 factors 1 16 2 4 rule 2"), 1)[0]))
+        self.assertIn(rule, words_in(drawn(written(b"open 2 9 factors 1 1 1 1 rule 2"), 1)[0]))
+        for text in (b"open 2 9", b"open 2 9 factors 1 16 2 4 rule 1", b"open 2 9 factors 1 1 1 1 rule 1"):
+            self.assertFalse([word for word in words_in(drawn(written(text), 1)[0]) if word.startswith("rule")])
+
+    def test_cuts_of_rule_2(self):
+        self.assertEqual(cut_words(Cut(None, 5, 150_943_400, 0, 1)), "dry weight < 75,471,700")
+        self.assertEqual(cut_words(Cut(None, 5, 1_999_999_999, 0, 1)), "dry weight < 999,999,999.5")
+        self.assertEqual(cut_words(Cut(None, 6, 11_110_000, 0, 1)), "moisture < 555.5")
+        self.assertEqual(cut_words(Cut(None, 7, 180_000_000, 0, 1)), "speed < 9,000")
+        self.assertEqual(cut_words(Cut(None, 8, -70_000, 0, 1)), "draw < -3.5")
+        words = words_in(drawn((EXAMPLES / "dry_weight.frames").read_bytes(), 17)[0])
+        self.assertIn("dry weight < 74,679,240", words)
+        self.assertTrue([word for word in words if word.endswith(", sum 149,358,480")])
 
     def test_odd_sum(self):
         self.assertEqual(cut_words(Cut(None, 4, -7, 0, 1)), "draw < -3.5")

@@ -20,7 +20,16 @@ FAULTS = {
     "open 4 factors 1 1 1 1": "line 1: word 3: limit is a whole number from 0 to 4,294,967,295; 'factors' given",
     "open 4 100 factors": f"line 1: factors takes {FOUR}; 0 given",
     "open 4 100 factors 1 9 1": f"line 1: factors takes {FOUR}; 3 given",
-    "open 4 100 factors 1 9 1 4 1": f"line 1: factors takes {FOUR}; 5 given",
+    "open 4 100 factors 1 9 1 4 1": f"line 1: word 9: after {FOUR} comes rule or nothing; '1' given",
+    "open 4 100 factors 1 9 1 4 Rule 2": f"line 1: word 9: after {FOUR} comes rule or nothing; 'Rule' given",
+    "open 4 100 factors 1 9 1 4 rule": "line 1: rule takes rule number; 0 given",
+    "open 4 100 factors 1 9 1 4 rule 2 1": "line 1: rule takes rule number; 2 given",
+    "open 4 100 factors 1 9 1 4 rule 256": "line 1: word 10: rule number is a whole number from 0 to 255; '256' given",
+    "open 4 100 factors 1 9 1 4 rule -1": "line 1: word 10: rule number is a whole number from 0 to 255; '-1' given",
+    "open 4 100 factors 1 9 1 4 rule dry": "line 1: word 10: rule number is a whole number from 0 to 255; 'dry' given",
+    "open 4 100 factors 1 9 1 rule 2": "line 1: word 8: draw factor is a whole number from 0 to 65,535; 'rule' given",
+    "open 4 100 rule 2": "line 1: word 4: after places and limit comes factors or nothing; 'rule' given",
+    "rule 2": "line 1: word 1: a call is open, submit, step, take, run or withdraw; 'rule' given",
     "open 4 100 factors 65536 9 1 4": "line 1: word 5: weight factor is a whole number from 0 to 65,535; '65536' given",
     "open 4 100 factors 1 -9 1 4": "line 1: word 6: moisture factor is a whole number from 0 to 65,535; '-9' given",
     "open 4 100 factors 1 9 1.5 4": "line 1: word 7: speed factor is a whole number from 0 to 65,535; '1.5' given",
@@ -73,6 +82,12 @@ class Write(unittest.TestCase):
         self.assertEqual(written(b"open 64 1000"), bytes([8, 0, 1]) + scaled[3:10])
         self.assertEqual(written(b"open 64 1000 factors 1 1000 0 65535")[10:], bytes([1, 0, 0xE8, 3, 0, 0, 0xFF, 0xFF]))
 
+    def test_rule(self):
+        ruled = bytes([17, 0, 7, 0, 64, 0, 0xE8, 3, 0, 0, 1, 0, 9, 0, 1, 0, 4, 0, 2])
+        self.assertEqual(written(b"open 64 1000 factors 1 9 1 4 rule 2  # by dry weight"), ruled)
+        self.assertEqual(written(b"open 64 1000 factors 1 9 1 4"), bytes([16, 0, 6]) + ruled[3:18])
+        self.assertEqual([written(b"open 64 1000 factors 1 9 1 4 rule %d" % rule)[18] for rule in (0, 1, 3, 255)], [0, 1, 3, 255])
+
     def test_kinds_by_number(self):
         self.assertEqual(written(NEAREST.encode()), written(NEAREST.replace("nearest", "4").encode()))
 
@@ -122,6 +137,7 @@ class Read(unittest.TestCase):
         lines = ["open 4 100", "submit 0 add 12 8000 550 9000 0 41", NEAREST, "submit 7 nearest 1 1 0 0 -5 9", "submit 1 9 0 0 0 0 0"]
         lines += ["submit 1 add 0 0 0 0 0 0", "step 9", "take 0", "run 255", "withdraw 1"]
         lines += ["open 64 1000 factors 1 9 1 4", "open 4 100 factors 1 1 1 1", "open 0 0 factors 0 1001 2 65535"]
+        lines += ["open 64 1000 factors 1 9 1 4 rule 2", "open 4 100 factors 1 1 1 1 rule 1", "open 0 0 factors 0 17 2 65535 rule 255"]
         self.assertEqual(read_back(written("\n".join(lines).encode())), (lines, None))
 
     def test_stops(self):
@@ -131,7 +147,11 @@ class Read(unittest.TestCase):
             b"\x03\x00\x03\x00": (13, "the frame is cut short"),
             b"\x00\x00": (14, "there is no such kind of frame"),
             b"\x01\x00\x07": (14, "there is no such kind of frame"),
-            b"\x03\x00\x07\x00\x02": (14, "there is no such kind of frame"),
+            b"\x03\x00\x09\x00\x02": (14, "there is no such kind of frame"),
+            b"\x03\x00\x00\x00\x02": (14, "there is no such kind of frame"),
+            b"\x03\x00\x07\x00\x02": (15, "the length is not that of its kind"),
+            b"\x10\x00\x07\x00\x04\x00\x64\x00\x00\x00\x01\x00\x09\x00\x01\x00\x04\x00": (15, "the length is not that of its kind"),
+            b"\x11\x00\x07\x00\x04\x00\x64\x00\x00\x00\x01\x00\x09\x00\x01\x00\x04\x00": (13, "the frame is cut short"),
             b"\x03\x00\x06\x00\x02": (15, "the length is not that of its kind"),
             b"\x08\x00\x06\x00\x04\x00\x64\x00\x00\x00": (15, "the length is not that of its kind"),
             b"\x10\x00\x06\x00\x04\x00\x64\x00\x00\x00\x01\x00\x09\x00\x01\x00\x04": (13, "the frame is cut short"),

@@ -86,6 +86,25 @@ class Explain(unittest.TestCase):
         self.assertEqual(words[0], "frame 1: open 2 1 factors 1 9 1 1001: refused: 17, a factor is not 1 to 1,000")
         self.assertEqual(words[1], "frame 2: opened with places 2 and limit 1, and factors weight 1, moisture 9, speed 1 and draw 4")
 
+    def test_rule(self):
+        opening = b"open 2 1 factors 1 9 1 %d rule %d\n"
+        data = written(opening % (17, 3) + opening % (17, 2) + opening % (1001, 1) + opening % (4, 2))
+        words = list(explained(data, [played.line for played in play(data)]))
+        self.assertEqual(words[0], "frame 1: open 2 1 factors 1 9 1 17 rule 3: refused: 20, the rule is not 1 or 2")
+        self.assertEqual(words[1], "frame 2: open 2 1 factors 1 9 1 17 rule 2: refused: 17, a factor is not 1 to 16, as rule 2 wants it")
+        self.assertEqual(words[2], "frame 3: open 2 1 factors 1 9 1 1001 rule 1: refused: 17, a factor is not 1 to 1,000")
+        factors = "factors weight 1, moisture 9, speed 1 and draw 4"
+        self.assertEqual(words[3], f"frame 4: opened with places 2 and limit 1, and {factors}, under rule 2")
+
+    def test_moisture_under_rule_2(self):
+        call = b"submit 3 nearest 1 %d 10000 0 0\n"
+        data = written(b"open 2 1 factors 1 1 1 1 rule 2\n" + call % 1 + call % 0 + b"open 2 1\n" + call % 0 + call % 1)
+        words = list(explained(data, [played.line for played in play(data)]))
+        self.assertEqual(words[1], "frame 2: submit 3 nearest 1 1 10000 0 0: refused: 8, the moisture is not 0 to 9,999, as rule 2 wants it")
+        for at in (2, 4):
+            self.assertEqual(words[at], f"frame {at + 1}: submit 3 nearest 1 0 10000 0 0: refused: 8, the point is out of its ranges")
+        self.assertEqual(words[5], "frame 6: station 3 submitted nearest 1 1 10000 0 0")
+
     def test_more_than_the_runner_takes(self):
         data = written(b"step 1\n" * 20_000)
         words = list(explained(data, [played.line for played in play(data)]))
@@ -93,7 +112,7 @@ class Explain(unittest.TestCase):
 
     def test_every_code_and_refusal_has_words(self):
         self.assertEqual(sorted(CODES), [*range(1, 10), 11])
-        self.assertEqual(sorted(REFUSALS), [*range(1, 16), 17])
+        self.assertEqual(sorted(REFUSALS), [*range(1, 16), 17, 20])
         for code in CODES:
             answer = Answer(code, (12, 8000, 550, 9000, 0), 0, 0)
             self.assertIn("12 8000 550 9000 0", frame_words(Frame("take", (3,)), Line(1, 0, answer)))
@@ -116,6 +135,14 @@ class Lines(unittest.TestCase):
         for _, lines in with_lines():
             text = lines.read_text()
             self.assertEqual(printed(lines_from(text.split("\n"))), text)
+
+    def test_squares_up_to_64_bits(self):
+        line = "1 0 8 1 100000 0 0 -2000 7 {}\n"
+        for square in (17_625_567_969_600_000_016, 2**64 - 1):
+            text = f"{HEADER}\n{line.format(square)}"
+            self.assertEqual(printed(lines_from(text.split("\n"))), text)
+        fault = f"line 2: word 10: square is a whole number, or all from code on are '-'; '{2**64}' given"
+        self.assertEqual(fault_of(lines_from, [HEADER, line.format(2**64).strip()]), fault)
 
     def test_faults(self):
         for text, fault in LINE_FAULTS.items():
