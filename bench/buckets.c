@@ -5,8 +5,9 @@
 // The room of a bucket that gets its first record; it doubles when it is used up.
 #define FIRST_ROOM 4
 
-void buckets_empty(struct buckets *buckets, uint32_t places)
+void buckets_empty(struct buckets *buckets, uint32_t places, enum rule rule)
 {
+    buckets->rule = rule;
     buckets->places = places;
     buckets->held = 0;
     for (int grade = 0; grade <= MOST_GRADES; grade++)
@@ -27,12 +28,12 @@ static uint32_t find(const struct bucket *bucket, const struct point *point)
     return bucket->held;
 }
 
-static struct answer nearest(const struct bucket *bucket, struct point target)
+static struct answer nearest(const struct bucket *bucket, enum rule rule, struct point target)
 {
     struct answer best = {9, target, 0, 0};
     for (uint32_t i = 0; i < bucket->held; i++) {
         const struct record *r = &bucket->records[i];
-        uint64_t s = square(&r->point, &target);
+        uint64_t s = square_by(rule, &r->point, &target);
         if (best.code == 9 || s < best.square || (s == best.square && wins(&r->point, &best.point)))
             best = (struct answer){8, r->point, r->curve, s};
     }
@@ -93,6 +94,6 @@ struct answer buckets_call(struct buckets *buckets, struct call call)
     case CONTAINS:
         return contains(bucket, call.record.point);
     default:
-        return nearest(bucket, call.record.point);
+        return nearest(bucket, buckets->rule, call.record.point);
     }
 }

@@ -15,13 +15,14 @@ struct bucket {
 
 // The buckets by grade; grades begin with 1.
 struct buckets {
+    enum rule rule;
     uint32_t places;
     uint32_t held;
     struct bucket of[MOST_GRADES + 1];
 };
 
-// No records, and so many places for them. The room of each bucket stays.
-void buckets_empty(struct buckets *buckets, uint32_t places);
+// No records, so many places for them, and the rule of their squares. The room of each bucket stays.
+void buckets_empty(struct buckets *buckets, uint32_t places, enum rule rule);
 
 // One call, answered at once.
 struct answer buckets_call(struct buckets *buckets, struct call call);

@@ -17,7 +17,7 @@ static struct answer nearest(const struct flat *flat, struct point target)
         const struct record *r = &flat->records[i];
         if (r->point.axis[0] != target.axis[0])
             continue;
-        uint64_t s = square(&r->point, &target);
+        uint64_t s = square_by(flat->rule, &r->point, &target);
         if (best.code == 9 || s < best.square || (s == best.square && wins(&r->point, &best.point)))
             best = (struct answer){8, r->point, r->curve, s};
     }

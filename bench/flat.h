@@ -7,6 +7,7 @@
 #define MOST_PLACES 4096
 
 struct flat {
+    enum rule rule;
     uint32_t places;
     uint32_t held;
     struct record records[MOST_PLACES];

@@ -16,6 +16,9 @@
 uint32_t index_open(uint32_t *words, size_t length, uint32_t places, uint32_t limit);
 uint32_t index_open_scaled(uint32_t *words, size_t length, uint32_t places, uint32_t limit, uint32_t weight, uint32_t moisture,
                            uint32_t speed, uint32_t draw);
+// Weak: an earlier library, which is measured in turns with this one, may not have it.
+__attribute__((weak)) uint32_t index_open_ruled(uint32_t *words, size_t length, uint32_t places, uint32_t limit, uint32_t weight,
+                                                uint32_t moisture, uint32_t speed, uint32_t draw, uint32_t rule);
 uint32_t index_submit(uint32_t *words, size_t length, uint32_t s, uint32_t kind, int32_t grade, int32_t weight, int32_t moisture,
                       int32_t speed, int32_t draw, uint32_t curve);
 uint32_t index_step(uint32_t *words, size_t length, uint32_t s);

@@ -26,26 +26,28 @@ static const uint32_t SIZES[] = {256, MOST_PLACES};
 
 // The workloads of each size; a size puts its places in.
 static const struct workload WORKLOADS[] = {
-    {"uniform", 0, 1, UNIFORM, AS_DRAWN, AS_RECORDS},
-    {"clustered", 0, 1, CLUSTERED, AS_DRAWN, AS_RECORDS},
-    {"uniform", 0, 40, UNIFORM, AS_DRAWN, AS_RECORDS},
-    {"clustered", 0, 40, CLUSTERED, AS_DRAWN, AS_RECORDS},
-    {"uniform", 0, 1000, UNIFORM, AS_DRAWN, AS_RECORDS},
-    {"clustered", 0, 1000, CLUSTERED, AS_DRAWN, AS_RECORDS},
-    {"clustered, some targets anywhere", 0, 40, CLUSTERED, AS_DRAWN, SOME_ANYWHERE},
-    {"uniform, added by weight", 0, 40, UNIFORM, IN_ORDER, AS_RECORDS},
-    {"uniform, after churn", 0, 40, UNIFORM, CHURNED, AS_RECORDS},
+    {"uniform", 0, 1, UNIFORM, AS_DRAWN, AS_RECORDS, BY_COORDINATES},
+    {"clustered", 0, 1, CLUSTERED, AS_DRAWN, AS_RECORDS, BY_COORDINATES},
+    {"uniform", 0, 40, UNIFORM, AS_DRAWN, AS_RECORDS, BY_COORDINATES},
+    {"clustered", 0, 40, CLUSTERED, AS_DRAWN, AS_RECORDS, BY_COORDINATES},
+    {"uniform", 0, 1000, UNIFORM, AS_DRAWN, AS_RECORDS, BY_COORDINATES},
+    {"clustered", 0, 1000, CLUSTERED, AS_DRAWN, AS_RECORDS, BY_COORDINATES},
+    {"clustered, some targets anywhere", 0, 40, CLUSTERED, AS_DRAWN, SOME_ANYWHERE, BY_COORDINATES},
+    {"uniform, added by weight", 0, 40, UNIFORM, IN_ORDER, AS_RECORDS, BY_COORDINATES},
+    {"uniform, after churn", 0, 40, UNIFORM, CHURNED, AS_RECORDS, BY_COORDINATES},
+    {"uniform, by dry weight", 0, 40, UNIFORM, AS_DRAWN, AS_RECORDS, BY_DRY_WEIGHT},
+    {"clustered, by dry weight", 0, 40, CLUSTERED, AS_DRAWN, AS_RECORDS, BY_DRY_WEIGHT},
 };
 
 // The workload of the single calls.
-static const struct workload SINGLES = {"uniform", MOST_PLACES, 40, UNIFORM, AS_DRAWN, AS_RECORDS};
+static const struct workload SINGLES = {"uniform", MOST_PLACES, 40, UNIFORM, AS_DRAWN, AS_RECORDS, BY_COORDINATES};
 
 // The workloads of a nearest beside another station.
 static const struct workload BESIDE[] = {
-    {"uniform", MOST_PLACES, 1, UNIFORM, AS_DRAWN, AS_RECORDS},
-    {"clustered", MOST_PLACES, 1, CLUSTERED, AS_DRAWN, AS_RECORDS},
-    {"uniform", MOST_PLACES, 40, UNIFORM, AS_DRAWN, AS_RECORDS},
-    {"clustered", MOST_PLACES, 40, CLUSTERED, AS_DRAWN, AS_RECORDS},
+    {"uniform", MOST_PLACES, 1, UNIFORM, AS_DRAWN, AS_RECORDS, BY_COORDINATES},
+    {"clustered", MOST_PLACES, 1, CLUSTERED, AS_DRAWN, AS_RECORDS, BY_COORDINATES},
+    {"uniform", MOST_PLACES, 40, UNIFORM, AS_DRAWN, AS_RECORDS, BY_COORDINATES},
+    {"clustered", MOST_PLACES, 40, CLUSTERED, AS_DRAWN, AS_RECORDS, BY_COORDINATES},
 };
 
 // A number as the tables show it.
@@ -119,7 +121,9 @@ static void whole_calls(struct sides *sides)
     for (size_t i = 0; i < COUNT(SIZES) * COUNT(WORKLOADS); i++) {
         sides->workload = WORKLOADS[i % COUNT(WORKLOADS)];
         sides->workload.places = SIZES[i / COUNT(WORKLOADS)];
-        calls_of(sides);
+        // An earlier index that is measured in turns with this one may know no rule.
+        if (sides->workload.rule == BY_COORDINATES || index_open_ruled)
+            calls_of(sides);
     }
 }
 

@@ -31,4 +31,21 @@ static inline uint64_t square(const struct point *a, const struct point *b)
     return (uint64_t)sum;
 }
 
+// The same by dry weight, and by moisture, speed and draw times 10,000 (rule 2).
+static inline uint64_t dry_square(const struct point *a, const struct point *b)
+{
+    int64_t dry = (int64_t)a->axis[1] * (10000 - a->axis[2]) - (int64_t)b->axis[1] * (10000 - b->axis[2]);
+    uint64_t sum = (uint64_t)(dry * dry);
+    for (int k = 2; k < AXES; k++) {
+        int64_t d = 10000 * ((int64_t)a->axis[k] - b->axis[k]);
+        sum += (uint64_t)(d * d);
+    }
+    return sum;
+}
+
+static inline uint64_t square_by(enum rule rule, const struct point *a, const struct point *b)
+{
+    return rule == BY_DRY_WEIGHT ? dry_square(a, b) : square(a, b);
+}
+
 #endif

@@ -10,6 +10,9 @@ enum call_kind { ADD = 1, REMOVE = 2, CONTAINS = 3, NEAREST = 4 };
 
 enum spread { UNIFORM, CLUSTERED };
 
+// The rule of an opening: squares by the coordinates, or by dry weight.
+enum rule { BY_COORDINATES = 1, BY_DRY_WEIGHT = 2 };
+
 // A point by its axes: grade, weight, moisture, speed, draw.
 struct point {
     int32_t axis[AXES];

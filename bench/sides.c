@@ -7,6 +7,9 @@
 // So many pairs of a remove and an add for each place make a churn.
 #define CHURN 100
 
+// The greatest moisture under rule 2.
+#define MOST_DRY_MOISTURE 9999
+
 void check(struct answer got, struct answer want, const char *by)
 {
     int same = got.code == want.code && got.curve == want.curve && got.square == want.square;
@@ -27,15 +30,23 @@ struct answer finish(struct index index, uint32_t s, struct call call)
     return take(index, s);
 }
 
+// A record with a moisture that is in range under rule 2 too.
+static struct record dried(struct record record, enum rule rule)
+{
+    if (rule == BY_DRY_WEIGHT && record.point.axis[2] > MOST_DRY_MOISTURE)
+        record.point.axis[2] = MOST_DRY_MOISTURE;
+    return record;
+}
+
 struct record drawn_record(const struct sides *sides)
 {
-    return random_record(sides->workload.spread, sides->workload.grades);
+    return dried(random_record(sides->workload.spread, sides->workload.grades), sides->workload.rule);
 }
 
 struct record drawn_target(const struct sides *sides, uint32_t n)
 {
     int anywhere = sides->workload.targets == SOME_ANYWHERE && n % ONE_ANYWHERE_OF == 0;
-    return random_record(anywhere ? UNIFORM : sides->workload.spread, sides->workload.grades);
+    return dried(random_record(anywhere ? UNIFORM : sides->workload.spread, sides->workload.grades), sides->workload.rule);
 }
 
 struct record held_record(const struct sides *sides)
@@ -95,11 +106,15 @@ static void empty(struct sides *sides)
 {
     uint32_t places = sides->workload.places;
     sides->index.length = words_for(places);
-    if (index_open(sides->index.words, sides->index.length, places, LIMIT) != 0)
+    enum rule rule = sides->workload.rule;
+    uint32_t refused = rule == BY_DRY_WEIGHT ? index_open_ruled(sides->index.words, sides->index.length, places, LIMIT, 1, 1, 1, 1, rule)
+                                             : index_open(sides->index.words, sides->index.length, places, LIMIT);
+    if (refused != 0)
         exit(1);
+    sides->flat->rule = rule;
     sides->flat->places = places;
     sides->flat->held = 0;
-    buckets_empty(sides->buckets, places);
+    buckets_empty(sides->buckets, places, rule);
 }
 
 void fill(struct sides *sides)

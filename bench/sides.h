@@ -13,7 +13,7 @@ enum filling { AS_DRAWN, IN_ORDER, CHURNED };
 enum targets { AS_RECORDS, SOME_ANYWHERE };
 #define ONE_ANYWHERE_OF 8
 
-// The records of an index: how many, of how many grades, where they lie and how they come in; and where its targets lie.
+// The records of an index: how many, of how many grades, where they lie and how they come in; where its targets lie; and the rule.
 struct workload {
     const char *name;
     uint32_t places;
@@ -21,6 +21,7 @@ struct workload {
     enum spread spread;
     enum filling filling;
     enum targets targets;
+    enum rule rule;
 };
 
 struct sides {

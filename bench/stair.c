@@ -15,6 +15,7 @@
 #define OPENING_WORDS 3
 #define FACTORS 48
 #define FACTOR_WORDS 4
+#define RULE 52
 #define GRADE 12
 
 // The set of grades of a cut has so many slots; grade g is in slot (g - 1) mod SLOTS.
@@ -141,10 +142,10 @@ static void some_call(struct index index, uint32_t records)
     }
 }
 
-// Whether question 4 asks for a word: mark, places and limit, and the factors.
+// Whether question 4 asks for a word: mark, places and limit, the factors and the rule.
 static bool asked_first(uint32_t at)
 {
-    return at < OPENING_WORDS || (FACTORS <= at && at < FACTORS + FACTOR_WORDS);
+    return at < OPENING_WORDS || (FACTORS <= at && at < FACTORS + FACTOR_WORDS) || at == RULE;
 }
 
 // A word of the records or of some row of an index of FEW places becomes another; none that question 4 asks for.
