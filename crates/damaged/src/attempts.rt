@@ -3,6 +3,7 @@ use crate::choice::most_factor;
 use crate::choice::some_rule;
 use crate::choice::some_scale;
 use crate::choice::some_station;
+use crate::ranges::answer_stored;
 use calls::take::Taking;
 use points::point::Point;
 use points::scale::Scale;
@@ -73,7 +74,13 @@ fn submit(words: &mut [u32], book: &mut [u64], s: u32) -> u32 {
 fn number_of(rule: u32, taking: Taking) -> u32 {
     match taking {
         Taking::Refused(number) => number,
-        Taking::Given(answer) => { if answer_sound(rule, answer) { 0 } else { NEVER } }
+        Taking::Given(answer) => {
+            if answer_sound(rule, answer) & answer_stored(rule, answer) {
+                0
+            } else {
+                NEVER
+            }
+        }
     }
 }
 

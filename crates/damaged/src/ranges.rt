@@ -1,5 +1,6 @@
-// What the rule says of the stored words, read from the words alone: the rule and the factors themselves, and the rows.
+// What the rule says of the stored words, read from the words alone: the rule and the factors themselves, and the rows; and of an answer.
 use crate::choice::most_factor;
+use stations::answer::Answer;
 use trial::cells::word;
 use words::layout::AT_RULE;
 use words::layout::AT_SCALE;
@@ -24,6 +25,16 @@ pub fn scale_stored(words: &[u32]) -> bool {
 // Whether a moisture is in range under a rule.
 fn is_moisture(rule: u32, x: u32) -> bool {
     x <= if rule == 2 { 9999 } else { 10000 }
+}
+
+// Whether moisture and square of an answer are in range under a rule.
+pub fn answer_stored(rule: u32, answer: Answer) -> bool {
+    let point = answer.point;
+    if rule == 2 {
+        (point.moisture <= 9999) & (answer.square <= 17625567969600000016)
+    } else {
+        (point.moisture <= 10000) & (answer.square <= 11015800001000)
+    }
 }
 
 // Whether the axis of a cut is one that a rule goes by.
