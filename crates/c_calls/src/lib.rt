@@ -1,4 +1,6 @@
 // The calls for programs in C, as the benchmark makes them: a slice is lent as its first word and its length.
+#![tactic(auto)]
+
 ghost use Rattle.std.specs.Prelude.{◌≡◌};
 ghost use Rattle.points.specs.Rule.{plain_rule};
 ghost use Rattle.points.specs.Scale.{plain_scale};

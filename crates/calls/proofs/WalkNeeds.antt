@@ -26,13 +26,13 @@ use Rattle.rows.proofs.RowLaws.{in_rows_cut, row_sound, row_at_outside}
 use Rattle.calls.specs.declared.insert.Site.{Site}
 use Rattle.calls.specs.declared.unlink.Around.{Around}
 use Rattle.calls.specs.declared.walk.Way.{Way}
-use Rattle.calls.specs.Reply.{Reply, done, refused, ask, pick_reply}
+use Rattle.calls.specs.Reply.{done, refused, ask, pick_reply}
 use Rattle.calls.specs.Answer.{answered_words}
-use Rattle.calls.specs.Link.{next_of, parent_of, links_to, is_leaf, is_cut, is_tree, is_free}
+use Rattle.calls.specs.Link.{next_of, links_to, is_leaf, is_cut, is_tree, is_free}
 use Rattle.calls.specs.Insert.{site_at, site_sound, insert_of}
 use Rattle.calls.specs.Unlink.{around_at, around_sound, unlink_of}
-use Rattle.calls.specs.Walk.{down_from, down, way_of, walk_to, code_at, plain_answer, conclude_as, conclude, stands_at, walk_from, walk_of}
-use Rattle.calls.specs.Needs.{Need, tree_at, leaf_at, cut_over, free_before, free_last, apart, counted, met, all_met, unless, pick_needs, way_needs, site_needs, around_needs, answer_needs, walk_needs}
+use Rattle.calls.specs.Walk.{down_from, down, way_of, walk_to, code_at, plain_answer, conclude_as, conclude, stands_at, walk_of}
+use Rattle.calls.specs.Needs.{Need, leaf_at, cut_over, free_before, free_last, met, all_met, unless, pick_needs, way_needs, site_needs, around_needs, answer_needs, walk_needs}
 use Rattle.calls.proofs.Conjunctions.{and_false}
 
 -- ---- the way down

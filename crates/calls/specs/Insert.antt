@@ -1,5 +1,5 @@
 -- A record is inserted where the walk of its point ended, at row `at`: beside the leaf there, under a new cut (Rules 6.2), or alone where `at` is none.
-use Rattle.std.specs.Prelude.{ℕ, zero, suc, Bool, true, false, cond, ◌&&◌, ◌||◌, not, List, eqb}
+use Rattle.std.specs.Prelude.{ℕ, zero, suc, Bool, cond, ◌&&◌, ◌||◌, not, List, eqb}
 use Rattle.stations.specs.Answer.{code_added}
 use Rattle.words.specs.Refusal.{unsound}
 use Rattle.stations.specs.Track.{track_at, put_track, standing}

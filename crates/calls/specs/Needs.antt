@@ -1,6 +1,6 @@
 -- What a step needs of the rows, apart from what it does (question 11): the rows that it reads, and what each must be. Nothing is written here, and what the code
 -- asks is exactly this (`step_needs_lem` of `proofs/NeedLaws`).
-use Rattle.std.specs.Prelude.{ℕ, zero, suc, Bool, true, false, cond, not, ◌&&◌, ◌||◌, List, [], ◌∷◌, ◌++◌, eqb, leb}
+use Rattle.std.specs.Prelude.{ℕ, zero, suc, Bool, true, false, not, ◌&&◌, ◌||◌, List, [], ◌∷◌, ◌++◌, eqb, leb}
 use Rattle.points.specs.Word.{NONE}
 use Rattle.stations.specs.declared.call.Call.{Call}
 use Rattle.stations.specs.Answer.{code_added, code_removed}

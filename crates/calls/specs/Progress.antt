@@ -1,6 +1,6 @@
 -- How far a search has come: the best record so far, and where it stands. What a record that is considered makes of the best, how a search goes on, and one that
 -- has met a row that is not what it must be.
-use Rattle.std.specs.Prelude.{ℕ, Bool, true, false, not, ◌&&◌, ◌||◌, eqb, leb}
+use Rattle.std.specs.Prelude.{ℕ, Bool, true, false, ◌&&◌, ◌||◌, eqb, leb}
 use Rattle.points.specs.declared.point.Point.{Point}
 use Rattle.points.specs.Choice.{same_grade, chosen_over}
 use Rattle.stations.specs.declared.call.Best.{Best}

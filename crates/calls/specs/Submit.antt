@@ -1,5 +1,5 @@
 -- Submission: questions 4 to 9 (Rules 7.7). It reads and writes the common record and the station's alone (Rules 5.1).
-use Rattle.std.specs.Prelude.{ℕ, Bool, cond, ◌&&◌, ◌||◌, not, List, eqb, leb, ltb}
+use Rattle.std.specs.Prelude.{ℕ, Bool, cond, ◌||◌, not, List, eqb, ltb}
 use Rattle.words.specs.Layout.{stations}
 use Rattle.words.specs.Rule.{rule_at}
 use Rattle.words.specs.Refusal.{not_opened, no_station, not_idle, no_kind, bad_point, bad_curve}

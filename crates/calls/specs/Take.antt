@@ -1,5 +1,5 @@
 -- A taking: questions 4, 5 and 12 (Rules 7.17). It writes one word.
-use Rattle.std.specs.Prelude.{ℕ, Bool, true, false, cond, List, ltb}
+use Rattle.std.specs.Prelude.{ℕ, cond, List, ltb}
 use Rattle.words.specs.Layout.{stations}
 use Rattle.words.specs.Refusal.{nothing_waits, no_station, not_opened}
 use Rattle.stations.specs.declared.answer.Waiting.{Waiting}

@@ -1,6 +1,5 @@
 -- The moves of a search through the tree: down to the near child of a cut, over to the far one, and up again.
 use Rattle.std.specs.Prelude.{ℕ, zero, suc, Bool, true, cond, not, List, eqb}
-use Rattle.points.specs.declared.point.Point.{Point}
 use Rattle.points.specs.declared.cut.Cut.{Cut as PointCut}
 use Rattle.points.specs.Square.{square_of}
 use Rattle.points.specs.Cut.{goes_left}

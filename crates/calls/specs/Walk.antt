@@ -1,5 +1,5 @@
 -- The work of one step of an add, a remove or a contains: six rows down, or the decision at the leaf or in the empty tree. What it asks of rows is Rules 7.12.
-use Rattle.std.specs.Prelude.{ℕ, Bool, true, false, cond, ◌||◌, List, eqb, leb}
+use Rattle.std.specs.Prelude.{ℕ, Bool, cond, ◌||◌, List, eqb, leb}
 use Rattle.stations.specs.Answer.{code_added, code_held, code_full, code_spent, code_removed, code_missing, code_contained}
 use Rattle.stations.specs.Call.{add_kind, remove_kind}
 use Rattle.words.specs.Refusal.{unsound}

@@ -1,7 +1,7 @@
 // What a climb of an audit comes to, row by row.
 
 // A climb: the row that it has come to, that row's parent link, and whether every cut so far sent the point to the row below.
-#[derive(Drop)]
+#[derive(Clone, Copy)]
 pub struct Climb {
     pub from: u32,
     pub up: u32,

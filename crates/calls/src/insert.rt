@@ -2,7 +2,7 @@
 use rows::row::Row;
 
 // The rule, by which a new cut is chosen; the first two free rows, the leaf where the walk ended, and the row above it, each with its number.
-#[derive(Drop)]
+#[derive(Clone, Copy)]
 pub struct Site {
     pub rule: u32,
     pub first: u32,

@@ -1,4 +1,6 @@
 // What each call does to the words: definitions alone, in `specs/`, with the structs and enums that they speak of. There is no function here; the crates above have the code.
+#![tactic(auto)]
+
 pub mod aim;
 pub mod audit;
 pub mod climb;

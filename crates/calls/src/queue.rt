@@ -2,7 +2,7 @@
 
 // The queue, walked from its head up to the row `at`: the row before it, the rows passed, the number of the last awaited removal passed, and
 // whether the row before it was that removal's leaf.
-#[derive(Drop)]
+#[derive(Clone, Copy)]
 pub struct Queued {
     pub sound: bool,
     pub at: u32,

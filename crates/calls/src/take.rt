@@ -2,7 +2,7 @@
 use stations::answer::Answer;
 
 // What a taking gives: the number of a refusal, or the answer that waited.
-#[derive(Drop)]
+#[derive(Clone, Copy)]
 pub enum Taking {
     Refused(u32),
     Given(Answer),

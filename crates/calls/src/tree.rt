@@ -1,7 +1,7 @@
 // What an audit counts of the tree.
 
 // The leaves among the rows looked at, and whether all of these are sound.
-#[derive(Drop)]
+#[derive(Clone, Copy)]
 pub struct Count {
     pub leaves: u32,
     pub sound: bool,

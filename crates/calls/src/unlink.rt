@@ -2,7 +2,7 @@
 use rows::row::Row;
 
 // The last row of the queue, the leaf, the cut over it, the cut's other child, and the row above that cut, each with its number.
-#[derive(Drop)]
+#[derive(Clone, Copy)]
 pub struct Around {
     pub tail: u32,
     pub last: Row,

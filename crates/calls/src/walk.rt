@@ -1,7 +1,7 @@
 // The way of one step of a walk.
 
 // Six rows on the way down, and the row after them.
-#[derive(Drop)]
+#[derive(Clone, Copy)]
 pub struct Way {
     pub at: u32,
     pub one: u32,

@@ -11,7 +11,7 @@ use Rattle.points.proofs.Cases.{p1, p2, p3, p4}
 use Rattle.stations.proofs.OpeningLaws.{places_of, limit_of}
 use Rattle.frames.proofs.Cases.{p7, p8}
 use Rattle.table.proofs.Play.{run}
-use Rattle.history.proofs.Called.{Standing, standing_open, called}
+use Rattle.history.proofs.Called.{called_words, Standing, standing_open, called}
 use Rattle.claims.specs.Definitions.{Scale, rule_in, factors_in, plain_scale, words_for, places_in, limit_in, Answer, Table, opened, submit, open_of, first_no}
 use Rattle.claims.specs.Cases.{heavy_weight, dry_ones, dry_sixteens, Asked, answered_table, answers_of, Gives, Answered, ProvedCases}
 use Rattle.claims.proofs.Demand1.{open_number}
@@ -28,9 +28,9 @@ Accepts t (a ∷ more) = ((submit t a.station a.kind a.point a.curve).number ≡
 standing_gives : {words : List ℕ} {t : Table} → Standing words t → (calls : List Asked) → Accepts t calls → Gives words calls (answers_of t calls)
 unfolding answers_of
 standing_gives w [] k = tt
-standing_gives w (a ∷ more) k =
+standing_gives {words = words} {t = t} w (a ∷ more) k =
     let x = called w a.station a.kind a.point a.curve k.0 in
-    (x.gives.submitted, x.gives.gives.ran, x.gives.gives.given, standing_gives x.standing more k.1)
+    (x.gives.submitted, x.gives.gives.ran, x.gives.gives.given, standing_gives {words = called_words words a.station a.kind a.point a.curve} {t = answered_table t a} x.standing more k.1)
 
 -- a slice long enough is opened
 opens : (words : List ℕ) (places limit : ℕ) (scale : Scale) → places_in places ≡ true → limit_in limit ≡ true → rule_in scale.rule ≡ true → factors_in scale ≡ true → words_for places ≤ length words → (open_of words places limit scale).number ≡ 0

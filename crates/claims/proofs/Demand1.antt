@@ -1,6 +1,6 @@
 -- Demand 1: "Whoever calls, with whatever numbers, frame bytes or index contents, gets a defined result and the call ends. Bad input gets the number of
 -- the first check it fails, and a refused call changes no word or byte lent to it."
--- A defined result, and an end, are in Contracts.antt: each public function meets its contract (`open-meets` and so on), which requires nothing and is an equation with a definition
+-- A defined result, and an end, are in Contracts.antt: each public function meets its contract (`open_meets` and so on), which requires nothing and is an equation with a definition
 -- (`open_contract` and so on). The numbers of refusals, and that a refused call changes nothing, are here, of these definitions. `read_report` and `audit` are lent the words for
 -- reading alone, and the functions of `frames`, `readers` and `lines` the bytes.
 -- A question is a test and its number; `first_no` is the number of the first that fails, and 0 where none does (Rules 7.1).

@@ -8,7 +8,7 @@ use mathlib.Core.Path.{◌≡◌, refl, ap, ◌∙◌}
 use mathlib.Core.Logic.{◌↔◌, ◌⊎◌, inl, inr}
 use mathlib.Core.Bool.{true}
 use mathlib.Core.List.{List, ◌++◌, Memᴰ}
-use lib.ListN.{length, drop, take as takeFirst}
+use lib.ListN.{length, drop, take as take_first}
 use mathlib.Core.Option.{Option, none, some}
 use Rattle.claims.specs.Definitions.{Scale, Point, square_of, same_grade, chosen_over, Chosen, Record, curve_at, Call, add, remove, contains, nearest, call_of, answer, is_change}
 use Rattle.claims.specs.Definitions.{counter_at, is_unfinished, state_at, Table, busy, taken, answer_of, changed_if, Event, submit, done, open_of, submit_of, run_of, take_of, take_words}
@@ -19,7 +19,7 @@ use Rattle.table.specs.Record.{nearest_of}
 use Rattle.table.specs.Call.{nearest_answer}
 use Rattle.table.proofs.Nearest.{nearest_some, nearest_none}
 use Rattle.table.proofs.Scale.{opened_scale, ends_scale}
-use Rattle.history.proofs.Demand2.{demand_2 as demand-2-alone}
+use Rattle.history.proofs.Demand2.{demand_2 as demand_2_alone}
 use Rattle.frames.proofs.WrittenLaws
 use Rattle.frames.proofs.ReadLaws
 use Rattle.claims.proofs.Stepping.{steps_accepted, steps_unanswered, steps_answered, run_alone}
@@ -132,7 +132,7 @@ pub demand_2 : (words : List ℕ) (places limit : ℕ) (scale : Scale) → (open
 unfolding moments_of
 demand_2 words places limit scale e evs =
     let start = (open_of words places limit scale).words in
-    let x = demand-2-alone words places limit scale e evs in
+    let x = demand_2_alone words places limit scale e evs in
     let h : Moments start places limit scale evs = moments_of start places limit scale evs x.moments x.follows in
     let same : h.table evs ≡ x.table = last_at word_index (λ s. ⊥) start (opened places limit scale) evs x.moments x.follows x.table x.ends in
     record {
@@ -160,10 +160,10 @@ demand_2 words places limit scale e evs =
 
 -- "Frames written read back as the same call": fields of their widths, the bytes used, whatever bytes stand before and after them.
 pub written_reads : (frame : Frame) → InWidth frame → (before rest : List ℕ)
-    → read_of (before ++ (takeFirst (written_of frame).count (written_of frame).bytes ++ rest)) (length before) ≡ Read frame (length before + (written_of frame).count)
+    → read_of (before ++ (take_first (written_of frame).count (written_of frame).bytes ++ rest)) (length before) ≡ Read frame (length before + (written_of frame).count)
 written_reads = WrittenLaws.written_reads
 
 -- "frames read write back as the same bytes": those from the position to the next, in any bytes; and the frame's fields are in width.
 pub read_writes : (bytes : List ℕ) (at next : ℕ) (frame : Frame) → AllBytes bytes → read_of bytes at ≡ Read frame next
-    → (takeFirst (next - at) (drop at bytes) ≡ takeFirst (written_of frame).count (written_of frame).bytes) × (next ≡ at + (written_of frame).count) × InWidth frame
+    → (take_first (next - at) (drop at bytes) ≡ take_first (written_of frame).count (written_of frame).bytes) × (next ≡ at + (written_of frame).count) × InWidth frame
 read_writes bytes at next frame b e = (ReadLaws.read_writes bytes at b e, ReadLaws.read_count bytes at b e, ReadLaws.read_in_width bytes at b e)

@@ -12,7 +12,7 @@ use lib.Dec.{eqb}
 use Rattle.claims.specs.Definitions.{Scale, Point, is_unfinished, state_at, Same, Once, Call, Answer, Table, unfinished, opened, taken, Event, submission, single_step, taking, withdrawal}
 use Rattle.claims.specs.Definitions.{Reply, take, feed, CanChange, reply, answered, open_of, submit_of, step_of, take_of, number_of, withdraw_of, report_of, held_in}
 use Rattle.claims.specs.Definitions.{record_of, given_by, word_index, after, stepped}
-use Rattle.history.proofs.Demand3.{demand_3 as demand-3-follows}
+use Rattle.history.proofs.Demand3.{demand_3 as demand_3_follows}
 use Rattle.history.proofs.Solo.{solo_steps}
 use Rattle.table.specs.History.{Agree, Follows}
 use Rattle.claims.proofs.Unrolled.{moments_at, table_at, table_first, agree_at, FedAt, fed_at, end_at}
@@ -120,7 +120,7 @@ moments_of start places limit scale evs mss f = record {
 -- the table is undefined where a moment was given to it, and `Fed` says that it is defined.
 pub demand_3 : (words : List ℕ) (places limit : ℕ) (scale : Scale) → (open_of words places limit scale).number ≡ 0 → (evs : List Event) → Moments (open_of words places limit scale).words places limit scale evs
 demand_3 words places limit scale e evs =
-    let m = demand-3-follows words places limit scale e evs in
+    let m = demand_3_follows words places limit scale e evs in
     moments_of (open_of words places limit scale).words places limit scale evs m.0 m.1
 
 -- ---- alone

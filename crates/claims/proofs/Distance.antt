@@ -2,14 +2,14 @@
 -- under either rule (`square_sum`, `square_dry`) and at most (`square_most`, `plain_most`, `never_none`), that cuts bound it from below (`square_bounds`), and that the cut
 -- between two points parts them (`points_parted`).
 use Prim.Native.Nat.{ℕ, ◌+◌, ◌*◌, ◌≤◌, ◌<◌}
-use mathlib.Core.Path.{◌≡◌, refl, ap, ◌∙◌}
+use mathlib.Core.Path.{◌≡◌, refl, ◌∙◌}
 use mathlib.Core.Logic.{◌⊎◌, ◌↔◌}
-use mathlib.Core.Bool.{Bool, true, false, cond, not, ◌&&◌, ◌||◌}
+use mathlib.Core.Bool.{true, false, cond, not, ◌&&◌, ◌||◌}
 use native.Mathlib.Omega.{arith}
 use lib.Dec.{eqb, leb}
 use lib.IntN.{pos, negsuc, nat_abs, ◌-ℤ◌, ◌*ℤ◌}
 use lib.Signed.{le_z, lt_z}
-use Rattle.claims.specs.Definitions.{Scale, plain_rule, dry_rule, rule_in, factors_in, count_of, plain_scale, Point, in_range, in_range_by, square_of, most_square, cut_of, goes_left, Bounds, no_square}
+use Rattle.claims.specs.Definitions.{Scale, rule_in, factors_in, count_of, plain_scale, Point, in_range, in_range_by, square_of, cut_of, goes_left, Bounds, no_square}
 use Rattle.points.proofs.PointLaws
 use Rattle.points.proofs.NumberLaws
 use Rattle.points.proofs.ScaleLaws

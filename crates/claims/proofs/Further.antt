@@ -4,12 +4,11 @@
 use Prim.Native.Nat.{ℕ, ◌+◌, ◌*◌, ◌≤◌, ◌<◌}
 use mathlib.Core.Path.{◌≡◌, refl, sym, ap, ◌∙◌, subst}
 use mathlib.Core.Logic.{◌⊎◌, ◌↔◌}
-use mathlib.Core.Bool.{true, false, ◌&&◌}
+use mathlib.Core.Bool.{true, false}
 use mathlib.Core.List.Memᴰ
 use mathlib.Core.List.{List, [], map, append-nil, Memᴰ}
 use lib.ListN.{length}
 use native.Mathlib.Omega.{arith}
-use lib.Dec.{leb}
 use Rattle.stations.specs.declared.counts.Counts.{Counts}
 use Rattle.claims.specs.Definitions.{Scale, rule_in, factors_in, Point, order_of, compared_of, Looked}
 use Rattle.claims.specs.Definitions.{get, rule_at, row_at, Spare, counts_at, counter_at, is_idle, is_unfinished, state_at, Record, Table, opened, eight, total, taken, Event}

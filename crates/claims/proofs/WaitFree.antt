@@ -3,7 +3,7 @@
 -- For a dispatcher: whatever else is dealt out, a station that was given 9 × places / 5 + 1 steps since its nearest was accepted has been answered, unless the
 -- call was withdrawn. The figure of Somebody.antt is for all calls, and does not say whose is answered; this one is for a nearest, and asks nothing of the other
 -- stations. An add, a remove and a contains have none like it: the changes of others may delay them, and each delay is another call's answer.
-use Prim.Native.Nat.{ℕ, ◌+◌, ◌*◌, ◌≤◌, ◌<◌}
+use Prim.Native.Nat.{ℕ, ◌*◌, ◌≤◌, ◌<◌}
 use mathlib.Core.Path.{◌≡◌, refl, sym, ap, subst}
 use mathlib.Core.Logic.{inl, inr}
 use mathlib.Core.List.{List, [], ◌∷◌, ◌++◌}

@@ -17,7 +17,7 @@ use trial::random::below;
 // What a contest is drawn to be: how many stations search; whether its records are a stair, and from which end; whether they have several grades;
 // how many of eight turns are the searches', and how many of eight changes are removals; and whether the others wait until a search is near its
 // end.
-#[derive(Drop)]
+#[derive(Clone, Copy)]
 pub struct Contest {
     pub searches: u64,
     pub stair: bool,

@@ -7,7 +7,7 @@ use trial::cells::low;
 use words::layout::NONE;
 
 // The record of a leaf, where there is one.
-#[derive(Drop)]
+#[derive(Clone, Copy)]
 pub enum Found {
     Nothing,
     At(PlainPoint),

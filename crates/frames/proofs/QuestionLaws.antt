@@ -7,7 +7,7 @@ use native.Mathlib.Omega.{arith}
 use lib.ListN.{length}
 use lib.Dec.{eqb, leb}
 use borrow.Author.Tests.{leb-true}
-use Rattle.points.proofs.Tests.{and_l, and_r}
+use Rattle.points.proofs.Tests.{and_r}
 use Rattle.frames.specs.declared.read.Reading.{Reading}
 use Rattle.frames.specs.declared.read.Reading.TheVariants.{Read, Refused}
 use Rattle.frames.specs.Shape as shape

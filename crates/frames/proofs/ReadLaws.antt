@@ -2,13 +2,12 @@
 use mathlib.Core.Path.{◌≡◌, refl, sym, ap, subst, ◌∙◌}
 use mathlib.Core.Bool.{true}
 use mathlib.Core.List.{List, [], ◌∷◌, ◌++◌}
-use Prim.Native.Nat.{ℕ, zero, suc, ◌+◌, ◌-◌, ◌*◌, ◌%◌, ◌<◌, ◌≤◌}
+use Prim.Native.Nat.{ℕ, ◌+◌, ◌-◌, ◌*◌, ◌%◌, ◌≤◌}
 use native.Mathlib.Omega.{arith}
-use lib.ListN.{length, get_or, take, drop, length-take, length-drop}
+use lib.ListN.{length, get_or, take, drop}
 use lib.Seq.{take-add, drop-drop, get_or-drop, length-take-le}
-use lib.Signed.{mag}
-use lib.Dec.{eqb, leb}
-use borrow.Author.Tests.{leb-true, eqb-true}
+use lib.Dec.{leb}
+use borrow.Author.Tests.{eqb-true}
 use Rattle.points.proofs.Tests.{and_r}
 use Rattle.numbers.specs.Bytes.{AllBytes, number_at, bytes_of}
 use Rattle.numbers.specs.Signed.{unsigned_of, signed_of}
@@ -16,14 +15,14 @@ use Rattle.numbers.proofs.SignedLaws.{unsigned_signed, signed_near}
 use Rattle.numbers.proofs.NumberLaws.{bytes_number, two_fits, four_fits}
 use Rattle.frames.specs.declared.frame.Frame.{Frame}
 use Rattle.frames.specs.declared.read.Reading.TheVariants.{Read}
-use Rattle.frames.specs.Width.{InWidth, SubmissionInWidth, FactorsInWidth}
+use Rattle.frames.specs.Width.{InWidth, FactorsInWidth}
 use Rattle.frames.specs.Shape as shape
 use Rattle.frames.specs.Read.{length_in, kind_in, has_kind, own_length, submission_in, factors_at, frame_in, read_of}
 use Rattle.frames.specs.Outcome.{Passes}
 use Rattle.frames.specs.Write.{head_bytes, open_start, factors_bytes, scaled_start, submission_start, submission_end, frame_bytes, written_of}
 use Rattle.frames.proofs.ShapeLaws.{by_kind}
 use Rattle.frames.proofs.QuestionLaws.{whole_there}
-use Rattle.frames.proofs.OutcomeLaws.{WasRead, was_read}
+use Rattle.frames.proofs.OutcomeLaws.{was_read}
 use Rattle.frames.proofs.WrittenLaws.{written_used, written_count}
 
 -- fields of these widths, one after the other, read as numbers and written again

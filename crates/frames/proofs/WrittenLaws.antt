@@ -1,10 +1,10 @@
 -- What is written reads back as the same call: `written_reads`. Assumes nothing.
 use mathlib.Core.Path.{◌≡◌, refl, sym, ap, ◌∙◌}
 use mathlib.Core.Bool.{true}
-use mathlib.Core.List.{List, [], ◌∷◌, ◌++◌}
+use mathlib.Core.List.{List, ◌∷◌, ◌++◌}
 use Prim.Native.Nat.{ℕ, ◌+◌, ◌-◌, ◌<◌, ◌≤◌}
 use native.Mathlib.Omega.{arith}
-use lib.ListN.{length, take, drop, replicate, get_or, length-append}
+use lib.ListN.{length, take, replicate, length-append}
 use lib.Seq.{take-append_seam, drop-append_seam}
 use lib.IntN.{ℤ}
 use lib.Signed.{mag}

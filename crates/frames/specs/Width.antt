@@ -1,5 +1,5 @@
 -- Rules 9.6, "fields of exactly these widths": the bounds that the types of the fields give them. `mag z` is n both for n and for −1 − n.
-use Rattle.std.specs.Prelude.{ℕ, ◌<◌, List, [], ◌∷◌}
+use Rattle.std.specs.Prelude.{◌<◌, List, [], ◌∷◌}
 use Rattle.std.specs.Int.Signed.{mag}
 use Rattle.frames.specs.declared.frame.Submission.{Submission}
 use Rattle.frames.specs.declared.frame.Factors.{Factors}

@@ -1,4 +1,6 @@
 // Frames: calls as bytes, read and written.
+#![tactic(auto)]
+
 pub mod frame;
 pub mod read;
 mod shape;

@@ -9,7 +9,7 @@ use numbers::get::{four_at, one_at, signed_at, two_at};
 use words::word::pick;
 
 // What reading at a position finds: a frame and the position after it, no byte, or the number of the first question that fails.
-#[derive(Drop)]
+#[derive(Clone, Copy)]
 pub enum Reading {
     Read(Frame, usize),
     End,

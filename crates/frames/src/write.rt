@@ -9,14 +9,14 @@ use crate::shape::{is_kind, length_of, size_of};
 use numbers::put::{put_four, put_one, put_signed, put_two};
 
 // The bytes of a frame, and how many of them are used.
-#[derive(Drop)]
+#[derive(Clone, Copy)]
 pub struct Written {
     pub bytes: [u8; shape::LONGEST],
     pub count: usize,
 }
 
 // Every field that a frame can have; `call` is the kind of a submitted call.
-#[derive(Drop)]
+#[derive(Clone, Copy)]
 pub struct Fields {
     pub places: u16,
     pub limit: u32,
@@ -33,7 +33,7 @@ pub struct Fields {
 }
 
 // What a writing comes to: 0 or the number of the question that fails, and what is written.
-#[derive(Drop)]
+#[derive(Clone, Copy)]
 pub struct Writing {
     pub number: u32,
     pub written: Written,

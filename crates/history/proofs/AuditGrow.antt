@@ -3,7 +3,7 @@
 use Prim.Native.Nat.{ℕ, zero, suc, ◌+◌, ◌≤◌, ◌<◌}
 use mathlib.Core.Path.{◌≡◌, refl, sym, ◌∙◌, ap, subst}
 use mathlib.Core.Logic.{◌≢◌, ◌⊎◌, inl, inr}
-use mathlib.Core.Bool.{true, false, ◌&&◌, not, false≢true, and-eq-true_iff}
+use mathlib.Core.Bool.{true, ◌&&◌, not, false≢true, and-eq-true_iff}
 use mathlib.Core.List.{List, [], ◌∷◌}
 use native.Mathlib.Omega.{arith}
 use lib.Dec.{eqb}
@@ -15,7 +15,7 @@ use Rattle.points.specs.Word.{NONE}
 use Rattle.rows.specs.declared.row.Row.{Row as WordRow}
 use Rattle.rows.specs.declared.row.Row.TheVariants.{Bad, Spare, Removed, Leaf, Cut}
 use Rattle.rows.specs.Row.{row_at}
-use Rattle.trees.specs.Row.{Row, leaf_row, cut_row, parent_of}
+use Rattle.trees.specs.Row.{leaf_row, cut_row, parent_of}
 use Rattle.trees.specs.Tree.{Tree, leaf, cut, top, TreeHas, TreeShape}
 use Rattle.calls.specs.Tree.{links_up, row_sound}
 use Rattle.history.specs.View.{word_row}

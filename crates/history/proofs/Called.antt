@@ -7,7 +7,6 @@ use mathlib.Core.List.{List}
 use mathlib.Core.Option.{Option, some}
 use native.Mathlib.Omega.{arith}
 use Rattle.words.specs.Layout.{stations}
-use Rattle.stations.specs.Track.{standing}
 use Rattle.points.specs.declared.point.Point.{Point}
 use Rattle.points.specs.declared.scale.Scale.{Scale}
 use Rattle.table.specs.Call.{Call, call_of, nearest, Answer, is_change, is_search}

@@ -18,7 +18,7 @@ use Rattle.words.specs.Layout.{words_for, stations}
 use Rattle.stations.specs.Common.{places_in, limit_in}
 use Rattle.stations.specs.Station.{is_unfinished, state_at}
 use Rattle.table.specs.Call.{Call, Answer}
-use Rattle.table.specs.Table.{Station, idle, unfinished, waiting, Table, opened, answer_of}
+use Rattle.table.specs.Table.{Station, idle, unfinished, waiting, Table, answer_of}
 use Rattle.table.specs.Event.{single_step, accept, refuse, take, take_at}
 use Rattle.table.specs.History.{answered, Linear}
 use Rattle.table.proofs.Stations.{put_same}

@@ -13,7 +13,7 @@ use Rattle.points.specs.Scale.{plain_scale}
 use Rattle.points.specs.Number.{in_range_by}
 use Rattle.points.proofs.ScaleLaws.{factor_ranges, factor_most}
 use Rattle.points.specs.declared.point.Point.{Point}
-use Rattle.table.specs.Call.{Call, add, remove, nearest, call_of, Answer, answer, is_change}
+use Rattle.table.specs.Call.{Call, remove, nearest, call_of, Answer, answer, is_change}
 use Rattle.table.specs.Table.{Station, idle, unfinished, Table, opened, used_up, answer_of, changed, changed_if}
 use Rattle.table.specs.Event.{enter, submit}
 use Rattle.table.proofs.Stations.{put_other}

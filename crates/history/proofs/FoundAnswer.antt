@@ -16,7 +16,6 @@ use Rattle.points.specs.Choice.{same_grade, chosen_over}
 use Rattle.points.proofs.SquareLaws.{square_le}
 use Rattle.stations.specs.declared.call.Best.{Best as WordBest}
 use Rattle.calls.specs.declared.aim.Aim.{Aim}
-use Rattle.words.specs.Range.{curve_in}
 use Rattle.stations.specs.Answer.{answer_sound}
 use Rattle.table.specs.Record.{Record, Once, nearest_of}
 use Rattle.table.specs.Call.{nearest_answer}

@@ -1,11 +1,10 @@
 -- The marks that an insert leaves beside a leaf: every cut of the tree keeps its own (`marks_inserted`), and the new one has those of the two records on their sides
 -- (`mark_new`, `mark_old`).
-use Prim.Native.Nat.{ℕ, ◌+◌, ◌*◌, ◌≤◌, ◌<◌}
+use Prim.Native.Nat.{ℕ, ◌*◌, ◌≤◌, ◌<◌}
 use mathlib.Core.Path.{◌≡◌, sym, ap, ◌∙◌}
 use mathlib.Core.Bool.{Bool, true, not}
 use mathlib.Core.List.{List}
 use native.Mathlib.Omega.{arith}
-use lib.ListN.{length}
 use Rattle.points.specs.declared.scale.Scale.{Scale}
 use Rattle.points.specs.declared.point.Point.{Point}
 use Rattle.points.specs.Cut.{cut_of, goes_left}

@@ -36,7 +36,7 @@ use Rattle.trees.proofs.Room.{room_two, room_one}
 use Rattle.trees.proofs.ReadLaws.{read_above, link_head}
 use Rattle.trees.proofs.WriteLaws.{insert_apart, insert_writes, insert_write}
 use Rattle.calls.specs.declared.insert.Site.{Site}
-use Rattle.calls.specs.Link.{next_of as nextIn, links_to, leaf_point, replaced}
+use Rattle.calls.specs.Link.{next_of as next_in, links_to, leaf_point, replaced}
 use Rattle.calls.specs.Insert.{site_at, site_sound, new_leaf, cut_with, new_side, new_cut as cut_in, put_cut, insert_rows}
 use Rattle.history.specs.View.{word_row, Reads, heap_put}
 use Rattle.history.proofs.Effects.{reads_in, put_none}
@@ -45,7 +45,7 @@ use Rattle.history.proofs.RowWrites.{heap_wrote, Holding, put_row_lem, put_grade
 
 -- ---- rows of the words and of the heap
 
-pub next_word : (row : Row) → nextIn (word_row row) ≡ next_of row
+pub next_word : (row : Row) → next_in (word_row row) ≡ next_of row
 next_word (spare_row next n) = refl
 next_word (removed_row next n e) = refl
 next_word (leaf_row parent e) = refl

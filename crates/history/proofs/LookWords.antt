@@ -21,8 +21,8 @@ use Rattle.trees.specs.Tour.{Best, considered, pass_spare, missed_next, with_mis
 use Rattle.trees.proofs.ChoiceOf.{choice_of}
 use Rattle.calls.specs.declared.progress.Progress.{Progress as WordProgress}
 use Rattle.calls.specs.Link.{is_free, next_of}
-use Rattle.calls.specs.Look.{pass_spare as passWordSpare, look_at, look as lookWord}
-use Rattle.calls.specs.Progress.{considered as consideredWord}
+use Rattle.calls.specs.Look.{pass_spare as pass_word_spare, look_at, look as look_word}
+use Rattle.calls.specs.Progress.{considered as considered_word}
 use Rattle.history.specs.View.{word_row, Reads, best_of}
 use Rattle.history.proofs.Effects.{reads_in}
 use Rattle.rows.proofs.RowLaws.{in_rows_spare, in_rows_removed, in_rows_leaf, row_at_outside}
@@ -48,7 +48,7 @@ pub leaf_in : (rule rows parent : ℕ) (e : Entry) → in_rows rule rows (word_r
 leaf_in rule rows parent e f = record_in rule rows parent e (sym (in_rows_leaf rule rows parent e.added e.point e.curve) ∙ f)
 
 -- past a free row
-pass_row : (x : Row) (next m : ℕ) → pass_spare x next ≡ some m → (is_free (word_row x) ≡ true) × (passWordSpare next (word_row x) ≡ m)
+pass_row : (x : Row) (next m : ℕ) → pass_spare x next ≡ some m → (is_free (word_row x) ≡ true) × (pass_word_spare next (word_row x) ≡ m)
 pass_row (spare_row after n) next m e = (refl, some-injective after m e)
 pass_row (removed_row after n d) next m e = (refl, some-injective next m e)
 pass_row (leaf_row parent d) next m e = absurd (none-ne-some m e)
@@ -57,7 +57,7 @@ pass_row (cut_row parent k l r) next m e = absurd (none-ne-some m e)
 module _ (words : List ℕ) (rows : ℕ) (h : Heap) (reads : Reads words rows h) (fits : rows ≤ NONE) (aim : Aim) where
   -- the row after the missed one, if any, is free, and missed goes past it where it is spare
   pass_words : (next m : ℕ) → link_in rows next ≡ true → missed_next h next ≡ some m
-      → ((eqb next NONE || is_free (row_at words rows next)) ≡ true) × (passWordSpare next (row_at words rows next) ≡ m)
+      → ((eqb next NONE || is_free (row_at words rows next)) ≡ true) × (pass_word_spare next (row_at words rows next) ≡ m)
   pass_words next m i g = elim (link_tells rows next i) [
     | inl e ↦ (rw (eq-eqb next NONE e), rw (ap (row_at words rows) e ∙ row_at_outside words rows NONE fits) (some-injective next m (rw (eq-eqb next NONE e) at g)))
     | inr l ↦
@@ -70,7 +70,7 @@ module _ (words : List ℕ) (rows : ℕ) (h : Heap) (reads : Reads words rows h)
   looked p next best = record {
     cursor = p.cursor;
     phase = p.phase;
-    missed = passWordSpare next (row_at words rows next);
+    missed = pass_word_spare next (row_at words rows next);
     best = best;
     sound = (p.sound && true) && (eqb next NONE || is_free (row_at words rows next));
   }
@@ -92,15 +92,15 @@ module _ (words : List ℕ) (rows : ℕ) (h : Heap) (reads : Reads words rows h)
   look_row_lem (spare_row next n) p f i = look_next p next p.best (best_of p.best) f (sym (in_rows_spare (rule_at words) rows next n) ∙ i) f.best refl
   look_row_lem (removed_row next n e) p f i =
       let w = removed_in (rule_at words) rows next n e i in
-      look_next p next (consideredWord aim p.best e.added e.point e.curve) (considered (choice_of aim.scale aim.point) aim.asof (best_of p.best) e) f
+      look_next p next (considered_word aim p.best e.added e.point e.curve) (considered (choice_of aim.scale aim.point) aim.asof (best_of p.best) e) f
       w.link (considered_ranged (rule_at words) aim p.best e f.best w.point) (considered_words aim p.best e w.curve)
   look_row_lem (leaf_row parent e) p f i = keeps_none (rule_at words) (look_at aim p (word_row (leaf_row parent e)) (row_at words rows NONE))
   look_row_lem (cut_row parent k l r) p f i = keeps_none (rule_at words) (look_at aim p (word_row (cut_row parent k l r)) (row_at words rows NONE))
 
   -- the missed row is none or a row
   pub look_words : (p : WordProgress) → Fit (rule_at words) p → (p.missed ≡ NONE) ⊎ (p.missed < rows)
-      → Keeps (rule_at words) (lookWord words rows aim p) (look (choice_of aim.scale aim.point) aim.asof h (view_of p))
-  unfolding lookWord look
+      → Keeps (rule_at words) (look_word words rows aim p) (look (choice_of aim.scale aim.point) aim.asof h (view_of p))
+  unfolding look_word look
   look_words p f m =
       keeps_pick (rule_at words) (eqb p.missed NONE) p (look_at aim p (row_at words rows p.missed) (row_at words rows (next_of (row_at words rows p.missed)))) (some (view_of p))
       (look_row (choice_of aim.scale aim.point) aim.asof h (h p.missed) (view_of p).stand (best_of p.best))

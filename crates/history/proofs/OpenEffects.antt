@@ -10,14 +10,13 @@ use Rattle.points.specs.declared.scale.Scale.{Scale}
 use Rattle.points.specs.Rule.{rule_in}
 use Rattle.points.specs.Scale.{factors_in}
 use Rattle.points.specs.Word.{NONE}
-use Rattle.words.specs.Layout.{stations, records, most_places, words_for, Fits}
+use Rattle.words.specs.Layout.{stations, records, words_for, Fits}
 use Rattle.words.specs.Agree.{in_common, in_station, OnlyIn, Beyond}
 use Rattle.words.proofs.AgreeLaws.{station_common, elsewhere, agree_trans}
 use Rattle.words.proofs.BeyondLaws.{rows_end, fits_of, beyond_trans, beyond_common}
 use Rattle.stations.specs.Common.{Opened, opened_in, places_in, limit_in, records_cleared, put_opening}
 use Rattle.stations.specs.Counts.{counts_at, put_counts}
 use Rattle.stations.specs.Counter.{counter_at}
-use Rattle.stations.specs.Station.{state_at}
 use Rattle.stations.specs.Track.{nowhere, track_at}
 use Rattle.stations.proofs.OpeningLaws.{opened_in_agree, places_tells, length_put_opening}
 use Rattle.stations.proofs.OpenLaws.{length_cleared, state_cleared, counter_cleared, cleared_beyond, opening_beyond, state_put_opening, opened_begun}

@@ -1,5 +1,5 @@
 -- The writes that are a station's own: to its record, and of its track and its target. They leave the counts, the rows and the seats of the other stations.
-use Prim.Native.Nat.{ℕ, ◌<◌}
+use Prim.Native.Nat.{ℕ}
 use mathlib.Core.Path.{◌≡◌, refl, ◌∙◌}
 use mathlib.Core.Bool.{Bool, true, false, cond}
 use mathlib.Core.List.{List}

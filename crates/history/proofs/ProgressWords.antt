@@ -17,8 +17,8 @@ use Rattle.trees.specs.Choice.{best_square}
 use Rattle.trees.specs.Tour.{Best, point_of, Progress, better, pick_best, considered, pick_progress, go_to}
 use Rattle.trees.proofs.ChoiceOf.{choice_of}
 use Rattle.calls.specs.declared.progress.Progress.{Progress as WordProgress}
-use Rattle.calls.specs.Tour.{best_square as bestWordSquare}
-use Rattle.calls.specs.Progress.{pick_best as pickWordBest, pick_progress as pickWordProgress, better as betterWord, considered as consideredWord, onward}
+use Rattle.calls.specs.Tour.{best_square as best_word_square}
+use Rattle.calls.specs.Progress.{pick_best as pick_word_best, pick_progress as pick_word_progress, better as better_word, considered as considered_word, onward}
 use Rattle.history.specs.View.{phase_of, best_of}
 
 -- the progress over rows that one over words is
@@ -48,7 +48,7 @@ keeps_none rule p to g = absurd (none-ne-some to g)
 
 -- one of two, by one test
 pub keeps_pick : (rule : ℕ) (b : Bool) (x y : WordProgress) (u v : Option Progress) → (b ≡ true → Keeps rule x u) → (b ≡ false → Keeps rule y v)
-    → Keeps rule (pickWordProgress b x y) (pick_progress b u v)
+    → Keeps rule (pick_word_progress b x y) (pick_progress b u v)
 keeps_pick rule true x y u v f g = f refl
 keeps_pick rule false x y u v f g = g refl
 
@@ -62,34 +62,34 @@ keeps_onward rule p x n best b f l r e =
 
 -- ---- the best
 
-best_pick : (b : Bool) (x y : WordBest) → best_of (pickWordBest b x y) ≡ pick_best b (best_of x) (best_of y)
+best_pick : (b : Bool) (x y : WordBest) → best_of (pick_word_best b x y) ≡ pick_best b (best_of x) (best_of y)
 best_pick true x y = refl
 best_pick false x y = refl
 
 best_some : (p : Point) (c : ℕ) → c ≢ 0 → best_of (record { curve = c; point = p }) ≡ some (record { point = p; curve = c })
 best_some p c n = rw (ne_eqb c 0 n, best_of)
 
-better_words : (aim : Aim) (best : WordBest) (p : Point) → betterWord aim best p ≡ better (choice_of aim.scale aim.point) (point_of (best_of best)) p
+better_words : (aim : Aim) (best : WordBest) (p : Point) → better_word aim best p ≡ better (choice_of aim.scale aim.point) (point_of (best_of best)) p
 better_words aim best p = go (eqb best.curve 0) refl
   where
-    go : (b : Bool) → eqb best.curve 0 ≡ b → betterWord aim best p ≡ better (choice_of aim.scale aim.point) (point_of (best_of best)) p
+    go : (b : Bool) → eqb best.curve 0 ≡ b → better_word aim best p ≡ better (choice_of aim.scale aim.point) (point_of (best_of best)) p
     go true e = rw (e, best_of)
     go false e = rw (e, best_of)
 
 -- the square that a far side must not exceed
-pub square_words : (aim : Aim) (best : WordBest) → bestWordSquare aim best ≡ best_square aim.scale aim.point (point_of (best_of best))
+pub square_words : (aim : Aim) (best : WordBest) → best_word_square aim best ≡ best_square aim.scale aim.point (point_of (best_of best))
 square_words aim best = go (eqb best.curve 0) refl
   where
-    go : (b : Bool) → eqb best.curve 0 ≡ b → bestWordSquare aim best ≡ best_square aim.scale aim.point (point_of (best_of best))
+    go : (b : Bool) → eqb best.curve 0 ≡ b → best_word_square aim best ≡ best_square aim.scale aim.point (point_of (best_of best))
     go true e = rw (e, best_of)
     go false e = rw (e, best_of)
 
 -- a record with a curve is considered alike
 pub considered_words : (aim : Aim) (best : WordBest) (e : Entry) → e.curve ≢ 0
-    → best_of (consideredWord aim best e.added e.point e.curve) ≡ considered (choice_of aim.scale aim.point) aim.asof (best_of best) e
-unfolding consideredWord considered
+    → best_of (considered_word aim best e.added e.point e.curve) ≡ considered (choice_of aim.scale aim.point) aim.asof (best_of best) e
+unfolding considered_word considered
 considered_words aim best e n =
-    best_pick ((leb e.added aim.asof && same_grade aim.point e.point) && betterWord aim best e.point)
+    best_pick ((leb e.added aim.asof && same_grade aim.point e.point) && better_word aim best e.point)
     (record { curve = e.curve; point = e.point }) best
     ∙ rw (
       best_some e.point e.curve n,
@@ -99,10 +99,10 @@ considered_words aim best e n =
 
 -- and leaves a best in range
 pub considered_ranged : (rule : ℕ) (aim : Aim) (best : WordBest) (e : Entry) → in_range_by rule best.point ≡ true → in_range_by rule e.point ≡ true
-    → in_range_by rule (consideredWord aim best e.added e.point e.curve).point ≡ true
-unfolding consideredWord
-considered_ranged rule aim best e f g = go ((leb e.added aim.asof && same_grade aim.point e.point) && betterWord aim best e.point)
+    → in_range_by rule (considered_word aim best e.added e.point e.curve).point ≡ true
+unfolding considered_word
+considered_ranged rule aim best e f g = go ((leb e.added aim.asof && same_grade aim.point e.point) && better_word aim best e.point)
   where
-    go : (b : Bool) → in_range_by rule (pickWordBest b (record { curve = e.curve; point = e.point }) best).point ≡ true
+    go : (b : Bool) → in_range_by rule (pick_word_best b (record { curve = e.curve; point = e.point }) best).point ≡ true
     go true = g
     go false = f

@@ -1,5 +1,5 @@
 -- What follows of a slice from its relation to a table: question 4, the words of the common record, and the places taken.
-use Prim.Native.Nat.{ℕ, suc, ◌+◌, ◌-◌, ◌*◌, ◌≤◌, ◌<◌}
+use Prim.Native.Nat.{ℕ, ◌+◌, ◌-◌, ◌*◌, ◌≤◌, ◌<◌}
 use mathlib.Core.Path.{◌≡◌, sym, ap, ◌∙◌, subst}
 use mathlib.Core.Logic.{inl, inr}
 use mathlib.Core.Bool.{true, false≢true}
@@ -8,7 +8,6 @@ use mathlib.Core.Option.{Option}
 use native.Mathlib.Omega.{arith}
 use lib.ListN.{length}
 use native.Mathlib.Numerals.{add-one}
-use borrow.Author.Tests.{le-leb, lt-ltb}
 use Rattle.words.specs.Layout.{most_limit, stations}
 use Rattle.words.specs.Words.{more}
 use Rattle.stations.specs.Counts.{counts_at}

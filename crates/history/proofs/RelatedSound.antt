@@ -2,22 +2,20 @@
 use Prim.Native.Nat.{ℕ, ◌*◌, ◌≤◌, ◌<◌}
 use mathlib.Core.Path.{◌≡◌, refl}
 use mathlib.Core.Logic.{inl}
-use mathlib.Core.Bool.{Bool, true, false, or-true}
+use mathlib.Core.Bool.{Bool, true, false}
 use mathlib.Core.List.{List, Memᴰ}
 use mathlib.Core.Option.{Option, none, some}
 use native.Mathlib.Omega.{arith}
 use lib.Dec.{eqb}
 use lib.ListN.{length}
-use borrow.Author.Tests.{eqb-true, eq-eqb, le-leb}
+use borrow.Author.Tests.{eqb-true}
 use Rattle.words.specs.Layout.{stations}
 use Rattle.stations.specs.declared.track.Track.{Track}
 use Rattle.stations.specs.Track.{track_at}
 use Rattle.points.specs.declared.point.Point.{Point}
 use Rattle.points.specs.declared.scale.Scale.{Scale}
 use Rattle.points.specs.Number.{in_range_by}
-use Rattle.points.specs.Word.{NONE}
 use Rattle.stations.specs.declared.call.Best.{Best as WordBest}
-use Rattle.words.specs.Range.{curve_in}
 use Rattle.stations.specs.Common.{since_in, common_sound}
 use Rattle.stations.specs.Call.{best_sound, curve_for, call_sound}
 use Rattle.stations.proofs.CommonLaws.{since_none, since_some, common_of}

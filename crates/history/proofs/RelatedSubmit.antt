@@ -11,7 +11,7 @@ use Rattle.points.specs.declared.point.Point.{Point}
 use Rattle.points.specs.Number.{in_range_by}
 use Rattle.words.specs.Rule.{rule_at}
 use Rattle.words.specs.Range.{curve_in}
-use Rattle.stations.specs.Station.{is_idle as idleState, state_at}
+use Rattle.stations.specs.Station.{is_idle as idle_state, state_at}
 use Rattle.words.proofs.RangeLaws.{curve_in_lem, curve_tells}
 use Rattle.table.specs.Record.{curve_in_range}
 use Rattle.table.specs.Call.{kind_in_range}
@@ -20,8 +20,8 @@ use Rattle.table.specs.Event.{Reply, ask, is_idle, curve_fits, submit}
 use Rattle.table.proofs.Tests.{and_left, and_right}
 use Rattle.table.proofs.Sound.{Sound}
 use Rattle.table.proofs.Simulation.{Matches}
-use Rattle.calls.specs.Reply.{Reply as WordReply, ask as askWords}
-use Rattle.calls.specs.Submit.{curve_fits as curveFitsWords, submit_of}
+use Rattle.calls.specs.Reply.{Reply as WordReply, ask as ask_words}
+use Rattle.calls.specs.Submit.{curve_fits as curve_fits_words, submit_of}
 use Rattle.stations.specs.Call.{kind_in}
 use Rattle.history.specs.Index.{reply_of, word_index}
 use Rattle.history.specs.View.{seat_at}
@@ -43,12 +43,12 @@ curve_same c = go (curve_in c) refl (leb 1 c && leb c 999999) refl
     go false e true f = sym e ∙ curve_in_lem c (leb-true 1 c (and_left (leb 1 c) (leb c 999999) f)) (leb-true c 999999 (and_right (leb 1 c) (leb c 999999) f))
 
 -- and so is question 9
-fits_same : (kind c : ℕ) → curveFitsWords kind c ≡ curve_fits kind c
+fits_same : (kind c : ℕ) → curve_fits_words kind c ≡ curve_fits kind c
 unfolding curve_fits
 fits_same kind c = rw (curve_same c)
 
 -- the station is idle exactly if the table's is
-idle_same : {words : List ℕ} {t : Table} (s : ℕ) → Related words t → s < stations → idleState (state_at words s) ≡ is_idle (t.stations s)
+idle_same : {words : List ℕ} {t : Table} (s : ℕ) → Related words t → s < stations → idle_state (state_at words s) ≡ is_idle (t.stations s)
 unfolding is_idle seat_at
 idle_same {words} {t} s r l = go (t.stations s) refl
   where
@@ -59,7 +59,7 @@ idle_same {words} {t} s r l = go (t.stations s) refl
 
 -- a question that passes or fails alike
 asked : {words : List ℕ} {t : Table} (a b : Bool) (n : ℕ) (reply : WordReply) (q : Reply Table) → Related words t → a ≡ b → (b ≡ true → Matches word_index Related (reply_of reply) q)
-    → Matches word_index Related (reply_of (askWords a n words reply)) (ask b n t q)
+    → Matches word_index Related (reply_of (ask_words a n words reply)) (ask b n t q)
 asked true true n reply q r e f = f refl
 asked false false n reply q r e f = record { number = refl; given = refl; next = r }
 asked true false n reply q r e f = let z : ◌≡◌ {A = ℕ} 0 1 = cc in absurd (omega arith)
@@ -72,8 +72,8 @@ unfolding submit_of submit kind_in_range
 related_submits {words} {t} s kind p c h r =
     rw (related_passes r)
     (asked (ltb s stations) (ltb s stations) 5 _ _ r refl (λ l.
-    asked (idleState (state_at words s)) (is_idle (t.stations s)) 6 _ _ r (idle_same s r (ltb-true s stations l)) (λ i.
+    asked (idle_state (state_at words s)) (is_idle (t.stations s)) 6 _ _ r (idle_same s r (ltb-true s stations l)) (λ i.
     asked (kind_in kind) (kind_in_range kind) 7 _ _ r refl (λ k.
     asked (in_range_by (rule_at words) p) (in_range_by t.scale.rule p) 8 _ _ r (ap (λ k. in_range_by k p) (related_rule r)) (λ ranged.
-    asked (curveFitsWords kind c) (curve_fits kind c) 9 _ _ r (fits_same kind c) (λ fits.
+    asked (curve_fits_words kind c) (curve_fits kind c) 9 _ _ r (fits_same kind c) (λ fits.
     record { number = refl; given = refl; next = related_submitted s kind p c h r (ltb-true s stations l) k ranged (fits_same kind c ∙ fits) }))))))

@@ -8,7 +8,6 @@ use native.Mathlib.Omega.{arith}
 use lib.Dec.{ltb}
 use borrow.Author.Tests.{ltb-true, lt-ltb, eq-eqb, ne_eqb}
 use Rattle.words.specs.Layout.{stations}
-use Rattle.stations.specs.Track.{track_at}
 use Rattle.stations.specs.declared.answer.Waiting.TheVariants.{Nothing}
 use Rattle.stations.specs.Station.{emptied, state_at, put_state}
 use Rattle.stations.specs.Answer.{answer_at, waiting_at}

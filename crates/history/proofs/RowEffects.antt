@@ -18,7 +18,7 @@ use Rattle.rows.specs.Row.{row_at, put_row, is_row, in_rows}
 use Rattle.stations.specs.Common.{opened_in, Opened}
 use Rattle.words.proofs.AgreeLaws.{common_row, station_row, elsewhere}
 use Rattle.rows.proofs.RowLaws.{row_sound, put_row_none, put_row_only, row_at_put_row_same, row_at_put_row_other}
-use Rattle.stations.proofs.OpeningLaws.{opened_tells, opened_fits, opened_rule}
+use Rattle.stations.proofs.OpeningLaws.{opened_fits, opened_rule}
 use Rattle.calls.proofs.UnseenLaws.{reads_unseen}
 use Rattle.trees.specs.Row.{Row, spare_row, removed_row, leaf_row, cut_row, Heap}
 use Rattle.stations.proofs.CountLaws.{counts_agree}

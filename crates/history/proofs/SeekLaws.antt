@@ -29,9 +29,9 @@ use Rattle.trees.proofs.MarkLaws.{closed_covered}
 use Rattle.trees.proofs.MissingLaws.{missing_in}
 use Rattle.trees.proofs.SearchMoves.{search_look, search_tour}
 use Rattle.calls.specs.declared.progress.Progress.{Progress as WordProgress}
-use Rattle.calls.specs.Search.{tours_of, seek as seekWord, is_finished}
-use Rattle.calls.specs.Tour.{tour as tourWord, toured as touredWord}
-use Rattle.calls.specs.Look.{look as lookWord}
+use Rattle.calls.specs.Search.{tours_of, seek as seek_word, is_finished}
+use Rattle.calls.specs.Tour.{tour as tour_word, toured as toured_word}
+use Rattle.calls.specs.Look.{look as look_word}
 use Rattle.words.specs.Rule.{rule_at}
 use Rattle.history.specs.View.{Reads, marks_in, opens_in}
 use Rattle.history.proofs.ProgressWords.{view_of, Fit, Shows, Keeps}
@@ -55,8 +55,8 @@ shown {rule} {aim} {since} {Then} {t} {q} {changes} {removals} {most} p out to k
     record { fit = w.fit; search = z.0; left = z.1 }
 
 -- where the cursor is none a tour changes nothing
-tours_stay : (words : List ℕ) (rows slot : ℕ) (aim : Aim) (n : ℕ) (p : WordProgress) → p.cursor ≡ NONE → touredWord words rows slot aim n p ≡ p
-unfolding touredWord tourWord
+tours_stay : (words : List ℕ) (rows slot : ℕ) (aim : Aim) (n : ℕ) (p : WordProgress) → p.cursor ≡ NONE → toured_word words rows slot aim n p ≡ p
+unfolding toured_word tour_word
 tours_stay words rows slot aim zero p e = refl
 tours_stay words rows slot aim (suc n) p e = rw (tours_stay words rows slot aim n p e, eq-eqb p.cursor NONE e)
 
@@ -81,16 +81,16 @@ module _ {places : ℕ} {h : Heap} {t : Option Tree} {q : List Free} {changes re
 
     -- a look leaves no more, and less where a row was missed
     look_shows : (p : WordProgress) (most : ℕ) → Fit (rule_at words) p → (v : Search (choice_of aim.scale aim.point) aim.asof since Then t q changes removals (view_of p))
-        → search_left (search_look st (view_of p) v).search ≤ most → Here (lookWord words (2 * places) aim p) most
+        → search_left (search_look st (view_of p) v).search ≤ most → Here (look_word words (2 * places) aim p) most
     look_shows p most f v l =
         let a = search_look st (view_of p) v in
-        shown (lookWord words (2 * places) aim p) (look (choice_of aim.scale aim.point) aim.asof h (view_of p)) a.to
+        shown (look_word words (2 * places) aim p) (look (choice_of aim.scale aim.point) aim.asof h (view_of p)) a.to
         (look_words words (2 * places) h reads st.fits aim p f (missing_row v.rest v.missing)) a.is a.search l
 
-    look_seeks : (p : WordProgress) (most : ℕ) → Here p most → Here (lookWord words (2 * places) aim p) most
+    look_seeks : (p : WordProgress) (most : ℕ) → Here p most → Here (look_word words (2 * places) aim p) most
     look_seeks p most g = look_shows p most g.fit g.search (omega (arith, (search_look st (view_of p) g.search).fewer, g.left))
 
-    look_less : (p : WordProgress) (most : ℕ) → p.missed ≢ NONE → Here p most → Fewer step_moves most (lookWord words (2 * places) aim p)
+    look_less : (p : WordProgress) (most : ℕ) → p.missed ≢ NONE → Here p most → Fewer step_moves most (look_word words (2 * places) aim p)
     look_less p most n g =
         let a = search_look st (view_of p) g.search in
         (search_left a.search, omega (arith, a.less n, g.left), look_shows p (search_left a.search) g.fit g.search (omega arith))
@@ -103,53 +103,53 @@ module _ {places : ℕ} {h : Heap} {t : Option Tree} {q : List Free} {changes re
     closed = closed_covered (marks_in words) (choice_of aim.scale aim.point) aim.point t (λ x side p e. ap (admits words x side) (slot_grade p aim.point (grade_turn aim.point p e))) covered
 
     abbrev toured : ℕ → WordProgress → WordProgress
-    toured n p = touredWord words (2 * places) slot aim n p
+    toured n p = toured_word words (2 * places) slot aim n p
 
     -- a tour likewise, less where the cursor is a row
     tour_shows : (p : WordProgress) (most : ℕ) → Fit (rule_at words) p → (v : Search (choice_of aim.scale aim.point) aim.asof since Then t q changes removals (view_of p))
-        → search_left (search_tour t st (opens_in words slot) closed (view_of p) v).goes.search ≤ most → Here (tourWord words (2 * places) slot aim p) most
+        → search_left (search_tour t st (opens_in words slot) closed (view_of p) v).goes.search ≤ most → Here (tour_word words (2 * places) slot aim p) most
     tour_shows p most f v l =
         let a = (search_tour t st (opens_in words slot) closed (view_of p) v).goes in
-        shown (tourWord words (2 * places) slot aim p) (tour (choice_of aim.scale aim.point) (opens_in words slot) aim.asof h (view_of p)) a.to
+        shown (tour_word words (2 * places) slot aim p) (tour (choice_of aim.scale aim.point) (opens_in words slot) aim.asof h (view_of p)) a.to
         (tour_words words (2 * places) h reads aim slot p f (standing_row p.cursor v.stands)) a.is a.search l
 
-    tour_seeks : (p : WordProgress) (most : ℕ) → Here p most → Here (tourWord words (2 * places) slot aim p) most
+    tour_seeks : (p : WordProgress) (most : ℕ) → Here p most → Here (tour_word words (2 * places) slot aim p) most
     tour_seeks p most g = tour_shows p most g.fit g.search (omega (arith, (search_tour t st (opens_in words slot) closed (view_of p) g.search).goes.fewer, g.left))
 
-    tour_less : (p : WordProgress) (most : ℕ) → p.cursor ≢ NONE → Here p most → Fewer 1 most (tourWord words (2 * places) slot aim p)
+    tour_less : (p : WordProgress) (most : ℕ) → p.cursor ≢ NONE → Here p most → Fewer 1 most (tour_word words (2 * places) slot aim p)
     tour_less p most n g =
         let a = (search_tour t st (opens_in words slot) closed (view_of p) g.search).goes in
         (search_left a.search, omega (arith, a.less n, g.left), tour_shows p (search_left a.search) g.fit g.search (omega arith))
 
     -- and what was missed stays
-    tour_missed : (p : WordProgress) (most : ℕ) → Here p most → (tourWord words (2 * places) slot aim p).missed ≡ p.missed
+    tour_missed : (p : WordProgress) (most : ℕ) → Here p most → (tour_word words (2 * places) slot aim p).missed ≡ p.missed
     tour_missed p most g =
         let a = search_tour t st (opens_in words slot) closed (view_of p) g.search in
         let w = tour_words words (2 * places) h reads aim slot p g.fit (standing_row p.cursor g.search.stands) a.goes.to a.goes.is in
         ap (λ (x : Progress). x.missed) w.is ∙ a.missed
 
     -- where nothing is missed a look changes nothing
-    look_none : (p : WordProgress) → p.missed ≡ NONE → lookWord words (2 * places) aim p ≡ p
-    unfolding lookWord
+    look_none : (p : WordProgress) → p.missed ≡ NONE → look_word words (2 * places) aim p ≡ p
+    unfolding look_word
     look_none p e = rw (eq-eqb p.missed NONE e)
 
     -- ---- so many tours
 
     -- no more is left
     tours_seek : (n : ℕ) (p : WordProgress) (most : ℕ) → Here p most → Here (toured n p) most
-    unfolding touredWord
+    unfolding toured_word
     tours_seek zero p most g = g
     tours_seek (suc n) p most g = tour_seeks (toured n p) most (tours_seek n p most g)
 
     -- what was missed stays
     tours_missed : (n : ℕ) (p : WordProgress) (most : ℕ) → Here p most → (toured n p).missed ≡ p.missed
-    unfolding touredWord
+    unfolding toured_word
     tours_missed zero p most g = refl
     tours_missed (suc n) p most g = tour_missed (toured n p) most (tours_seek n p most g) ∙ tours_missed n p most g
 
     -- where nothing is missed as many fewer are left as there are tours, or the search has come to its end
     tours_less : (n : ℕ) (p : WordProgress) (most : ℕ) → p.missed ≡ NONE → Here p most → Fewer n most (toured n p) ⊎ (is_finished (toured n p) ≡ true)
-    unfolding touredWord
+    unfolding toured_word
     tours_less zero p most e g = inl (most, omega arith, g)
     tours_less (suc n) p most e g = go (tours_less n p most e g) (ℕ_discrete done.cursor NONE)
       where
@@ -157,7 +157,7 @@ module _ {places : ℕ} {h : Heap} {t : Option Tree} {q : List Free} {changes re
         done = toured n p
 
         go : Fewer n most done ⊎ (is_finished done ≡ true) → Dec (done.cursor ≡ NONE)
-            → Fewer (suc n) most (tourWord words (2 * places) slot aim done) ⊎ (is_finished (tourWord words (2 * places) slot aim done) ≡ true)
+            → Fewer (suc n) most (tour_word words (2 * places) slot aim done) ⊎ (is_finished (tour_word words (2 * places) slot aim done) ≡ true)
         go x (yes c) =
             let ended : is_finished done ≡ true = and_i (eq-eqb done.cursor NONE c) (eq-eqb done.missed NONE (tours_missed n p most g ∙ e)) in
             inr (ap is_finished (tours_stay words (2 * places) slot aim 1 done c) ∙ ended)
@@ -167,18 +167,18 @@ module _ {places : ℕ} {h : Heap} {t : Option Tree} {q : List Free} {changes re
     -- ---- the step
 
     -- five tours, or a look and three: five fewer are left, unless the search has come to its end
-    pub seek_five : (p : WordProgress) (most : ℕ) → is_finished (seekWord words (2 * places) aim p) ≡ false → Here p most → Fewer step_moves most (seekWord words (2 * places) aim p)
-    unfolding seekWord
+    pub seek_five : (p : WordProgress) (most : ℕ) → is_finished (seek_word words (2 * places) aim p) ≡ false → Here p most → Fewer step_moves most (seek_word words (2 * places) aim p)
+    unfolding seek_word
     seek_five p most e g = go (ℕ_discrete p.missed NONE)
       where
-        go : Dec (p.missed ≡ NONE) → Fewer step_moves most (toured (tours_of p.missed) (lookWord words (2 * places) aim p))
-        go (no n) = let x = look_less p most n g in (x.0, x.1, tours_seek (tours_of p.missed) (lookWord words (2 * places) aim p) x.0 x.2)
+        go : Dec (p.missed ≡ NONE) → Fewer step_moves most (toured (tours_of p.missed) (look_word words (2 * places) aim p))
+        go (no n) = let x = look_less p most n g in (x.0, x.1, tours_seek (tours_of p.missed) (look_word words (2 * places) aim p) x.0 x.2)
         go (yes m) =
             let five : tours_of p.missed ≡ 5 = rw (eq-eqb p.missed NONE m) in
             let on : is_finished (toured 5 p) ≡ false = rw (look_none p m, five) at e in
             rw (look_none p m, five) (elim (tours_less 5 p most m g) [ inl x ↦ x | inr f ↦ absurd (true≢false (sym f ∙ on)) ])
 
     -- of any search no more is left
-    pub seek_keeps : (p : WordProgress) (most : ℕ) → Here p most → Here (seekWord words (2 * places) aim p) most
-    unfolding seekWord
-    seek_keeps p most g = tours_seek (tours_of p.missed) (lookWord words (2 * places) aim p) most (look_seeks p most g)
+    pub seek_keeps : (p : WordProgress) (most : ℕ) → Here p most → Here (seek_word words (2 * places) aim p) most
+    unfolding seek_word
+    seek_keeps p most g = tours_seek (tours_of p.missed) (look_word words (2 * places) aim p) most (look_seeks p most g)

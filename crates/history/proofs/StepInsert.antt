@@ -43,7 +43,7 @@ use Rattle.trees.proofs.RouteLaws.{on_route_has}
 use Rattle.trees.proofs.Insert.{insert}
 use Rattle.calls.specs.declared.insert.Site.{Site}
 use Rattle.calls.specs.Answer.{answer as given, answered_words}
-use Rattle.calls.specs.Insert.{site_at, site_sound, insert_root as rootAfter, insert_head as headAfter, insert_rows, insert_counts, cursors_moved, insert_words, insert_of}
+use Rattle.calls.specs.Insert.{site_at, site_sound, insert_root as root_after, insert_head as head_after, insert_rows, insert_counts, cursors_moved, insert_words, insert_of}
 use Rattle.history.specs.View.{Seat, seat_at, marks_in}
 use Rattle.history.specs.Related.{record_of, Busy, Related}
 use Rattle.history.proofs.Readings.{added_change, added_table, changed_add, one_more}
@@ -94,7 +94,7 @@ record Gains (words words' : List ℕ) (tree : Option Tree) (new : Entry) (place
 next_inserted : {words : List ℕ} {t : Table} {h' : Heap} {k : Cut} {a b : ℕ} {new : Entry} (own : ℕ) → own < stations → (place : Option Leaf) (site : Site) → Sound t → Settled t → (r : Related words t)
     → new.added ≡ more (counts_at words).changes → all_changes t < NONE → count_of r.tree < NONE
     → (leaf_of place ≡ NONE → cut_for place b ≡ NONE) → site.at ≡ leaf_of place → site.second ≡ cut_for place b
-    → rootAfter site (counts_at words).root ≡ insert_root place a b (top_of r.tree) → headAfter site ≡ insert_head r.heap place a b
+    → root_after site (counts_at words).root ≡ insert_root place a b (top_of r.tree) → head_after site ≡ insert_head r.heap place a b
     → Holding (cursors_moved site.at site.second stations (insert_counts words own site))
     (insert_rows (cursors_moved site.at site.second stations (insert_counts words own site)) site new.added new.point new.curve) t.places t.limit t.scale h'
     → Inserted t.places r.heap h' r.tree r.queue (all_changes t) (length t.removals) (least_since words) new place k a b
@@ -113,8 +113,8 @@ next_inserted {words} {t} {h'} {k} {a} {b} {new} own mine place site sound settl
     counts : counts_at written ≡ record {
       changes = more (counts_at words).changes;
       held = more (counts_at words).held;
-      root = rootAfter site (counts_at words).root;
-      head = headAfter site;
+      root = root_after site (counts_at words).root;
+      head = head_after site;
       tail = (counts_at words).tail;
       removals = (counts_at words).removals;
     }
@@ -229,7 +229,7 @@ module _ {words : List ℕ} {t : Table} {s i : ℕ} {p : Point} {c : ℕ} (sound
 
   -- into the empty tree; there is no cut, and any stands for it
   alone_outcome : {n : ℕ} → r.tree ≡ none → Outcome r s (add p c) none n (insert_of words (2 * t.places) s (call_at words s) NONE)
-  unfolding rootAfter headAfter
+  unfolding root_after head_after
   alone_outcome e =
       let h : Heap = r.heap in
       let a : ℕ = head_of r.queue in
@@ -245,7 +245,7 @@ module _ {words : List ℕ} {t : Table} {s i : ℕ} {p : Point} {c : ℕ} (sound
   -- beside a leaf
   beside_outcome : {n : ℕ} (leaf : Leaf) → OnRoute r.tree p leaf.row → r.heap leaf.row ≡ leaf_row leaf.parent leaf.entry → ¬ (p ≡ leaf.entry.point)
       → Passed (marks_in words) r.tree p leaf.row → Outcome r s (add p c) none n (insert_of words (2 * t.places) s (call_at words s) leaf.row)
-  unfolding rootAfter headAfter
+  unfolding root_after head_after
   beside_outcome leaf on reads other passed =
       let h : Heap = r.heap in
       let a : ℕ = head_of r.queue in

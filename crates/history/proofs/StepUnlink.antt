@@ -54,7 +54,7 @@ use Rattle.trees.proofs.RouteLaws.{on_route_has}
 use Rattle.trees.proofs.Unlink.{unlink}
 use Rattle.calls.specs.declared.unlink.Around.{Around}
 use Rattle.calls.specs.Reply.{done}
-use Rattle.calls.specs.Answer.{answer as wordAnswer, answered_words}
+use Rattle.calls.specs.Answer.{answer as word_answer, answered_words}
 use Rattle.calls.specs.Unlink.{around_at, around_sound, unlink_tail, unlink_root, unlink_counts, unlink_rows, stations_moved, unlink_words, unlink_of}
 use Rattle.history.specs.View.{Seat, seat_at, seat_put, marks_in, Written, answered_seat}
 use Rattle.history.specs.Related.{record_of, Busy, Says, Marking, Counted, Related}
@@ -147,7 +147,7 @@ module _ (words : List ℕ) (t : Table) (s i : ℕ) (p : Point) (at parent : ℕ
   -- ---- the answer
 
   abbrev given : Given
-  given = wordAnswer 5 p e.curve 0
+  given = word_answer 5 p e.curve 0
 
   own : Busy t R.tree R.queue (seat_at words s) i (remove p) none
   own = rw is at (R.seats s below)

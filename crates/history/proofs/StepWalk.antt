@@ -38,7 +38,7 @@ use Rattle.trees.proofs.RouteLaws.{on_route_has, walk_stands, walk_down}
 use Rattle.trees.proofs.ReadLaws.{read_row}
 use Rattle.calls.specs.declared.walk.Way.{Way}
 use Rattle.calls.specs.Reply.{done}
-use Rattle.calls.specs.Walk.{down_from, down as downWords, way_of, marked_way, passed_words, walk_to, conclude, stands_at as standsIn, walk_from, walk_of, walked_words}
+use Rattle.calls.specs.Walk.{down_from, down as down_words, way_of, marked_way, passed_words, walk_to, conclude, stands_at as stands_in, walk_from, walk_of, walked_words}
 use Rattle.history.specs.View.{Seat, seat_at, word_row, marks_in}
 use Rattle.history.specs.Related.{Works, Busy, Marking, Related}
 use Rattle.history.proofs.RelatedLaws.{related_busy}
@@ -66,11 +66,11 @@ record Onward (tree : Option Tree) (p : Point) (x to : ℕ) : Type 0 where
 
 module _ {words : List ℕ} {t : Table} (r : Related words t) (p : Point) where
   abbrev next : ℕ → ℕ
-  next x = downWords words (2 * t.places) p x
+  next x = down_words words (2 * t.places) p x
 
   -- one row down, as the heap says
   down_is : (x : ℕ) (o : OnRoute r.tree p x) → next x ≡ (walk_down r.tree p x r.store o).to
-  unfolding downWords
+  unfolding down_words
   down_is x o =
       let d : Descends r.heap r.tree p x = walk_down r.tree p x r.store o in
       ap (λ (row : WordRow). down_from p x row) (r.reads x (r.store.inside x (on_route_has r.tree p x o))) ∙ down_word p x d.to (r.heap x) (sym (down_row_lem r.heap p x) ∙ d.is)
@@ -163,7 +163,8 @@ module _ {words : List ℕ} {t : Table} {s i n : ℕ} {c : Call} (l : s < statio
   goes_to to o few w v tree queue seats m =
       let there : to ≢ NONE = λ y. omega (arith, y, r.store.inside to (on_route_has r.tree (point_of c) to o), r.store.fits) in
       let on : OnRoute v.tree (point_of c) to = rw tree o in
-      let marked : Marking (marks_in w) v.tree to (unfinished i c none) = rw tree m in
+      let marked : Marking (marks_in w) v.tree to (unfinished i c none) =
+      subst (λ (x : Option Tree). Marking (marks_in w) x to (unfinished i c none)) (sym tree) m in
       let left : step_moves * walk_left v.tree to ≤ step_moves * walk_left r.tree to = rw tree (omega arith) in
       let a = aside_walks s l v to q e on marked (step_moves * walk_left r.tree to) there left in
       goes_on refl (step_moves * walk_left r.tree to) few (left_walks s l v to q e on marked (step_moves * walk_left r.tree to) there left)
@@ -234,8 +235,8 @@ module _ {words : List ℕ} {t : Table} {s i n : ℕ} {c : Call} (sound : Sound 
   from_row x o m few = elim (read_row r.tree r.store (on_route_has r.tree (point_of c) x o)) [ inl a ↦ from_leaf x o m a | inr a ↦ from_cut x o m few a ]
 
   -- the row where the walk stands, in the words
-  stands_word : standsIn words s ≡ stands_at r.tree (seat_at words s).track.cursor
-  unfolding standsIn seat_at
+  stands_word : stands_in words s ≡ stands_at r.tree (seat_at words s).track.cursor
+  unfolding stands_in seat_at
   stands_word = rw r.counted.root
 
   from_cursor : From (stands_at r.tree (seat_at words s).track.cursor)

@@ -17,7 +17,6 @@ use Rattle.points.specs.Word.{NONE}
 use Rattle.stations.specs.Common.{least_since}
 use Rattle.stations.proofs.SoundLaws.{no_best_point}
 use Rattle.stations.proofs.TakenLaws.{least_removals, least_since_lem, least_greatest}
-use Rattle.stations.specs.Target.{target_at}
 use Rattle.table.specs.Call.{Call, add, remove, contains, nearest, call_of, kind_in_range, point_of}
 use Rattle.table.specs.Table.{unfinished, Table}
 use Rattle.table.specs.Event.{enter}

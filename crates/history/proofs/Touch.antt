@@ -1,18 +1,17 @@
 -- What a step touches (Rules 5.2): `touch`, for every content of the words.
 -- `withdraw_touch`, `submit_touch` and `take_touch` are the same of a withdrawal, a submission and a taking, which need no row.
-use Prim.Native.Nat.{ℕ, ◌*◌, ◌≤◌, ◌<◌}
+use Prim.Native.Nat.{ℕ, ◌≤◌, ◌<◌}
 use mathlib.Core.Path.{◌≡◌, refl, ap, ap₂, ◌∙◌}
-use mathlib.Core.Bool.{Bool, true, false, cond, ◌&&◌}
+use mathlib.Core.Bool.{Bool, true, false, ◌&&◌}
 use mathlib.Core.List.{List, [], Memᴰ}
 use native.Mathlib.Omega.{arith}
-use borrow.Author.Tests.{ltb-true, leb-true}
-use lib.Dec.{eqb, leb, ltb}
+use borrow.Author.Tests.{ltb-true}
+use lib.Dec.{eqb, ltb}
 use lib.ListN.{length}
 use Rattle.words.specs.Layout.{stations}
-use Rattle.stations.specs.declared.counts.Counts.{Counts}
 use Rattle.points.specs.Word.{NONE}
 use Rattle.rows.specs.Row.{row_at}
-use Rattle.stations.specs.Common.{opened_in, common_sound, is_opened, rows_in, places_at}
+use Rattle.stations.specs.Common.{opened_in, common_sound, is_opened, rows_in}
 use Rattle.stations.specs.Station.{is_unfinished, state_at}
 use Rattle.stations.specs.Call.{call_at, call_sound}
 use Rattle.stations.proofs.CommonLaws.{common_sound_agree}

@@ -3,7 +3,6 @@ use Prim.Native.Nat.{ℕ, ◌<◌}
 use mathlib.Core.Path.{◌≡◌, refl, ◌∙◌}
 use mathlib.Core.Bool.{Bool}
 use mathlib.Core.List.{List, Memᴰ}
-use native.Mathlib.Omega.{arith}
 use Rattle.points.specs.declared.point.Point.{Point}
 use Rattle.words.specs.Agree.{Agree, Region, in_common, in_station, in_row, OnlyIn}
 use Rattle.stations.specs.declared.counts.Counts.{Counts}

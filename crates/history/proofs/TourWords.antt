@@ -22,8 +22,8 @@ use Rattle.trees.specs.Tour.{considered, pick_progress, go_to, Opens, shut, tour
 use Rattle.trees.specs.Stand.{Down, Up}
 use Rattle.trees.proofs.ChoiceOf.{choice_of}
 use Rattle.calls.specs.declared.progress.Progress.{Progress as WordProgress}
-use Rattle.calls.specs.Tour.{far_shut, from_near, tour_down as tourWordDown, tour_above as tourWordParent, tour_up as tourWordUp, tour as tourWord}
-use Rattle.calls.specs.Progress.{considered as consideredWord, onward, strayed, pick_progress as pickWordProgress}
+use Rattle.calls.specs.Tour.{far_shut, from_near, tour_down as tour_word_down, tour_above as tour_word_parent, tour_up as tour_word_up, tour as tour_word}
+use Rattle.calls.specs.Progress.{considered as considered_word, onward, strayed, pick_progress as pick_word_progress}
 use Rattle.words.specs.Rule.{rule_at}
 use Rattle.history.specs.View.{word_row, Reads, phase_of, best_of, opens_in}
 use Rattle.history.proofs.Effects.{reads_in}
@@ -53,19 +53,19 @@ module _ (words : List ℕ) (rows : ℕ) (h : Heap) (reads : Reads words rows h)
 
   -- phase down
   tour_down_lem : (x : Row) (p : WordProgress) → Fit (rule_at words) p → in_rows (rule_at words) rows (word_row x) ≡ true
-      → Keeps (rule_at words) (tourWordDown words slot aim p (word_row x)) (tour_down (choice_of aim.scale aim.point) opens aim.asof x p.cursor p.missed (best_of p.best))
+      → Keeps (rule_at words) (tour_word_down words slot aim p (word_row x)) (tour_down (choice_of aim.scale aim.point) opens aim.asof x p.cursor p.missed (best_of p.best))
   tour_down_lem (spare_row next n) p f i = keeps_none (rule_at words) (strayed p)
   tour_down_lem (removed_row next n e) p f i = keeps_none (rule_at words) (strayed p)
   tour_down_lem (leaf_row parent e) p f i =
       let w = leaf_in (rule_at words) rows parent e i in
-      keeps_onward (rule_at words) p p.cursor 1 (consideredWord aim p.best e.added e.point e.curve) (considered (choice_of aim.scale aim.point) aim.asof (best_of p.best) e) f
+      keeps_onward (rule_at words) p p.cursor 1 (considered_word aim p.best e.added e.point e.curve) (considered (choice_of aim.scale aim.point) aim.asof (best_of p.best) e) f
       (omega arith) (considered_ranged (rule_at words) aim p.best e f.best w.point) (considered_words aim p.best e w.curve)
   tour_down_lem (cut_row parent k l r) p f i =
       let near : ℕ = cond (goes_left k aim.point) l r in
       let far : ℕ = cond (goes_left k aim.point) r l in
       let closed : Bool = shut (choice_of aim.scale aim.point) opens k p.cursor (best_of p.best) in
       rw (shut_words k p.cursor p.best)
-      (keeps_pick (rule_at words) (admits words p.cursor (goes_left k aim.point) slot) (onward p near 0 p.best) (pickWordProgress closed (onward p p.cursor 1 p.best) (onward p far 0 p.best))
+      (keeps_pick (rule_at words) (admits words p.cursor (goes_left k aim.point) slot) (onward p near 0 p.best) (pick_word_progress closed (onward p p.cursor 1 p.best) (onward p far 0 p.best))
       (go_to near Down p.missed (best_of p.best))
       (pick_progress closed (go_to p.cursor Up p.missed (best_of p.best)) (go_to far Down p.missed (best_of p.best)))
       (λ e. goes p f near 0 (omega arith))
@@ -74,7 +74,7 @@ module _ (words : List ℕ) (rows : ℕ) (h : Heap) (reads : Reads words rows h)
 
   -- phase up, at the cut above
   tour_parent_lem : (x : Row) (p : WordProgress) (parent : ℕ) → Fit (rule_at words) p
-      → Keeps (rule_at words) (tourWordParent words slot aim p parent (word_row x)) (tour_parent (choice_of aim.scale aim.point) opens x parent p.cursor p.missed (best_of p.best))
+      → Keeps (rule_at words) (tour_word_parent words slot aim p parent (word_row x)) (tour_parent (choice_of aim.scale aim.point) opens x parent p.cursor p.missed (best_of p.best))
   tour_parent_lem (spare_row next n) p parent f = keeps_none (rule_at words) (strayed p)
   tour_parent_lem (removed_row next n e) p parent f = keeps_none (rule_at words) (strayed p)
   tour_parent_lem (leaf_row above e) p parent f = keeps_none (rule_at words) (strayed p)
@@ -85,47 +85,47 @@ module _ (words : List ℕ) (rows : ℕ) (h : Heap) (reads : Reads words rows h)
       let up = goes p f parent 1 (omega arith) in
       let over = goes p f far 0 (omega arith) in
       rw (shut_words k parent p.best)
-      (keeps_pick (rule_at words) (eqb near p.cursor) (from_near p parent far closed) (pickWordProgress (eqb far p.cursor) (onward p parent 1 p.best) (strayed p))
+      (keeps_pick (rule_at words) (eqb near p.cursor) (from_near p parent far closed) (pick_word_progress (eqb far p.cursor) (onward p parent 1 p.best) (strayed p))
       (pick_progress closed (go_to parent Up p.missed (best_of p.best)) (go_to far Down p.missed (best_of p.best)))
       (pick_progress (eqb far p.cursor) (go_to parent Up p.missed (best_of p.best)) none)
       (λ e. keeps_pick (rule_at words) closed (onward p parent 1 p.best) (onward p far 0 p.best) (go_to parent Up p.missed (best_of p.best)) (go_to far Down p.missed (best_of p.best)) (λ g. up) (λ g. over))
       (λ e. keeps_pick (rule_at words) (eqb far p.cursor) (onward p parent 1 p.best) (strayed p) (go_to parent Up p.missed (best_of p.best)) none (λ g. up) (λ g. keeps_none (rule_at words) (strayed p))))
 
   tour_above_lem : (p : WordProgress) (parent : ℕ) → Fit (rule_at words) p → link_in rows parent ≡ true
-      → Keeps (rule_at words) (pickWordProgress (eqb parent NONE) (onward p NONE 1 p.best) (tourWordParent words slot aim p parent (row_at words rows parent)))
+      → Keeps (rule_at words) (pick_word_progress (eqb parent NONE) (onward p NONE 1 p.best) (tour_word_parent words slot aim p parent (row_at words rows parent)))
       (tour_above (choice_of aim.scale aim.point) opens h parent p.cursor p.missed (best_of p.best))
   tour_above_lem p parent f i =
-      keeps_pick (rule_at words) (eqb parent NONE) (onward p NONE 1 p.best) (tourWordParent words slot aim p parent (row_at words rows parent)) (go_to NONE Up p.missed (best_of p.best))
+      keeps_pick (rule_at words) (eqb parent NONE) (onward p NONE 1 p.best) (tour_word_parent words slot aim p parent (row_at words rows parent)) (go_to NONE Up p.missed (best_of p.best))
       (tour_parent (choice_of aim.scale aim.point) opens (h parent) parent p.cursor p.missed (best_of p.best))
       (λ e. goes p f NONE 1 (omega arith))
       (λ e. elim (link_tells rows parent i) [ inl z ↦ absurd (eqb-false parent NONE e z) | inr l ↦ rw (reads parent l) (tour_parent_lem (h parent) p parent f) ])
 
   -- phase up
   tour_up_lem : (x : Row) (p : WordProgress) → Fit (rule_at words) p → in_rows (rule_at words) rows (word_row x) ≡ true
-      → Keeps (rule_at words) (tourWordUp words rows slot aim p (word_row x)) (tour_up (choice_of aim.scale aim.point) opens h x p.cursor p.missed (best_of p.best))
+      → Keeps (rule_at words) (tour_word_up words rows slot aim p (word_row x)) (tour_up (choice_of aim.scale aim.point) opens h x p.cursor p.missed (best_of p.best))
   tour_up_lem (spare_row next n) p f i = keeps_none (rule_at words) (strayed p)
   tour_up_lem (removed_row next n e) p f i = keeps_none (rule_at words) (strayed p)
   tour_up_lem (leaf_row parent e) p f i = tour_above_lem p parent f (leaf_in (rule_at words) rows parent e i).link
   tour_up_lem (cut_row parent k l r) p f i = tour_above_lem p parent f (cut_link (rule_at words) rows parent k l r i)
 
   tour_row_lem : (x : Row) (p : WordProgress) → Fit (rule_at words) p → in_rows (rule_at words) rows (word_row x) ≡ true
-      → Keeps (rule_at words) (pickWordProgress (eqb p.phase 0) (tourWordDown words slot aim p (word_row x)) (tourWordUp words rows slot aim p (word_row x)))
+      → Keeps (rule_at words) (pick_word_progress (eqb p.phase 0) (tour_word_down words slot aim p (word_row x)) (tour_word_up words rows slot aim p (word_row x)))
       (tour_row (choice_of aim.scale aim.point) opens aim.asof h x p.cursor (phase_of p.phase) p.missed (best_of p.best))
   tour_row_lem x p f i = go (eqb p.phase 0) refl
     where
       go : (b : Bool) → eqb p.phase 0 ≡ b
-          → Keeps (rule_at words) (pickWordProgress (eqb p.phase 0) (tourWordDown words slot aim p (word_row x)) (tourWordUp words rows slot aim p (word_row x)))
+          → Keeps (rule_at words) (pick_word_progress (eqb p.phase 0) (tour_word_down words slot aim p (word_row x)) (tour_word_up words rows slot aim p (word_row x)))
           (tour_row (choice_of aim.scale aim.point) opens aim.asof h x p.cursor (phase_of p.phase) p.missed (best_of p.best))
       go true e = rw (e, phase_of) (tour_down_lem x p f i)
       go false e = rw (e, phase_of) (tour_up_lem x p f i)
 
   -- the cursor is none or a row
   pub tour_words : (p : WordProgress) → Fit (rule_at words) p → (p.cursor ≡ NONE) ⊎ (p.cursor < rows)
-      → Keeps (rule_at words) (tourWord words rows slot aim p) (tour (choice_of aim.scale aim.point) opens aim.asof h (view_of p))
-  unfolding tourWord tour
+      → Keeps (rule_at words) (tour_word words rows slot aim p) (tour (choice_of aim.scale aim.point) opens aim.asof h (view_of p))
+  unfolding tour_word tour
   tour_words p f m =
       keeps_pick (rule_at words) (eqb p.cursor NONE) p
-      (pickWordProgress (eqb p.phase 0) (tourWordDown words slot aim p (row_at words rows p.cursor)) (tourWordUp words rows slot aim p (row_at words rows p.cursor)))
+      (pick_word_progress (eqb p.phase 0) (tour_word_down words slot aim p (row_at words rows p.cursor)) (tour_word_up words rows slot aim p (row_at words rows p.cursor)))
       (some (view_of p))
       (tour_row (choice_of aim.scale aim.point) opens aim.asof h (h p.cursor) p.cursor (phase_of p.phase) p.missed (best_of p.best))
       (λ e. keeps_some (rule_at words) p (view_of p) f refl)

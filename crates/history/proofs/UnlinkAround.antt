@@ -26,19 +26,19 @@ use Rattle.trees.specs.Reads.{Leaf}
 use Rattle.trees.specs.Unlink.{sibling_row, grand_row}
 use Rattle.trees.proofs.ReadLaws.{unlink_reads, link_tail}
 use Rattle.calls.specs.declared.unlink.Around.{Around}
-use Rattle.calls.specs.Link.{next_of, parent_of as wordParent, sibling_of as wordSibling, links_to, is_tree, is_free}
+use Rattle.calls.specs.Link.{next_of, parent_of as word_parent, sibling_of as word_sibling, links_to, is_tree, is_free}
 use Rattle.calls.specs.Unlink.{around_at, around_sound}
 use Rattle.history.specs.View.{word_row, Reads}
 
 -- ---- links of rows in the words
 
-parent_words : (r : Row) → wordParent (word_row r) ≡ parent_of r
+parent_words : (r : Row) → word_parent (word_row r) ≡ parent_of r
 parent_words (spare_row next n) = refl
 parent_words (removed_row next n e) = refl
 parent_words (leaf_row parent e) = refl
 parent_words (cut_row parent k l r) = refl
 
-sibling_words : (c : ℕ) (r : Row) → wordSibling c (word_row r) ≡ sibling_of c r
+sibling_words : (c : ℕ) (r : Row) → word_sibling c (word_row r) ≡ sibling_of c r
 sibling_words c (spare_row next n) = refl
 sibling_words c (removed_row next n e) = refl
 sibling_words c (leaf_row parent e) = refl
@@ -51,17 +51,17 @@ linked_row h x = cond (eqb x NONE) Bad (word_row (h x))
 pub linked_here : (h : Heap) (x : ℕ) → x ≢ NONE → linked_row h x ≡ word_row (h x)
 linked_here h x n = rw (ne_eqb x NONE n)
 
-linked_parent : (h : Heap) (x : ℕ) → wordParent (linked_row h x) ≡ parent_at h x
+linked_parent : (h : Heap) (x : ℕ) → word_parent (linked_row h x) ≡ parent_at h x
 linked_parent h x = go (eqb x NONE)
   where
-    go : (b : Bool) → wordParent (cond b Bad (word_row (h x))) ≡ cond b NONE (parent_of (h x))
+    go : (b : Bool) → word_parent (cond b Bad (word_row (h x))) ≡ cond b NONE (parent_of (h x))
     go true = refl
     go false = parent_words (h x)
 
-linked_sibling : (h : Heap) (x c : ℕ) → wordSibling c (linked_row h x) ≡ sibling_at h x c
+linked_sibling : (h : Heap) (x c : ℕ) → word_sibling c (linked_row h x) ≡ sibling_at h x c
 linked_sibling h x c = go (eqb x NONE)
   where
-    go : (b : Bool) → wordSibling c (cond b Bad (word_row (h x))) ≡ cond b NONE (sibling_of c (h x))
+    go : (b : Bool) → word_sibling c (cond b Bad (word_row (h x))) ≡ cond b NONE (sibling_of c (h x))
     go true = refl
     go false = sibling_words c (h x)
 
@@ -162,10 +162,10 @@ around_is words {places} {h} {t} {q} st reads tail l m f =
     let alone : Dec (l.parent ≡ NONE) = ℕ_discrete l.parent NONE in
     let leaf : row_at words rows l.row ≡ word_row (leaf_row l.parent l.entry) = reads l.row (st.inside l.row m) ∙ ap word_row f in
     let last : row_at words rows (counts_at words).tail ≡ word_row (h (tail_of q)) = ap (row_at words rows) tail ∙ reads (tail_of q) (link_tail st (omega (arith, st.inside l.row m))) in
-    let cut : row_at words rows (wordParent (row_at words rows l.row)) ≡ linked_row h l.parent =
-    ap (λ r. row_at words rows (wordParent r)) leaf ∙ row_linked words places h reads st.fits l.parent (link_cut st l m f alone) in
-    let side : wordSibling l.row (row_at words rows (wordParent (row_at words rows l.row))) ≡ sibling_row h l = ap (wordSibling l.row) cut ∙ linked_sibling h l.parent l.row in
-    let above : wordParent (row_at words rows (wordParent (row_at words rows l.row))) ≡ grand_row h l = ap wordParent cut ∙ linked_parent h l.parent in
+    let cut : row_at words rows (word_parent (row_at words rows l.row)) ≡ linked_row h l.parent =
+    ap (λ r. row_at words rows (word_parent r)) leaf ∙ row_linked words places h reads st.fits l.parent (link_cut st l m f alone) in
+    let side : word_sibling l.row (row_at words rows (word_parent (row_at words rows l.row))) ≡ sibling_row h l = ap (word_sibling l.row) cut ∙ linked_sibling h l.parent l.row in
+    let above : word_parent (row_at words rows (word_parent (row_at words rows l.row))) ≡ grand_row h l = ap word_parent cut ∙ linked_parent h l.parent in
     let other = ap (row_at words rows) side ∙ row_linked words places h reads st.fits (sibling_row h l) (link_side st l m f alone) in
     let grand = ap (row_at words rows) above ∙ row_linked words places h reads st.fits (grand_row h l) (link_above st l m f alone) in
     λ i. record {
@@ -173,7 +173,7 @@ around_is words {places} {h} {t} {q} st reads tail l m f =
       last = last i;
       at = l.row;
       leaf = leaf i;
-      over = wordParent (leaf i);
+      over = word_parent (leaf i);
       cut = cut i;
       side = side i;
       other = other i;

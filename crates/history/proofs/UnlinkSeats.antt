@@ -10,7 +10,6 @@ use lib.Dec.{eqb}
 use lib.ListN.{length}
 use borrow.Author.Tests.{eqb-true, eq-eqb, ne_eqb}
 use Rattle.words.specs.Layout.{stations}
-use Rattle.stations.specs.Track.{nowhere}
 use Rattle.points.specs.declared.point.Point.{Point}
 use Rattle.points.specs.Cut.{goes_left}
 use Rattle.points.specs.Word.{NONE}
@@ -36,7 +35,7 @@ use Rattle.trees.proofs.RouteLaws.{walk_unlink}
 use Rattle.trees.proofs.SearchLaws.{search_unlink}
 use Rattle.trees.specs.Measure.{step_moves, progress_left}
 use Rattle.trees.proofs.OthersLaws.{others_unlink}
-use Rattle.calls.specs.Unlink.{landing as landingWord}
+use Rattle.calls.specs.Unlink.{landing as landing_word}
 use Rattle.history.specs.View.{Seat, word_row, phase_of, progress_of}
 use Rattle.history.specs.Related.{Quiet, Searching, Walks, Works, Busy, Says, Marking}
 use Rattle.history.proofs.BusyLaws.{busy_on}
@@ -72,7 +71,7 @@ phase_in true lands phase k l = k
 phase_in false lands phase k l = l
 
 -- the phase in which a search lands is down or up
-lands_in : (target : Point) (leaf : ℕ) (row : WordRow) → landingWord target leaf row ≤ 1
+lands_in : (target : Point) (leaf : ℕ) (row : WordRow) → landing_word target leaf row ≤ 1
 lands_in target leaf Bad = omega arith
 lands_in target leaf (Spare next freed) = omega arith
 lands_in target leaf (Removed next freed added point curve) = omega arith
@@ -84,7 +83,7 @@ lands_in target leaf (Cut parent cut left right) = go (eqb (cond (goes_left cut 
     go false = omega arith
 
 -- and it is that of the trees
-lands_word : (target : Point) (h : Heap) (cut leaf : ℕ) → phase_of (landingWord target leaf (linked_row h cut)) ≡ landing (side_of target) h cut leaf
+lands_word : (target : Point) (h : Heap) (cut leaf : ℕ) → phase_of (landing_word target leaf (linked_row h cut)) ≡ landing (side_of target) h cut leaf
 unfolding landing
 lands_word target h cut leaf = go (eqb cut NONE) (h cut)
   where
@@ -92,7 +91,7 @@ lands_word target h cut leaf = go (eqb cut NONE) (h cut)
     by true = refl
     by false = refl
 
-    go : (b : Bool) (row : Row) → phase_of (landingWord target leaf (cond b Bad (word_row row))) ≡ pick_phase b Down (landing_row (side_of target) leaf row)
+    go : (b : Bool) (row : Row) → phase_of (landing_word target leaf (cond b Bad (word_row row))) ≡ pick_phase b Down (landing_row (side_of target) leaf row)
     go true row = refl
     go false (spare_row next n) = refl
     go false (removed_row next n e) = refl
@@ -109,7 +108,7 @@ module _ (t : Table) (own : ℕ) (mine : own < stations) (p : Point) (f : ℕ �
 
   -- the phase in which the search of a seat lands
   abbrev lands_at : Seat → ℕ
-  lands_at seat = landingWord seat.target l.row (linked_row h l.parent)
+  lands_at seat = landing_word seat.target l.row (linked_row h l.parent)
 
   -- a track that stands nowhere stays so
   quiet_moved : (seat : Seat) → Quiet seat.track → Quiet (moved seat).track

@@ -20,7 +20,7 @@ use Rattle.calls.specs.Reply.{Reply}
 use Rattle.table.specs.Call.{Call, add, remove, contains, nearest, call_of, is_search, point_of, Answer, answer, is_change, withdrawn_answer}
 use Rattle.table.specs.Table.{Station, idle, unfinished, waiting, Table, put, with_stations, searching}
 use Rattle.table.specs.Event.{Event, submission, take_at, take}
-use Rattle.table.specs.History.{reply, after as afterEvents}
+use Rattle.table.specs.History.{reply, after as after_events}
 use Rattle.table.proofs.Stations.{put_same, put_other}
 use Rattle.table.proofs.Reached.{sound_wait}
 use Rattle.table.proofs.Retract.{retract_all}
@@ -36,7 +36,7 @@ use Rattle.calls.specs.Take.{take_of}
 use Rattle.calls.specs.Report.{report_of}
 use Rattle.calls.specs.Held.{held_in}
 use Rattle.calls.specs.Withdraw.{withdrawn_words, withdraw_of}
-use Rattle.history.specs.Index.{record_of as heldRecord, given_by, word_index}
+use Rattle.history.specs.Index.{record_of as held_record, given_by, word_index}
 use Rattle.history.specs.View.{seat_at}
 use Rattle.history.specs.Related.{record_of, Related}
 use Rattle.history.specs.After.{after}
@@ -56,7 +56,7 @@ use Rattle.history.proofs.Everybody.{unfinished_same}
 -- as many records as the table holds
 held_number : {words : List ℕ} {t : Table} → Related words t → length (held_in words) ≡ length t.held
 held_number {words} r =
-    sym (length-map (held_in words) heldRecord) ∙ ap length (held_entries r) ∙ length-map (entries_of r.tree) record_of ∙ entries_count r.tree ∙ r.number
+    sym (length-map (held_in words) held_record) ∙ ap length (held_entries r) ∙ length-map (entries_of r.tree) record_of ∙ entries_count r.tree ∙ r.number
 
 -- a station that is not searching by the words has no search in the table
 not_searching : {words : List ℕ} {t : Table} (u : ℕ) → u < stations → Related words t → is_searching words u ≡ false → searching (t.stations u) ≡ []
@@ -160,7 +160,7 @@ module _ (words : List ℕ) (places limit : ℕ) (scale : Scale) (e : (open_of w
 -- ---- a call from its submission to its withdrawal
 
 after_both : (before rest : List Event) (words : List ℕ) → after (before ++ rest) words ≡ after rest (after before words)
-unfolding after afterEvents
+unfolding after after_events
 after_both [] rest words = refl
 after_both (ev ∷ before) rest words = after_both before rest (reply word_index words ev).next
 

@@ -1,14 +1,14 @@
 -- The words after a history: each event gets the slice "as the event before left it" (Rules 4.1).
 use Rattle.std.specs.Prelude.{List, ℕ, zero, suc, ◌≡◌, ◌⊎◌}
 use Rattle.table.specs.Event.{Event}
-use Rattle.table.specs.History.{after as afterEvents}
+use Rattle.table.specs.History.{after as after_events}
 use Rattle.calls.specs.Step.{step_of}
 use Rattle.calls.specs.Take.{take_of, number_of}
 use Rattle.history.specs.Index.{word_index}
 
 unfoldable pub after : List Event → List ℕ → List ℕ
-unfolding afterEvents
-after evs words = afterEvents word_index words evs
+unfolding after_events
+after evs words = after_events word_index words evs
 
 -- a taking by the station would be accepted next
 abbrev pub Answered : List ℕ → ℕ → Type 0

@@ -1,7 +1,6 @@
 -- The index that the definitions of `steps` are, as demand 3 speaks of one: its states are slices of words.
 use Rattle.std.specs.Prelude.{ℕ, List, map}
 use Rattle.std.proofs.Math.Option.{Option, none, some}
-use Rattle.points.specs.declared.point.Point.{Point}
 use Rattle.stations.specs.declared.answer.Answer.{Answer as Given}
 use Rattle.table.specs.Record.{Record}
 use Rattle.table.specs.Call.{Answer}

@@ -3,7 +3,6 @@ use Rattle.std.specs.Prelude.{ℕ, ◌*◌, ◌≤◌, ◌<◌, ◌≡◌, ◌�
 use mathlib.Core.List.{List, map, Memᴰ}
 use Rattle.std.proofs.Math.Option.{Option, none, some}
 use Rattle.words.specs.Layout.{stations}
-use Rattle.stations.specs.Track.{nowhere}
 use Rattle.stations.specs.Counts.{counts_at}
 use Rattle.stations.specs.Counter.{counter_at}
 use Rattle.stations.specs.declared.track.Track.{Track}

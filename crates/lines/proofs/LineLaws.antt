@@ -16,7 +16,7 @@ use Rattle.frames.specs.declared.read.Reading.TheVariants.{Read, End, Refused}
 use Rattle.lines.specs.declared.apply.Applied.{Applied}
 use Rattle.lines.specs.declared.apply.Applied.TheVariants.{Number, Given}
 use Rattle.lines.specs.declared.line.Line.{Line}
-use Rattle.lines.specs.declared.line.Line.TheVariants.{Over, Stopped, Plain, Taken}
+use Rattle.lines.specs.declared.line.Line.TheVariants.{Stopped, Plain, Taken}
 use Rattle.frames.specs.Width.{AllInWidth}
 use Rattle.frames.specs.Read.{read_of}
 use Rattle.frames.specs.Write.{frame_bytes}

@@ -20,7 +20,7 @@ use submissions::submit::submit;
 use takings::take::take;
 
 // What a frame gives: 0 or the number of a refusal, or the answer that was taken.
-#[derive(Drop)]
+#[derive(Clone, Copy)]
 pub enum Applied {
     Number(u32),
     Given(Answer),

@@ -10,7 +10,7 @@ use stations::answer::Answer;
 
 // The next line: none where no byte is left; a refusal 13 to 15, after which the runner stops; the number of a frame's call with eight hyphens, or 0
 // with the answer taken, each with the position to go on from.
-#[derive(Drop)]
+#[derive(Clone, Copy)]
 pub enum Line {
     Over,
     Stopped(u32),

@@ -1,2 +1,4 @@
 // Opening a slice.
+#![tactic(auto)]
+
 pub mod open;

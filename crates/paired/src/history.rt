@@ -14,7 +14,7 @@ use words::layout::words_for;
 // whether the audit is asked after each event, after how many events each unfinished call is tried alone, whether moisture, speed and draw are
 // drawn from all of their ranges, of which there are three of each else, and whether weight and moisture are those of sheets that lie near each
 // other in dry weight.
-#[derive(Drop)]
+#[derive(Clone, Copy)]
 pub struct Plan {
     pub places: u32,
     pub limit: u32,

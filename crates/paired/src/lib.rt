@@ -1,4 +1,6 @@
 // Events on the index and on the plain list at once, with what each gives compared: single ones, those of a text, random histories, every order of two parties.
+#![tactic(auto)]
+
 pub mod drive;
 pub mod history;
 pub mod orders;

@@ -11,7 +11,7 @@ use reports::report::read_report;
 use stations::answer::{Waiting, read_waiting};
 
 // The call of an item, with the one curve and the one code that its answer may have.
-#[derive(Drop)]
+#[derive(Clone, Copy)]
 pub struct Call {
     pub station: u32,
     pub kind: u32,

@@ -3,7 +3,7 @@ use trial::cells::{less, more};
 use trial::random::below;
 
 // A weight and a moisture, each counted from the least of its axis.
-#[derive(Drop)]
+#[derive(Clone, Copy)]
 pub struct Sheet {
     pub weight: u64,
     pub moisture: u64,

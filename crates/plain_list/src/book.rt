@@ -51,7 +51,7 @@ pub const CODES: u32 = 12;
 pub const NOWHERE: usize = 1000000;
 
 // A point whose coordinates are counted from the least of their axis, so that none is negative.
-#[derive(Drop)]
+#[derive(Clone, Copy)]
 pub struct PlainPoint {
     pub grade: u64,
     pub weight: u64,
@@ -61,7 +61,7 @@ pub struct PlainPoint {
 }
 
 // The answer that the table expects.
-#[derive(Drop)]
+#[derive(Clone, Copy)]
 pub struct Due {
     pub code: u64,
     pub point: PlainPoint,

@@ -7,7 +7,7 @@ use trial::bytes::{byte, is_digit, seed_in};
 const CUT: usize = 131072;
 
 // The cases to be run: all that the program has, those of them with random histories, or those of the text; none where it is not understood.
-#[derive(Drop)]
+#[derive(Clone, Copy)]
 pub enum Given {
     All,
     Random,

@@ -1,4 +1,6 @@
 // The plain side of `cases`: a list of records with a call at each station, the bounds that steps are held to, the checks counted, and the texts of cases.
+#![tactic(auto)]
+
 pub mod book;
 pub mod given;
 pub mod list;

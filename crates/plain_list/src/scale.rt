@@ -10,7 +10,7 @@ pub const PLAIN_RULE: u32 = 1;
 pub const DRY_RULE: u32 = 2;
 
 // The rule, and the factors of weight, moisture, speed and draw.
-#[derive(Drop)]
+#[derive(Clone, Copy)]
 pub struct PlainScale {
     pub rule: u32,
     pub weight: u32,

@@ -5,7 +5,7 @@ use crate::scale::{DRY_RULE, PlainScale};
 use trial::cells::more;
 
 // The numbers of a point on axes 2 to 5 whose differences count.
-#[derive(Drop)]
+#[derive(Clone, Copy)]
 struct Numbers {
     weight: u64,
     moisture: u64,

@@ -7,21 +7,21 @@ use trial::cells::low;
 const UNKNOWN: u8 = b'?';
 
 // An item: its letter, 0 where there is no such item, and its numbers, 0 where they are left out.
-#[derive(Drop)]
+#[derive(Clone, Copy)]
 pub struct Item {
     pub letter: u8,
     pub n: [u32; 9],
 }
 
 // A position in a text: sections and items passed.
-#[derive(Drop)]
+#[derive(Clone, Copy)]
 struct Position {
     section: u32,
     item: u32,
 }
 
 // An item as far as it is read: the numbers begun, whether the last byte was a digit, and whether the item has ended.
-#[derive(Drop)]
+#[derive(Clone, Copy)]
 struct Reading {
     item: Item,
     begun: usize,

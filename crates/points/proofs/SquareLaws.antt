@@ -1,5 +1,5 @@
 -- Law 5: of points and factors in range the square is the sum itself (`square_plain`) and at most 17,625,567,969,600,000,016 (`square_le`), under rule 1
--- at most 11,015,800,001,000 (`square-le-plain`); both are below the number that stands for none (`most_below_none`). The square is symmetric
+-- at most 11,015,800,001,000 (the same law); both are below the number that stands for none (`most_below_none`). The square is symmetric
 -- (`square_turn`) and 0 at the target (`square_self`); on every axis it is at least the squared gap, as often as the axis counts (`scale_bounds`). With
 -- rule 1 and factors of one it is the plain sum (`plain_scale_lem`). How great a sum can get whose gaps and factors two tests bound (`near_square`).
 -- Assumes nothing.

@@ -3,13 +3,13 @@
 -- Assumes nothing.
 use mathlib.Core.Path.{◌≡◌, refl, sym, ap, ◌∙◌}
 use mathlib.Core.Logic.{◌⊎◌, inl, inr}
-use mathlib.Core.Bool.{Bool, true, false}
+use mathlib.Core.Bool.{true, false}
 use lib.Signed.{lt_z}
 use Rattle.points.specs.declared.point.Point.{Point}
 use Rattle.points.specs.declared.order.Order.{Order}
 use Rattle.points.specs.declared.order.Order.TheVariants.{Less, Equal, Greater}
 use Rattle.points.specs.Point.{coordinate_of}
-use Rattle.points.specs.Order.{pick_order, by_axis, then_of, order_of, tie_of, is_equal}
+use Rattle.points.specs.Order.{by_axis, then_of, order_of, tie_of, is_equal}
 use Rattle.points.proofs.Tests.{no! }
 use Rattle.points.proofs.OrderLaws.{turned, clash, Ordered, axis_equal, axis_same, axis_less, axis_ordered, then_ordered, then_second, ordered, order_equal}
 

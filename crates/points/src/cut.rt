@@ -10,14 +10,14 @@ use crate::signed::{capped_sum, extended, twice};
 use crate::square::gap;
 
 // An axis, and the sum of two numbers there.
-#[derive(Drop)]
+#[derive(Clone, Copy)]
 pub struct Cut {
     pub axis: u32,
     pub sum: i32,
 }
 
 // An axis with the gap of two points there.
-#[derive(Drop)]
+#[derive(Clone, Copy)]
 pub struct Spread {
     pub axis: u32,
     pub gap: u64,

@@ -4,7 +4,7 @@ ghost use Rattle.points.specs.Order.{by_axis, compared_of, tie_of, is_less, is_e
 
 use crate::point::Point;
 
-#[derive(Drop)]
+#[derive(Clone, Copy)]
 pub enum Order {
     Less,
     Equal,
@@ -12,7 +12,7 @@ pub enum Order {
 }
 
 // What a comparison tells: the order, and how many axes it looked at.
-#[derive(Drop)]
+#[derive(Clone, Copy)]
 pub struct Compared {
     pub order: Order,
     pub looked: u32,

@@ -5,7 +5,7 @@ ghost use Rattle.points.specs.Scale.{count_of, most_factor, factor_in, factors_i
 use crate::rule::{DRY_RULE, PLAIN_RULE, shift};
 
 // The rule, and the factors of the axes 2 to 5.
-#[derive(Drop)]
+#[derive(Clone, Copy)]
 pub struct Scale {
     pub rule: u32,
     pub weight: u32,

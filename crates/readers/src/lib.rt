@@ -1,2 +1,4 @@
 // The reader of frames, a struct that holds the lent bytes and its position.
+#![tactic(auto)]
+
 pub mod reader;

@@ -6,7 +6,7 @@ ghost use Rattle.readers.specs.Reader.{read_by, moved_past};
 use frames::read::{Reading, position_after, read_frame};
 
 // The lent bytes, and the position in them.
-#[derive(Drop)]
+#[derive(Clone, Copy)]
 pub struct Reader<'a> {
     bytes: &'a [u8],
     at: usize,

@@ -1,2 +1,4 @@
 // The report, which reads the common record.
+#![tactic(auto)]
+
 pub mod report;

@@ -21,7 +21,7 @@ pub(crate) const LEAF_KIND: u32 = 2;
 
 pub(crate) const CUT_KIND: u32 = 3;
 
-#[derive(Drop)]
+#[derive(Clone, Copy)]
 pub enum Row {
     // No row, or one with a field out of range.
     Bad,

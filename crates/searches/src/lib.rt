@@ -1,4 +1,6 @@
 // The moves of a nearest: looks and tours.
+#![tactic(auto)]
+
 mod look;
 mod progress;
 mod reached;

@@ -17,7 +17,7 @@ use Rattle.words.specs.Words.{put}
 use Rattle.words.specs.Rule.{rule_at}
 use Rattle.words.specs.Agree.{Agree, Apart, Only, in_common, start_of, size_of, AgreeIn, OnlyIn}
 use Rattle.stations.specs.Station.{has_station}
-use Rattle.stations.specs.Scale.{scale_at, put_scale}
+use Rattle.stations.specs.Scale.{scale_at}
 use Rattle.stations.specs.Common.{mark, places_in, limit_in, mark_at, places_at, limit_at, open_in, Refused, Opened, opened_in, is_opened, rows_in, put_opening}
 use Rattle.words.proofs.AgreeLaws.{agree_within, agree_trans, only_trans, only_within, only_apart, put_only}
 use Rattle.words.proofs.BeyondLaws.{fits_of, fits_records}

@@ -1,5 +1,5 @@
--- State, call and answer of a station: each write touches exactly its words (the `-words` laws), and what is read is a matter of
--- the station's words alone (the `-agree` laws) and untouched by the writes of the other parts of the record.
+-- State, call and answer of a station: each write touches exactly its words (the `_words` laws), and what is read is a matter of
+-- the station's words alone (the `_agree` laws) and untouched by the writes of the other parts of the record.
 -- Assumes nothing.
 use mathlib.Core.Path.{◌≡◌, refl, ap, ap₂, ◌∙◌}
 use mathlib.Core.Bool.{true, cond, ◌&&◌}

@@ -1,5 +1,5 @@
--- Which stations there are, and the writes of a station's record: each touches words of that record alone (the `-only` laws), and slices that agree
--- somewhere agree there again after the same write (the `-agree` laws).
+-- Which stations there are, and the writes of a station's record: each touches words of that record alone (the `_only` laws), and slices that agree
+-- somewhere agree there again after the same write (the `_agree` laws).
 -- Assumes nothing.
 use mathlib.Core.Path.{◌≡◌, refl}
 use mathlib.Core.Bool.{Bool, true, false, cond, true≢false, false≢true}

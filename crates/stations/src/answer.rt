@@ -34,7 +34,7 @@ pub const CODE_NONE: u32 = 9;
 pub const CODE_WITHDRAWN: u32 = 11;
 
 // An answer: code, point, curve, square.
-#[derive(Drop)]
+#[derive(Clone, Copy)]
 pub struct Answer {
     pub code: u32,
     pub point: Point,
@@ -43,7 +43,7 @@ pub struct Answer {
 }
 
 // What a taking would give.
-#[derive(Drop)]
+#[derive(Clone, Copy)]
 pub enum Waiting {
     Nothing,
     Given(Answer),

@@ -20,14 +20,14 @@ pub const CONTAINS_KIND: u32 = 3;
 pub const NEAREST_KIND: u32 = 4;
 
 // The best record of a search so far; its curve is 0 where there is none.
-#[derive(Drop)]
+#[derive(Clone, Copy)]
 pub struct Best {
     pub curve: u32,
     pub point: Point,
 }
 
 // A call; `asof` is the number of changes at its submission.
-#[derive(Drop)]
+#[derive(Clone, Copy)]
 pub struct Call {
     pub kind: u32,
     pub point: Point,

@@ -7,7 +7,7 @@ use words::part::write_part;
 use words::word::get;
 
 // Changes since opening, records held, root of the tree, head and tail of the queue, and removals since opening.
-#[derive(Drop)]
+#[derive(Clone, Copy)]
 pub struct Counts {
     pub changes: u32,
     pub held: u32,

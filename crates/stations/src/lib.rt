@@ -1,4 +1,6 @@
 // The common record and the stations' records, read, checked and written.
+#![tactic(auto)]
+
 pub mod answer;
 pub mod call;
 pub mod common;

@@ -13,7 +13,7 @@ const UNFINISHED: u32 = 1;
 const WAITING: u32 = 2;
 
 // What a station is doing.
-#[derive(Drop)]
+#[derive(Clone, Copy)]
 pub struct State {
     pub word: u32,
 }

@@ -8,7 +8,7 @@ use words::word::{get, put};
 
 // Where the call stands in the tree, the phase of its search (0 down, 1 up), the removals at the submission of an unfinished nearest, and the first row freed
 // since that its search has not looked at.
-#[derive(Drop)]
+#[derive(Clone, Copy)]
 pub struct Track {
     pub cursor: u32,
     pub phase: u32,

@@ -64,6 +64,7 @@ fn begin(words: &mut [u32], s: u32, kind: u32)
 }
 
 // The target of a nearest is written for the steps that take leaves from the tree meanwhile; another call leaves it.
+#[tactic(auto, unfolding(calls::specs::Submit::aimed_words))]
 fn aim(words: &mut [u32], s: u32, kind: u32, point: Point)
     ensures { words.new ≡ aimed_words words.old s kind point }
 {

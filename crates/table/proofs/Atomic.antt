@@ -1,6 +1,6 @@
 -- Demand 3 can be met with every answer given: an index that works a search out on submission and answers each call at its first step meets it
 -- (`atomic_linear`). It touches all records at once, so the claim on what an event touches must stand beside demand 3.
-use mathlib.Core.Path.{◌≡◌, refl, sym, ◌∙◌, ap, fun_ext}
+use mathlib.Core.Path.{◌≡◌, refl, sym, ◌∙◌, ap, subst, fun_ext}
 use mathlib.Core.Logic.{◌⊎◌, inl, inr}
 use mathlib.Core.Bool.{Bool, true, false, ◌&&◌, false≢true}
 use mathlib.Core.Option.{Option, none, some}
@@ -153,7 +153,7 @@ settles_put t s i c g e = ap (λ (f : ℕ → Station). with_stations t f) (fun_
 
     go : (u : ℕ) → ((u ≡ s) × (put t.stations s x u ≡ x)) ⊎ ((¬ (u ≡ s)) × (put t.stations s x u ≡ t.stations u))
         → worked_at t u (t.stations u) ≡ worked_at v u (put t.stations s x u)
-    go u (inl y) = rw (y.1, y.0, e, worked_at, g)
+    go u (inl y) = rw y.1 (subst (λ (k : ℕ). worked_at t k (t.stations k) ≡ worked_at v k x) (sym y.0) (rw (e, worked_at, g) refl))
     go u (inr y) = rw y.1 (worked_same t v u (t.stations u) refl refl)
 
 settles : (t : Table) (s i : ℕ) (c : Call) → is_search c ≡ true → t.stations s ≡ unfinished i c none → worked t ≡ worked (set_down t s i c (answer_of t s c))

@@ -8,7 +8,7 @@ use crate::text::{Text, empty};
 use lines::line::{Line, next_line};
 
 // The text to print, how many lines there were, the position of the next frame, and whether there may be more.
-#[derive(Drop)]
+#[derive(Clone, Copy)]
 pub struct Output {
     pub text: Text,
     pub ordinal: u64,

@@ -3,7 +3,7 @@ ghost use Rattle.std.specs.Prelude.{◌≡◌, [], ◌∷◌};
 ghost use Rattle.texts.specs.Text.{text_with, Puts};
 
 // Up to 160 bytes, of which the first `len` are the text. The longest line has fewer.
-#[derive(Drop)]
+#[derive(Clone, Copy)]
 pub struct Text {
     pub bytes: [u8; 160],
     pub len: usize,

@@ -26,18 +26,18 @@ use Rattle.trees.specs.Measure.{cost, tree_left, tour_left, step_moves, progress
 use Rattle.trees.proofs.Left.{left_cost}
 use Rattle.trees.proofs.MeasureLaws.{kept_missing}
 
-module _ {places : ℕ} {h h' : Heap} {t : Option Tree} {q : List Free} {changes removals released : ℕ} {c : Choice} {asOf since : ℕ} {Then : Entry → Type 0} {s : Progress}
+module _ {places : ℕ} {h h' : Heap} {t : Option Tree} {q : List Free} {changes removals released : ℕ} {c : Choice} {as_of since : ℕ} {Then : Entry → Type 0} {s : Progress}
     (st : Store places h t q changes removals released) where
   -- an insert: at most four moves more, those of a leaf and a cut
   pub others_insert : {new : Entry} {beside : Option Leaf} {k : Cut} {a b : ℕ} (w : Inserted places h h' t q changes removals released new beside k a b) → released ≤ since
-      → Search c asOf since Then t q changes removals s
+      → Search c as_of since Then t q changes removals s
       → progress_left c.side w.tree w.queue (search_after_insert (leaf_of beside) (cut_for beside b) s) ≤ 4 + progress_left c.side t q s
   others_insert w le v =
       omega (arith, w.left c.side s.stand v.stands, kept_missing st v.missing, kept_missing w.store (w.missing since s.missed v.rest le v.missing))
 
   -- an unlink: no move more, and one look, at the record that it removed
   pub others_unlink : {l : Leaf} {sibling grand : ℕ} (w : Unlinked places h h' t q changes removals released l sibling grand)
-      → Search c asOf since Then t q changes removals s
+      → Search c as_of since Then t q changes removals s
       → progress_left c.side w.tree w.queue (search_after_unlink l.row l.parent sibling (landing c.side h l.parent l.row) s)
       ≤ step_moves + progress_left c.side t q s
   others_unlink {l} w v =
@@ -64,7 +64,7 @@ tour_count side (some t) s = go (eqb s.cursor NONE)
     go false = omega (arith, left_cost side t s, cost_count t)
 
 -- so what is left is bounded by the records held and the removals since the submission
-pub left_counted : {t : Option Tree} {q : List Free} {changes removals : ℕ} {c : Choice} {asOf since : ℕ} {Then : Entry → Type 0} {s : Progress}
-    → (v : Search c asOf since Then t q changes removals s) → search_left v ≤ 4 * count_of t + step_moves * (removals - since)
+pub left_counted : {t : Option Tree} {q : List Free} {changes removals : ℕ} {c : Choice} {as_of since : ℕ} {Then : Entry → Type 0} {s : Progress}
+    → (v : Search c as_of since Then t q changes removals s) → search_left v ≤ 4 * count_of t + step_moves * (removals - since)
 unfolding search_left
 left_counted {t} {c = c} {s = s} v = omega (arith, tour_count c.side t s.stand, v.missing.counted, v.missing.later)

@@ -10,7 +10,7 @@ use Rattle.trees.specs.Stand.{Down, Up}
 use Rattle.trees.specs.Choice.{Choice}
 use Rattle.trees.specs.Tour.{Best, Progress, pick_progress, go_to, Opens, shut, tour_down, tour_parent}
 
-module _ (c : Choice) (opens : Opens) (asOf up : ℕ) (k : Cut) (l r x missed : ℕ) (best : Option Best) where
+module _ (c : Choice) (opens : Opens) (as_of up : ℕ) (k : Cut) (l r x missed : ℕ) (best : Option Best) where
   -- down, at the cut in row x: the ways on
   abbrev near : Option Progress
   near = go_to (cond (c.side k) l r) Down missed best
@@ -22,15 +22,15 @@ module _ (c : Choice) (opens : Opens) (asOf up : ℕ) (k : Cut) (l r x missed : 
   turned = go_to x Up missed best
 
   -- to the near child where its side is open
-  pub down_near : opens x (c.side k) ≡ true → tour_down c opens asOf (cut_row up k l r) x missed best ≡ near
+  pub down_near : opens x (c.side k) ≡ true → tour_down c opens as_of (cut_row up k l r) x missed best ≡ near
   down_near n = ap (λ b. pick_progress b near (pick_progress (shut c opens k x best) turned far)) n
 
   -- else to the far child, unless its side is shut
-  pub down_far : opens x (c.side k) ≡ false → shut c opens k x best ≡ false → tour_down c opens asOf (cut_row up k l r) x missed best ≡ far
+  pub down_far : opens x (c.side k) ≡ false → shut c opens k x best ≡ false → tour_down c opens as_of (cut_row up k l r) x missed best ≡ far
   down_far n f = ap₂ (λ a b. pick_progress a near (pick_progress b turned far)) n f
 
   -- else the phase turns up
-  pub down_turn : opens x (c.side k) ≡ false → shut c opens k x best ≡ true → tour_down c opens asOf (cut_row up k l r) x missed best ≡ turned
+  pub down_turn : opens x (c.side k) ≡ false → shut c opens k x best ≡ true → tour_down c opens as_of (cut_row up k l r) x missed best ≡ turned
   down_turn n f = ap₂ (λ a b. pick_progress a near (pick_progress b turned far)) n f
 
 module _ (c : Choice) (opens : Opens) (up : ℕ) (k : Cut) (l r parent x missed : ℕ) (best : Option Best) where

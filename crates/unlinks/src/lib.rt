@@ -1,2 +1,4 @@
 // An unlinking: the move of a remove that removes a record.
+#![tactic(auto)]
+
 pub mod unlink;

@@ -17,7 +17,5 @@ pub mod LogLaws
 pub mod RefusedLaws
 -- whether the moisture is steady
 pub mod SteadyLaws
--- the state lent by `&mut`
-pub mod LentLaws
 -- examples, by computation
 pub mod Cases

@@ -5,7 +5,7 @@ ghost use Rattle.window.specs.Begin.{begin_of};
 use crate::window::{Window, length_fits};
 
 // 0 and the window begun, or the number of the refusal and the window as it was.
-#[derive(Drop)]
+#[derive(Clone, Copy)]
 pub struct Begun {
     pub number: u32,
     pub window: Window,

@@ -7,7 +7,7 @@ use crate::window::{Window, position};
 
 // A number, 0 or that of a refusal, and the four figures in 0.01 %, which are 0 with a refusal.
 #[repr(C)]
-#[derive(Drop)]
+#[derive(Clone, Copy)]
 pub struct Figures {
     pub number: u32,
     pub sum: u32,

@@ -1,4 +1,6 @@
 // Moisture over the last scans: a window of readings, and the figures of those present.
+#![tactic(auto)]
+
 pub mod begin;
 pub mod figures;
 pub mod lent;

@@ -8,7 +8,7 @@ use crate::figures::{Figures, figures_of, refused_with};
 use crate::window::{Window, is_sound, position, reading_fits};
 
 // The figures of a reading, and the window after it.
-#[derive(Drop)]
+#[derive(Clone, Copy)]
 pub struct Updated {
     pub figures: Figures,
     pub window: Window,

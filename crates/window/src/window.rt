@@ -10,7 +10,7 @@ pub const WETTEST: u32 = 10000;
 
 // Its length, how many readings are present, and these, the oldest first, with zeros behind.
 #[repr(C)]
-#[derive(Drop)]
+#[derive(Clone, Copy)]
 pub struct Window {
     pub length: u32,
     pub present: u32,

@@ -3,13 +3,13 @@ use borrow.Author.Rules.{rules}
 use Rattle.c_calls.proofs.index_open.Statement.{statement}
 use Rattle.c_calls.proofs.index_open.Tie as tie
 
-plain_scale_requires : tie.Need-plain-scale-requires
+plain_scale_requires : tie.Need-plain_scale-requires
 plain_scale_requires c κs = search rules
 
 open_requires : tie.Need-open-requires
 open_requires c κs = search rules
 
-same_length : tie.Need-same-length
+same_length : tie.Need-shape_of-words
 same_length c = search rules
 
 returns : tie.Need-returns

@@ -5,11 +5,11 @@ use Rattle.c_calls.proofs.index_report_number.Tie as tie
 use mathlib.Core.Path.{ap}
 use Rattle.calls.specs.declared.report.Report.{Report}
 
-read_report_requires : tie.Need-read-report-requires
+read_report_requires : tie.Need-read_report-report-requires
 read_report_requires c κs = search rules
 
 returns : tie.Need-returns
-returns c = ap (λ (r : Report). r.number) c.read-report.ensures
+returns c = ap (λ (r : Report). r.number) c.read_report-report.ensures
 
 pub index_report_number_spec : {M : Type 1} → statement M
 index_report_number_spec = tie.close (tie.spec read_report_requires returns)

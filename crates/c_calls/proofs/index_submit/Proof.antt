@@ -10,7 +10,7 @@ use Rattle.calls.specs.Submit.{submit_of}
 submit_requires : tie.Need-submit-requires
 submit_requires c κs = search rules
 
-same_length : tie.Need-same-length
+same_length : tie.Need-shape_of-words
 same_length c = search rules
 
 returns : tie.Need-returns

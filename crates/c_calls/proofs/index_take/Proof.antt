@@ -6,10 +6,10 @@ use Rattle.c_calls.proofs.index_take.Tie as tie
 take_requires : tie.Need-take-requires
 take_requires c κs = search rules
 
-number_of_requires : tie.Need-number-of-requires
+number_of_requires : tie.Need-number_of-requires
 number_of_requires c κs = search rules
 
-same_length : tie.Need-same-length
+same_length : tie.Need-shape_of-words
 same_length c = search rules
 
 returns : tie.Need-returns

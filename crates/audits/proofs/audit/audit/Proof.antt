@@ -11,7 +11,7 @@ use Rattle.calls.specs.Queue.{queue_in}
 use Rattle.calls.specs.Whole.{all_rows}
 use Rattle.calls.specs.Audit.{audit_of, verdict_of}
 
-is_opened_requires : tie.Need-is-opened-requires
+is_opened_requires : tie.Need-is_opened-requires
 is_opened_requires c κs = search rules
 
 tree_requires : tie.Need-tree-requires
@@ -20,25 +20,25 @@ tree_requires c κs = search rules
 queue_requires : tie.Need-queue-requires
 queue_requires c κs = search rules
 
-all_rows_requires : tie.Need-all-rows-requires
+all_rows_requires : tie.Need-all_rows-requires
 all_rows_requires c κs = search rules
 
-returns : tie.Need-returns
+returns : tie.Need-returns-then-is_opened
 unfolding verdict_of audit_of
 returns c =
     let o = c.before.before.before.before in
     let s = o.before.before.args in
     let passes : true ≡ is_opened (opened_in s.words.now) =
-    sym c.before.before.before.if1.true ∙ o.is-opened.ensures in
-    let rows = c.all-rows.ensures ∙ (λ i. all_rows s.words.now (c.before.before.tree.ensures i) (c.before.queue.ensures i)) in
+    sym c.before.before.before.if-is_opened.true ∙ o.is_opened.ensures in
+    let rows = c.all_rows.ensures ∙ (λ i. all_rows s.words.now (c.before.before.tree.ensures i) (c.before.queue.ensures i)) in
     λ i. record { number = cond (passes i) 0 not_opened; sound = cond (passes i) (rows i) false }
 
-returns_2 : tie.Need-returns-2
+returns_2 : tie.Need-returns-else-is_opened
 unfolding verdict_of audit_of
 returns_2 c =
     let o = c.before in
     let s = o.before.before.args in
-    let passes : false ≡ is_opened (opened_in s.words.now) = sym c.if1.false ∙ o.is-opened.ensures in
+    let passes : false ≡ is_opened (opened_in s.words.now) = sym c.if-is_opened.false ∙ o.is_opened.ensures in
     λ i. record { number = cond (passes i) 0 not_opened; sound = cond (passes i) (all_rows s.words.now (tree_in s.words.now) (queue_in s.words.now)) false }
 
 pub audit_spec : {M : Type 1} → statement M

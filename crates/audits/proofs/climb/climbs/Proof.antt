@@ -9,47 +9,47 @@ use Rattle.calls.specs.Climb.{climb}
 use Rattle.calls.proofs.Going.{going}
 use Rattle.calls.proofs.ClimbLaws.{climb_on, climb_end}
 
-abbrev invariant_loop : tie.invariant-loop
+abbrev invariant_loop : tie.invariant-loop-left
 invariant_loop words rows root point r parent c₀ left₀ c left =
     (c₀.sound && climb words rows root point left₀ c₀.from c₀.up) ≡ (c.sound && climb words rows root point left c.from c.up)
 
-abbrev decreases_loop : tie.decreases-loop
+abbrev decreases_loop : tie.decreases-loop-left
 decreases_loop words rows root point r parent c₀ left₀ c left = left
 
-loop_holds : tie.Need-loop-init invariant_loop decreases_loop
+loop_holds : tie.Need-loop-left-init invariant_loop decreases_loop
 loop_holds c = refl
 
-read_row_requires : tie.Need-read-row-requires invariant_loop decreases_loop
+read_row_requires : tie.Need-read_row-requires invariant_loop decreases_loop
 read_row_requires c κs = search rules
 
-over_row_requires : tie.Need-over-row-requires invariant_loop decreases_loop
+over_row_requires : tie.Need-over_row-c-requires invariant_loop decreases_loop
 over_row_requires c κs = search rules
 
-sub_left : tie.Need-overflow-sub-left invariant_loop decreases_loop
+sub_left : tie.Need-overflow_sub-left invariant_loop decreases_loop
 sub_left c =
     let l = c.before.before in
-    omega (arith, (going l.before.before.loop.left l.before.before.loop.c.up l.if1.true).0)
+    omega (arith, (going l.before.before.loop-left.left l.before.before.loop-left.c.up l.loop-left-test.true).0)
 
-loop_less : tie.Need-loop-smaller invariant_loop decreases_loop
+loop_less : tie.Need-loop-left-smaller invariant_loop decreases_loop
 loop_less c =
     let l = c.before.before in
-    omega (arith, (going l.before.before.loop.left l.before.before.loop.c.up l.if1.true).0)
+    omega (arith, (going l.before.before.loop-left.left l.before.before.loop-left.c.up l.loop-left-test.true).0)
 
-loop_again : tie.Need-loop-preserved invariant_loop decreases_loop
+loop_again : tie.Need-loop-left-preserved invariant_loop decreases_loop
 loop_again c =
     let l = c.before.before in
     let s = l.before.before.before.before.args in
-    let g = going l.before.before.loop.left l.before.before.loop.c.up l.if1.true in
-    l.before.before.loop.invariant
-    ∙ climb_on s.words.now s.rows s.root s.point l.before.before.loop.left l.before.before.loop.c c.over-row.result g.0 g.1
+    let g = going l.before.before.loop-left.left l.before.before.loop-left.c.up l.loop-left-test.true in
+    l.before.before.loop-left.invariant
+    ∙ climb_on s.words.now s.rows s.root s.point l.before.before.loop-left.left l.before.before.loop-left.c c.over_row-c.result g.0 g.1
     (cc)
 
 returns : tie.Need-returns invariant_loop decreases_loop
 returns c =
     let l = c.before.before.before.before in
     let s = l.before.before.before.args in
-    climb_end s.words.now s.rows s.root s.point l.before.loop.left l.before.loop.c c.before.before.before.if1.false
-    ∙ sym l.before.loop.invariant
+    climb_end s.words.now s.rows s.root s.point l.before.loop-left.left l.before.loop-left.c c.before.before.before.loop-left-test.false
+    ∙ sym l.before.loop-left.invariant
 
 pub climbs_spec : {M : Type 1} → statement M
 climbs_spec =

@@ -4,7 +4,7 @@ use Rattle.audits.proofs.queue.pass_removed.Statement.{statement}
 use Rattle.audits.proofs.queue.pass_removed.Tie as tie
 use mathlib.Core.Path.{sym, ◌∙◌}
 
-no_longer_requires : tie.Need-no-longer-requires
+no_longer_requires : tie.Need-no_longer-requires
 no_longer_requires c κs = search rules
 
 passed_requires : tie.Need-passed-requires
@@ -13,14 +13,14 @@ passed_requires c κs = search rules
 follows_requires : tie.Need-follows-requires
 follows_requires c κs = search rules
 
-passed_requires_2 : tie.Need-passed-requires-2
+passed_requires_2 : tie.Need-passed-requires-else-no_longer
 passed_requires_2 c κs = search rules
 
-returns : tie.Need-returns
-returns c = simp (sym c.before.before.no_longer.ensures ∙ c.before.if1.true) c.passed.ensures
+returns : tie.Need-returns-then-no_longer
+returns c = simp (sym c.before.before.no_longer.ensures ∙ c.before.if-no_longer.true) c.passed.ensures
 
-returns_2 : tie.Need-returns-2
-returns_2 c = simp (sym c.before.before.before.no_longer.ensures ∙ c.before.before.if1.false) (cc)
+returns_2 : tie.Need-returns-else-no_longer
+returns_2 c = simp (sym c.before.before.before.no_longer.ensures ∙ c.before.before.if-no_longer.false) (cc)
 
 pub pass_removed_spec : {M : Type 1} → statement M
 pass_removed_spec =

@@ -3,49 +3,49 @@ use borrow.Author.Rules.{rules}
 use Rattle.audits.proofs.queue.pass_row.Statement.{statement}
 use Rattle.audits.proofs.queue.pass_row.Tie as tie
 
-enum_told : tie.Need-enum-told
+enum_told : tie.Need-enum_told-1
 enum_told c = search rules
 
 broken_requires : tie.Need-broken-requires
 broken_requires c κs = search rules
 
-enum_known_row : tie.Need-enum-known-row
+enum_known_row : tie.Need-enum_known-row
 enum_known_row c = search rules
 
-pass_spare_requires : tie.Need-pass-spare-requires
+pass_spare_requires : tie.Need-pass_spare-requires
 pass_spare_requires c κs = search rules
 
-enum_known_row_2 : tie.Need-enum-known-row-2
+enum_known_row_2 : tie.Need-enum_known-row-in-Removed-1
 enum_known_row_2 c = search rules
 
-pass_removed_requires : tie.Need-pass-removed-requires
+pass_removed_requires : tie.Need-pass_removed-requires
 pass_removed_requires c κs = search rules
 
-enum_told_2 : tie.Need-enum-told-2
+enum_told_2 : tie.Need-enum_told-in-Leaf
 enum_told_2 c = search rules
 
-broken_requires_2 : tie.Need-broken-requires-2
+broken_requires_2 : tie.Need-broken-requires-in-Leaf
 broken_requires_2 c κs = search rules
 
-enum_told_3 : tie.Need-enum-told-3
+enum_told_3 : tie.Need-enum_told-in-Cut
 enum_told_3 c = search rules
 
-broken_requires_3 : tie.Need-broken-requires-3
+broken_requires_3 : tie.Need-broken-requires-in-Cut
 broken_requires_3 c κs = search rules
 
-returns : tie.Need-returns
+returns : tie.Need-returns-in-Bad
 returns c = cc
 
-returns_2 : tie.Need-returns-2
-returns_2 c = rw c.before.before.row.given.1 c.pass-spare.ensures
+returns_2 : tie.Need-returns-in-Spare
+returns_2 c = rw c.before.in-Spare.is c.pass_spare.ensures
 
-returns_3 : tie.Need-returns-3
-returns_3 c = rw c.before.before.row2.given.1 c.pass-removed.ensures
+returns_3 : tie.Need-returns-in-Removed
+returns_3 c = rw c.before.in-Removed.is c.pass_removed.ensures
 
-returns_4 : tie.Need-returns-4
+returns_4 : tie.Need-returns-in-Leaf
 returns_4 c = cc
 
-returns_5 : tie.Need-returns-5
+returns_5 : tie.Need-returns-in-Cut
 returns_5 c = cc
 
 pub pass_row_spec : {M : Type 1} → statement M

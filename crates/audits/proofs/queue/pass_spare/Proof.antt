@@ -3,7 +3,7 @@ use borrow.Author.Rules.{rules}
 use Rattle.audits.proofs.queue.pass_spare.Statement.{statement}
 use Rattle.audits.proofs.queue.pass_spare.Tie as tie
 
-no_longer_requires : tie.Need-no-longer-requires
+no_longer_requires : tie.Need-no_longer-requires
 no_longer_requires c κs = search rules
 
 passed_requires : tie.Need-passed-requires

@@ -7,20 +7,20 @@ use native.Mathlib.Omega.{arith}
 use borrow.Author.Tests.{le-leb, lt-leb}
 use Prim.Native.Nat.{◌+◌, ◌≤◌, ◌<◌}
 
-sub_if1 : tie.Need-overflow-sub-if1
+sub_if1 : tie.Need-overflow_sub-y
 sub_if1 c = search rules
 
-add_result : tie.Need-overflow-add-result
+add_result : tie.Need-overflow_add-result
 add_result c = search rules
 
-returns : tie.Need-returns
+returns : tie.Need-returns-then-x-y
 unfolding plus
 returns c =
     let s = c.before.args in
     let h : s.x + s.y ≤ 4294967295 = omega arith in
     simp (le-leb _ _ h)
 
-returns_2 : tie.Need-returns-2
+returns_2 : tie.Need-returns-else-x-y
 unfolding plus
 returns_2 c =
     let s = c.before.args in

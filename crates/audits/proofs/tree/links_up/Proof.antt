@@ -4,35 +4,35 @@ use Rattle.audits.proofs.tree.links_up.Statement.{statement}
 use Rattle.audits.proofs.tree.links_up.Tie as tie
 use mathlib.Core.Path.{refl}
 
-enum_told : tie.Need-enum-told
+enum_told : tie.Need-enum_told-1
 enum_told c = search rules
 
-enum_told_2 : tie.Need-enum-told-2
+enum_told_2 : tie.Need-enum_told-in-Spare
 enum_told_2 c = search rules
 
-enum_told_3 : tie.Need-enum-told-3
+enum_told_3 : tie.Need-enum_told-in-Removed
 enum_told_3 c = search rules
 
-enum_known_row : tie.Need-enum-known-row
+enum_known_row : tie.Need-enum_known-row
 enum_known_row c = search rules
 
-enum_known_row_2 : tie.Need-enum-known-row-2
+enum_known_row_2 : tie.Need-enum_known-row-in-Cut-1
 enum_known_row_2 c = search rules
 
-returns : tie.Need-returns
+returns : tie.Need-returns-in-Bad
 returns c = search rules
 
-returns_2 : tie.Need-returns-2
+returns_2 : tie.Need-returns-in-Spare
 returns_2 c = search rules
 
-returns_3 : tie.Need-returns-3
+returns_3 : tie.Need-returns-in-Removed
 returns_3 c = search rules
 
-returns_4 : tie.Need-returns-4
-returns_4 c = rw c.before.row.given.1 refl
+returns_4 : tie.Need-returns-in-Leaf
+returns_4 c = rw c.in-Leaf.is refl
 
-returns_5 : tie.Need-returns-5
-returns_5 c = rw c.before.row2.given.1 refl
+returns_5 : tie.Need-returns-in-Cut
+returns_5 c = rw c.in-Cut.is refl
 
 pub links_up_spec : {M : Type 1} → statement M
 links_up_spec =

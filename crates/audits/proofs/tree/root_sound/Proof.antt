@@ -3,10 +3,10 @@ use borrow.Author.Rules.{rules}
 use Rattle.audits.proofs.tree.root_sound.Statement.{statement}
 use Rattle.audits.proofs.tree.root_sound.Tie as tie
 
-read_row_requires : tie.Need-read-row-requires
+read_row_requires : tie.Need-read_row-requires
 read_row_requires c κs = search rules
 
-links_up_requires : tie.Need-links-up-requires
+links_up_requires : tie.Need-links_up-requires
 links_up_requires c κs = search rules
 
 returns : tie.Need-returns

@@ -4,19 +4,19 @@ use Rattle.audits.proofs.tree.tree.Statement.{statement}
 use Rattle.audits.proofs.tree.tree.Tie as tie
 use Rattle.calls.specs.Tree.{tree_in}
 
-read_counts_requires : tie.Need-read-counts-requires
+read_counts_requires : tie.Need-read_counts-root-requires
 read_counts_requires c κs = search rules
 
-rows_in_requires : tie.Need-rows-in-requires
+rows_in_requires : tie.Need-rows_in-rows-requires
 rows_in_requires c κs = search rules
 
 scan_requires : tie.Need-scan-requires
 scan_requires c κs = search rules
 
-root_sound_requires : tie.Need-root-sound-requires
+root_sound_requires : tie.Need-root_sound-requires
 root_sound_requires c κs = search rules
 
-tree_of_requires : tie.Need-tree-of-requires
+tree_of_requires : tie.Need-tree_of-requires
 tree_of_requires c κs = search rules
 
 returns : tie.Need-returns

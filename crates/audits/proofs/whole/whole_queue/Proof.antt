@@ -3,10 +3,10 @@ use borrow.Author.Rules.{rules}
 use Rattle.audits.proofs.whole.whole_queue.Statement.{statement}
 use Rattle.audits.proofs.whole.whole_queue.Tie as tie
 
-read_counts_requires : tie.Need-read-counts-requires
+read_counts_requires : tie.Need-read_counts-requires
 read_counts_requires c κs = search rules
 
-read_counts_requires_2 : tie.Need-read-counts-requires-2
+read_counts_requires_2 : tie.Need-read_counts-requires-2
 read_counts_requires_2 c κs = search rules
 
 returns : tie.Need-returns

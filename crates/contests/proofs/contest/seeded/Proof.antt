@@ -2,34 +2,34 @@ use Rattle.std.proofs.Common.{◌≡◌, ◌-◌, length, rules}
 use Rattle.contests.proofs.contest.seeded.Statement.{statement}
 use Rattle.contests.proofs.contest.seeded.Tie as tie
 
-abbrev invariant_loop : tie.invariant-loop
+abbrev invariant_loop : tie.invariant-loop-number
 invariant_loop words₀ book₀ n seeds number₀ words book number = (length words ≡ length words₀) × (length book ≡ length book₀)
 
-abbrev decreases_loop : tie.decreases-loop
+abbrev decreases_loop : tie.decreases-loop-number
 decreases_loop words₀ book₀ n seeds number₀ words book number = seeds - number
 
-loop_holds : tie.Need-loop-init invariant_loop decreases_loop
+loop_holds : tie.Need-loop-number-init invariant_loop decreases_loop
 loop_holds c = search rules
 
-add_one_contest : tie.Need-overflow-add-one-contest invariant_loop decreases_loop
+add_one_contest : tie.Need-overflow_add-number invariant_loop decreases_loop
 add_one_contest c = search rules
 
-one_contest_requires : tie.Need-one-contest-requires invariant_loop decreases_loop
+one_contest_requires : tie.Need-one_contest-requires invariant_loop decreases_loop
 one_contest_requires c κs = search rules
 
-add_number : tie.Need-overflow-add-number invariant_loop decreases_loop
+add_number : tie.Need-overflow_step-number invariant_loop decreases_loop
 add_number c = search rules
 
-loop_less : tie.Need-loop-smaller invariant_loop decreases_loop
+loop_less : tie.Need-loop-number-smaller invariant_loop decreases_loop
 loop_less c = search rules
 
-loop_again : tie.Need-loop-preserved invariant_loop decreases_loop
+loop_again : tie.Need-loop-number-preserved invariant_loop decreases_loop
 loop_again c = search rules
 
-same_length : tie.Need-same-length invariant_loop decreases_loop
+same_length : tie.Need-shape_of-words invariant_loop decreases_loop
 same_length c = search rules
 
-same_length_2 : tie.Need-same-length-2 invariant_loop decreases_loop
+same_length_2 : tie.Need-shape_of-book invariant_loop decreases_loop
 same_length_2 c = search rules
 
 returns : tie.Need-returns invariant_loop decreases_loop

@@ -2,37 +2,37 @@ use Rattle.std.proofs.Common.{◌≡◌, ◌-◌, length, rules}
 use Rattle.contests.proofs.hindered.remove_all.Statement.{statement}
 use Rattle.contests.proofs.hindered.remove_all.Tie as tie
 
-abbrev invariant_loop : tie.invariant-loop
+abbrev invariant_loop : tie.invariant-loop-n
 invariant_loop words₀ book₀ s -n₀ -n-end words book -n = (length words ≡ length words₀) × (length book ≡ length book₀)
 
-abbrev decreases_loop : tie.decreases-loop
+abbrev decreases_loop : tie.decreases-loop-n
 decreases_loop words₀ book₀ s -n₀ -n-end words book -n = -n-end - -n
 
-get_requires : tie.Need-get-requires invariant_loop decreases_loop
+get_requires : tie.Need-get-n-end-requires invariant_loop decreases_loop
 get_requires c κs = search rules
 
-loop_holds : tie.Need-loop-init invariant_loop decreases_loop
+loop_holds : tie.Need-loop-n-init invariant_loop decreases_loop
 loop_holds c = search rules
 
-remove_last_requires : tie.Need-remove-last-requires invariant_loop decreases_loop
+remove_last_requires : tie.Need-remove_last-requires invariant_loop decreases_loop
 remove_last_requires c κs = search rules
 
-add--n : tie.Need-overflow-add--n invariant_loop decreases_loop
+add--n : tie.Need-overflow_step-n invariant_loop decreases_loop
 add--n c = search rules
 
-loop_less : tie.Need-loop-smaller invariant_loop decreases_loop
+loop_less : tie.Need-loop-n-smaller invariant_loop decreases_loop
 loop_less c = search rules
 
-loop_again : tie.Need-loop-preserved invariant_loop decreases_loop
+loop_again : tie.Need-loop-n-preserved invariant_loop decreases_loop
 loop_again c = search rules
 
-judge_event_requires : tie.Need-judge-event-requires invariant_loop decreases_loop
+judge_event_requires : tie.Need-judge_event-requires invariant_loop decreases_loop
 judge_event_requires c κs = search rules
 
-same_length : tie.Need-same-length invariant_loop decreases_loop
+same_length : tie.Need-shape_of-words invariant_loop decreases_loop
 same_length c = search rules
 
-same_length_2 : tie.Need-same-length-2 invariant_loop decreases_loop
+same_length_2 : tie.Need-shape_of-book invariant_loop decreases_loop
 same_length_2 c = search rules
 
 returns : tie.Need-returns invariant_loop decreases_loop

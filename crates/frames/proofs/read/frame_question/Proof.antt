@@ -4,22 +4,22 @@ use Rattle.frames.proofs.read.frame_question.Statement.{statement}
 use Rattle.frames.proofs.read.frame_question.Tie as tie
 use Rattle.frames.specs.Read.{frame_question}
 
-own_length_requires : tie.Need-own-length-requires
+own_length_requires : tie.Need-own_length-requires
 own_length_requires c κs = search rules
 
-pick_requires : tie.Need-pick-requires
+pick_requires : tie.Need-pick-fifteenth-requires
 pick_requires c κs = search rules
 
-has_kind_requires : tie.Need-has-kind-requires
+has_kind_requires : tie.Need-has_kind-requires
 has_kind_requires c κs = search rules
 
-pick_requires_2 : tie.Need-pick-requires-2
+pick_requires_2 : tie.Need-pick-fourteenth-requires
 pick_requires_2 c κs = search rules
 
-is_whole_requires : tie.Need-is-whole-requires
+is_whole_requires : tie.Need-is_whole-requires
 is_whole_requires c κs = search rules
 
-pick_requires_3 : tie.Need-pick-requires-3
+pick_requires_3 : tie.Need-pick-requires
 pick_requires_3 c κs = search rules
 
 returns : tie.Need-returns

@@ -4,13 +4,13 @@ use Rattle.frames.proofs.read.has_kind.Statement.{statement}
 use Rattle.frames.proofs.read.has_kind.Tie as tie
 use Rattle.frames.specs.Read.{has_kind}
 
-two_at_requires : tie.Need-two-at-requires
+two_at_requires : tie.Need-two_at-requires
 two_at_requires c κs = search rules
 
-is_kind_requires : tie.Need-is-kind-requires
+is_kind_requires : tie.Need-is_kind-known-requires
 is_kind_requires c κs = search rules
 
-two_at_requires_2 : tie.Need-two-at-requires-2
+two_at_requires_2 : tie.Need-two_at-requires-2
 two_at_requires_2 c κs = search rules
 
 returns : tie.Need-returns

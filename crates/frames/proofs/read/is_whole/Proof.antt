@@ -4,10 +4,10 @@ use Rattle.frames.proofs.read.is_whole.Statement.{statement}
 use Rattle.frames.proofs.read.is_whole.Tie as tie
 use Rattle.frames.specs.Read.{is_whole}
 
-two_at_requires : tie.Need-two-at-requires
+two_at_requires : tie.Need-two_at-requires
 two_at_requires c κs = search rules
 
-size_of_requires : tie.Need-size-of-requires
+size_of_requires : tie.Need-size_of-requires
 size_of_requires c κs = search rules
 
 returns : tie.Need-returns

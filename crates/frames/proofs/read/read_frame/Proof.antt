@@ -12,31 +12,31 @@ use lib.ListN.{length, drop, length-drop}
 use lib.Seq.{take_all}
 use Rattle.frames.specs.Read.{read_rest}
 
-sub_read_rest : tie.Need-overflow-sub-read-rest
+sub_read_rest : tie.Need-slice_bounds-read_rest-count
 sub_read_rest c = search rules
 
-part_read_rest_start : tie.Need-slice-bounds-read-rest-start
+part_read_rest_start : tie.Need-slice_bounds-read_rest-start
 part_read_rest_start c = search rules
 
-part_read_rest_end : tie.Need-slice-bounds-read-rest-end
+part_read_rest_end : tie.Need-slice_bounds-read_rest-end
 part_read_rest_end c = search rules
 
-read_rest_requires : tie.Need-read-rest-requires
+read_rest_requires : tie.Need-read_rest-requires
 read_rest_requires c κs = search rules
 
-returns : tie.Need-returns
+returns : tie.Need-returns-then-at-bytes
 unfolding read_of
 returns c =
     let start = c.before.before.before.before in
     let bytes = start.args.bytes.now in
     let at = start.args.at in
-    simp (lt-ltb _ _ c.before.before.if1.true)
-    (c.read-rest.ensures
+    simp (lt-ltb _ _ c.before.before.if-at-bytes.true)
+    (c.read_rest.ensures
     ∙ ap (λ (rest : List ℕ). read_rest rest at) (take_all (length bytes - at) (drop at bytes) (omega (arith, length-drop at bytes))))
 
-returns_2 : tie.Need-returns-2
+returns_2 : tie.Need-returns-else-at-bytes
 unfolding read_of
-returns_2 c = simp (le-ltb _ _ c.if1.false)
+returns_2 c = simp (le-ltb _ _ c.if-at-bytes.false)
 
 pub read_frame_spec : {M : Type 1} → statement M
 read_frame_spec =

@@ -3,7 +3,7 @@ use borrow.Author.Rules.{rules}
 use Rattle.frames.proofs.shape.is_kind.Statement.{statement}
 use Rattle.frames.proofs.shape.is_kind.Tie as tie
 
-length_of_requires : tie.Need-length-of-requires
+length_of_requires : tie.Need-length_of-requires
 length_of_requires c κs = search rules
 
 returns : tie.Need-returns

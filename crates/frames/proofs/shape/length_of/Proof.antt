@@ -3,33 +3,33 @@ use Rattle.frames.proofs.shape.length_of.Statement.{statement}
 use Rattle.frames.proofs.shape.length_of.Tie as tie
 use borrow.Author.Tests.{ne_eqb}
 
-returns : tie.Need-returns
-returns c = rw c.match.keys1
+returns : tie.Need-returns-in-1
+returns c = rw c.in-1.is
 
-returns_2 : tie.Need-returns-2
-returns_2 c = rw c.match.keys2
+returns_2 : tie.Need-returns-in-2
+returns_2 c = rw c.in-2.is
 
-returns_3 : tie.Need-returns-3
-returns_3 c = rw c.match.keys3
+returns_3 : tie.Need-returns-in-3
+returns_3 c = rw c.in-3.is
 
-returns_4 : tie.Need-returns-4
-returns_4 c = rw c.match.keys4
+returns_4 : tie.Need-returns-in-4
+returns_4 c = rw c.in-4.is
 
-returns_5 : tie.Need-returns-5
-returns_5 c = rw c.match.keys5
+returns_5 : tie.Need-returns-in-5
+returns_5 c = rw c.in-5.is
 
-returns_6 : tie.Need-returns-6
-returns_6 c = rw c.match.keys6
+returns_6 : tie.Need-returns-in-6
+returns_6 c = rw c.in-6.is
 
-returns_7 : tie.Need-returns-7
-returns_7 c = rw c.match.keys7
+returns_7 : tie.Need-returns-in-7
+returns_7 c = rw c.in-7.is
 
-returns_8 : tie.Need-returns-8
-returns_8 c = rw c.match.keys8
+returns_8 : tie.Need-returns-in-8
+returns_8 c = rw c.in-8.is
 
-returns_9 : tie.Need-returns-9
+returns_9 : tie.Need-returns-in_default
 returns_9 c =
-    let r = c.match.rest in
+    let r = c.in_default.in_default-own.rest in
     simp (
       ne_eqb _ _ r.0.0.0.0.0.0.0.1,
       ne_eqb _ _ r.0.0.0.0.0.0.1,

@@ -8,7 +8,7 @@ returns : tie.Need-returns
 unfolding submission_from
 returns c =
     let f = c.before.args.fields in
-    let told = c.struct_told.given.1.1.1.1.1.1.1 in
+    let told = c.struct_told-1.given.1.1.1.1.1.1.1 in
     λ i. record {
       station = f.station;
       kind = f.call;

@@ -4,19 +4,19 @@ use Rattle.inserts.proofs.insert.count.Statement.{statement}
 use Rattle.inserts.proofs.insert.count.Tie as tie
 use Rattle.calls.specs.Insert.{insert_counts}
 
-read_counts_requires : tie.Need-read-counts-requires
+read_counts_requires : tie.Need-read_counts-counts-requires
 read_counts_requires c κs = search rules
 
 counted_requires : tie.Need-counted-requires
 counted_requires c κs = search rules
 
-write_counts_requires : tie.Need-write-counts-requires
+write_counts_requires : tie.Need-write_counts-requires
 write_counts_requires c κs = search rules
 
-count_change_requires : tie.Need-count-change-requires
+count_change_requires : tie.Need-count_change-requires
 count_change_requires c κs = search rules
 
-same_length : tie.Need-same-length
+same_length : tie.Need-shape_of-words
 same_length c = search rules
 
 returns : tie.Need-returns

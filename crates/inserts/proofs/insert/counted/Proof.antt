@@ -10,10 +10,10 @@ more_requires c κs = search rules
 more_requires_2 : tie.Need-more-requires-2
 more_requires_2 c κs = search rules
 
-root_after_requires : tie.Need-root-after-requires
+root_after_requires : tie.Need-root_after-requires
 root_after_requires c κs = search rules
 
-head_after_requires : tie.Need-head-after-requires
+head_after_requires : tie.Need-head_after-requires
 head_after_requires c κs = search rules
 
 returns : tie.Need-returns

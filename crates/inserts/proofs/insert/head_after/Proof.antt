@@ -4,10 +4,10 @@ use Rattle.inserts.proofs.insert.head_after.Statement.{statement}
 use Rattle.inserts.proofs.insert.head_after.Tie as tie
 use Rattle.calls.specs.Insert.{insert_head}
 
-next_of_requires : tie.Need-next-of-requires
+next_of_requires : tie.Need-next_of-requires
 next_of_requires c κs = search rules
 
-next_of_requires_2 : tie.Need-next-of-requires-2
+next_of_requires_2 : tie.Need-next_of-requires-2
 next_of_requires_2 c κs = search rules
 
 pick_requires : tie.Need-pick-requires

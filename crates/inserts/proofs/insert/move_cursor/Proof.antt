@@ -4,16 +4,16 @@ use Rattle.inserts.proofs.insert.move_cursor.Statement.{statement}
 use Rattle.inserts.proofs.insert.move_cursor.Tie as tie
 use Rattle.calls.specs.Insert.{cursor_moved}
 
-read_track_requires : tie.Need-read-track-requires
+read_track_requires : tie.Need-read_track-track-requires
 read_track_requires c κs = search rules
 
-cursor_to_requires : tie.Need-cursor-to-requires
+cursor_to_requires : tie.Need-cursor_to-requires
 cursor_to_requires c κs = search rules
 
-write_track_requires : tie.Need-write-track-requires
+write_track_requires : tie.Need-write_track-requires
 write_track_requires c κs = search rules
 
-same_length : tie.Need-same-length
+same_length : tie.Need-shape_of-words
 same_length c = search rules
 
 returns : tie.Need-returns

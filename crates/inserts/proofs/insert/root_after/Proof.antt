@@ -4,10 +4,10 @@ use Rattle.inserts.proofs.insert.root_after.Statement.{statement}
 use Rattle.inserts.proofs.insert.root_after.Tie as tie
 use Rattle.calls.specs.Insert.{insert_root}
 
-pick_requires : tie.Need-pick-requires
+pick_requires : tie.Need-pick-top-requires
 pick_requires c κs = search rules
 
-pick_requires_2 : tie.Need-pick-requires-2
+pick_requires_2 : tie.Need-pick-requires
 pick_requires_2 c κs = search rules
 
 returns : tie.Need-returns

@@ -6,7 +6,7 @@ use mir.Facts.{to_z_pos}
 use mir.Syntax.{w32}
 use native.Mathlib.Omega.{arith}
 
-cast_result : tie.Need-overflow-cast-result
+cast_result : tie.Need-overflow_cast-result
 cast_result c = search rules
 
 returns : tie.Need-returns

@@ -4,16 +4,16 @@ use Rattle.lines.proofs.apply.scale_of.Statement.{statement}
 use Rattle.lines.proofs.apply.scale_of.Tie as tie
 use Rattle.lines.specs.Apply.{scale_of}
 
-pair_as_word_requires : tie.Need-pair-as-word-requires
+pair_as_word_requires : tie.Need-pair_as_word-requires
 pair_as_word_requires c κs = search rules
 
-pair_as_word_requires_2 : tie.Need-pair-as-word-requires-2
+pair_as_word_requires_2 : tie.Need-pair_as_word-requires-2
 pair_as_word_requires_2 c κs = search rules
 
-pair_as_word_requires_3 : tie.Need-pair-as-word-requires-3
+pair_as_word_requires_3 : tie.Need-pair_as_word-requires-3
 pair_as_word_requires_3 c κs = search rules
 
-pair_as_word_requires_4 : tie.Need-pair-as-word-requires-4
+pair_as_word_requires_4 : tie.Need-pair_as_word-requires-4
 pair_as_word_requires_4 c κs = search rules
 
 returns : tie.Need-returns

@@ -4,19 +4,19 @@ use Rattle.lines.proofs.apply.submit_all.Statement.{statement}
 use Rattle.lines.proofs.apply.submit_all.Tie as tie
 use Rattle.lines.specs.Apply.{submission_reply}
 
-byte_as_word_requires : tie.Need-byte-as-word-requires
+byte_as_word_requires : tie.Need-byte_as_word-requires
 byte_as_word_requires c κs = search rules
 
-byte_as_word_requires_2 : tie.Need-byte-as-word-requires-2
+byte_as_word_requires_2 : tie.Need-byte_as_word-requires-2
 byte_as_word_requires_2 c κs = search rules
 
-point_of_requires : tie.Need-point-of-requires
+point_of_requires : tie.Need-point_of-requires
 point_of_requires c κs = search rules
 
 submit_requires : tie.Need-submit-requires
 submit_requires c κs = search rules
 
-same_length : tie.Need-same-length
+same_length : tie.Need-shape_of-words
 same_length c = search rules
 
 returns : tie.Need-returns

@@ -7,10 +7,10 @@ use Rattle.calls.specs.Answer.{let_go}
 nowhere_requires : tie.Need-nowhere-requires
 nowhere_requires c κs = search rules
 
-write_track_requires : tie.Need-write-track-requires
+write_track_requires : tie.Need-write_track-requires
 write_track_requires c κs = search rules
 
-same_length : tie.Need-same-length
+same_length : tie.Need-shape_of-words
 same_length c = search rules
 
 returns : tie.Need-returns

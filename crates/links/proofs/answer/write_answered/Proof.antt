@@ -4,22 +4,22 @@ use Rattle.links.proofs.answer.write_answered.Statement.{statement}
 use Rattle.links.proofs.answer.write_answered.Tie as tie
 use Rattle.calls.specs.Answer.{answered_words}
 
-read_state_requires : tie.Need-read-state-requires
+read_state_requires : tie.Need-read_state-state-requires
 read_state_requires c κs = search rules
 
-write_answer_requires : tie.Need-write-answer-requires
+write_answer_requires : tie.Need-write_answer-requires
 write_answer_requires c κs = search rules
 
 answered_requires : tie.Need-answered-requires
 answered_requires c κs = search rules
 
-write_state_requires : tie.Need-write-state-requires
+write_state_requires : tie.Need-write_state-requires
 write_state_requires c κs = search rules
 
-let_go_requires : tie.Need-let-go-requires
+let_go_requires : tie.Need-let_go-requires
 let_go_requires c κs = search rules
 
-same_length : tie.Need-same-length
+same_length : tie.Need-shape_of-words
 same_length c = search rules
 
 returns : tie.Need-returns

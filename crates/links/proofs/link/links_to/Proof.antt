@@ -3,35 +3,35 @@ use borrow.Author.Rules.{rules}
 use Rattle.links.proofs.link.links_to.Statement.{statement}
 use Rattle.links.proofs.link.links_to.Tie as tie
 
-enum_told : tie.Need-enum-told
+enum_told : tie.Need-enum_told-1
 enum_told c = search rules
 
-enum_told_2 : tie.Need-enum-told-2
+enum_told_2 : tie.Need-enum_told-in-Spare
 enum_told_2 c = search rules
 
-enum_told_3 : tie.Need-enum-told-3
+enum_told_3 : tie.Need-enum_told-in-Removed
 enum_told_3 c = search rules
 
-enum_told_4 : tie.Need-enum-told-4
+enum_told_4 : tie.Need-enum_told-in-Leaf
 enum_told_4 c = search rules
 
-enum_known_row : tie.Need-enum-known-row
+enum_known_row : tie.Need-enum_known-row
 enum_known_row c = search rules
 
-returns : tie.Need-returns
+returns : tie.Need-returns-in-Bad
 returns c = search rules
 
-returns_2 : tie.Need-returns-2
+returns_2 : tie.Need-returns-in-Spare
 returns_2 c = search rules
 
-returns_3 : tie.Need-returns-3
+returns_3 : tie.Need-returns-in-Removed
 returns_3 c = search rules
 
-returns_4 : tie.Need-returns-4
+returns_4 : tie.Need-returns-in-Leaf
 returns_4 c = search rules
 
-returns_5 : tie.Need-returns-5
-returns_5 c = rw c.before.row.given.1
+returns_5 : tie.Need-returns-in-Cut
+returns_5 c = rw c.in-Cut.is
 
 pub links_to_spec : {M : Type 1} → statement M
 links_to_spec =

@@ -3,34 +3,34 @@ use Rattle.lone_calls.proofs.opened.begins_with.Statement.{statement}
 use Rattle.lone_calls.proofs.opened.begins_with.Tie as tie
 use Prim.Native.Nat.{◌-◌}
 
-abbrev invariant_loop : tie.invariant-loop
+abbrev invariant_loop : tie.invariant-loop-i
 invariant_loop bytes start i₀ i-end i = Unit {0}
 
-abbrev decreases_loop : tie.decreases-loop
+abbrev decreases_loop : tie.decreases-loop-i
 decreases_loop bytes start i₀ i-end i = i-end - i
 
-loop_holds : tie.Need-loop-init invariant_loop decreases_loop
+loop_holds : tie.Need-loop-i-init invariant_loop decreases_loop
 loop_holds c = search rules
 
 byte_requires : tie.Need-byte-requires invariant_loop decreases_loop
 byte_requires c κs = search rules
 
-byte_requires_2 : tie.Need-byte-requires-2 invariant_loop decreases_loop
+byte_requires_2 : tie.Need-byte-requires-in-loop-i invariant_loop decreases_loop
 byte_requires_2 c κs = search rules
 
-returns : tie.Need-returns invariant_loop decreases_loop
+returns : tie.Need-returns-then-byte invariant_loop decreases_loop
 returns c = search rules
 
-add_i : tie.Need-overflow-add-i invariant_loop decreases_loop
+add_i : tie.Need-overflow_step-i invariant_loop decreases_loop
 add_i c = search rules
 
-loop_less : tie.Need-loop-smaller invariant_loop decreases_loop
+loop_less : tie.Need-loop-i-smaller invariant_loop decreases_loop
 loop_less c = search rules
 
-loop_again : tie.Need-loop-preserved invariant_loop decreases_loop
+loop_again : tie.Need-loop-i-preserved invariant_loop decreases_loop
 loop_again c = search rules
 
-returns_2 : tie.Need-returns-2 invariant_loop decreases_loop
+returns_2 : tie.Need-returns invariant_loop decreases_loop
 returns_2 c = search rules
 
 pub begins_with_spec : {M : Type 1} → statement M

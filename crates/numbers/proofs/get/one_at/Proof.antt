@@ -3,10 +3,10 @@ use borrow.Author.Rules.{rules}
 use Rattle.numbers.proofs.get.one_at.Statement.{statement}
 use Rattle.numbers.proofs.get.one_at.Tie as tie
 
-byte_as_count_requires : tie.Need-byte-as-count-requires
+byte_as_count_requires : tie.Need-byte_as_count-requires
 byte_as_count_requires c κs = search rules
 
-byte_at_requires : tie.Need-byte-at-requires
+byte_at_requires : tie.Need-byte_at-requires
 byte_at_requires c κs = search rules
 
 returns : tie.Need-returns

@@ -4,43 +4,43 @@ use Rattle.numbers.proofs.put.put_four.Statement.{statement}
 use Rattle.numbers.proofs.put.put_four.Tie as tie
 use Rattle.numbers.specs.Bytes.{put_number}
 
-byte_as_count_requires : tie.Need-byte-as-count-requires
+byte_as_count_requires : tie.Need-byte_as_count-first-requires
 byte_as_count_requires c κs = search rules
 
-add_second : tie.Need-overflow-add-second
+add_second : tie.Need-overflow_add-second
 add_second c = search rules
 
-add_third : tie.Need-overflow-add-third
+add_third : tie.Need-overflow_add-third
 add_third c = search rules
 
-add_fourth : tie.Need-overflow-add-fourth
+add_fourth : tie.Need-overflow_add-fourth
 add_fourth c = search rules
 
-low_byte_requires : tie.Need-low-byte-requires
+low_byte_requires : tie.Need-low_byte-requires
 low_byte_requires c κs = search rules
 
-put_byte_requires : tie.Need-put-byte-requires
+put_byte_requires : tie.Need-put_byte-requires
 put_byte_requires c κs = search rules
 
-low_byte_requires_2 : tie.Need-low-byte-requires-2
+low_byte_requires_2 : tie.Need-low_byte-requires-2
 low_byte_requires_2 c κs = search rules
 
-put_byte_requires_2 : tie.Need-put-byte-requires-2
+put_byte_requires_2 : tie.Need-put_byte-requires-2
 put_byte_requires_2 c κs = search rules
 
-low_byte_requires_3 : tie.Need-low-byte-requires-3
+low_byte_requires_3 : tie.Need-low_byte-requires-3
 low_byte_requires_3 c κs = search rules
 
-put_byte_requires_3 : tie.Need-put-byte-requires-3
+put_byte_requires_3 : tie.Need-put_byte-requires-3
 put_byte_requires_3 c κs = search rules
 
-low_byte_requires_4 : tie.Need-low-byte-requires-4
+low_byte_requires_4 : tie.Need-low_byte-requires-4
 low_byte_requires_4 c κs = search rules
 
-put_byte_requires_4 : tie.Need-put-byte-requires-4
+put_byte_requires_4 : tie.Need-put_byte-requires-4
 put_byte_requires_4 c κs = search rules
 
-same_length : tie.Need-same-length
+same_length : tie.Need-shape_of-bytes
 same_length c = search rules
 
 returns : tie.Need-returns

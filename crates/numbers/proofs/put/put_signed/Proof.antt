@@ -8,10 +8,10 @@ use mir.Facts.{to_z-of_z}
 unsigned_requires : tie.Need-unsigned-requires
 unsigned_requires c κs = search rules
 
-put_four_requires : tie.Need-put-four-requires
+put_four_requires : tie.Need-put_four-requires
 put_four_requires c κs = search rules
 
-same_length : tie.Need-same-length
+same_length : tie.Need-shape_of-bytes
 same_length c = search rules
 
 returns : tie.Need-returns

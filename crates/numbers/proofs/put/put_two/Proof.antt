@@ -4,28 +4,28 @@ use Rattle.numbers.proofs.put.put_two.Statement.{statement}
 use Rattle.numbers.proofs.put.put_two.Tie as tie
 use Rattle.numbers.specs.Bytes.{put_number}
 
-byte_as_count_requires : tie.Need-byte-as-count-requires
+byte_as_count_requires : tie.Need-byte_as_count-first-requires
 byte_as_count_requires c κs = search rules
 
-pair_as_word_requires : tie.Need-pair-as-word-requires
+pair_as_word_requires : tie.Need-pair_as_word-whole-requires
 pair_as_word_requires c κs = search rules
 
-low_byte_requires : tie.Need-low-byte-requires
+low_byte_requires : tie.Need-low_byte-requires
 low_byte_requires c κs = search rules
 
-put_byte_requires : tie.Need-put-byte-requires
+put_byte_requires : tie.Need-put_byte-requires
 put_byte_requires c κs = search rules
 
-add_put_byte : tie.Need-overflow-add-put-byte
+add_put_byte : tie.Need-overflow_add-first
 add_put_byte c = search rules
 
-low_byte_requires_2 : tie.Need-low-byte-requires-2
+low_byte_requires_2 : tie.Need-low_byte-requires-2
 low_byte_requires_2 c κs = search rules
 
-put_byte_requires_2 : tie.Need-put-byte-requires-2
+put_byte_requires_2 : tie.Need-put_byte-requires-2
 put_byte_requires_2 c κs = search rules
 
-same_length : tie.Need-same-length
+same_length : tie.Need-shape_of-bytes
 same_length c = search rules
 
 returns : tie.Need-returns

@@ -4,10 +4,10 @@ use Rattle.openings.proofs.open.new_counts.Statement.{statement}
 use Rattle.openings.proofs.open.new_counts.Tie as tie
 use Rattle.calls.specs.Open.{new_counts}
 
-mul_t2 : tie.Need-overflow-mul-t2
+mul_t2 : tie.Need-overflow_mul-result
 mul_t2 c = search rules
 
-sub_t3 : tie.Need-overflow-sub-t3
+sub_t3 : tie.Need-overflow_sub-result
 sub_t3 c = search rules
 
 returns : tie.Need-returns

@@ -4,22 +4,22 @@ use Rattle.openings.proofs.open.open_words.Statement.{statement}
 use Rattle.openings.proofs.open.open_words.Tie as tie
 use Rattle.calls.specs.Open.{opened_words}
 
-clear_records_requires : tie.Need-clear-records-requires
+clear_records_requires : tie.Need-clear_records-requires
 clear_records_requires c κs = search rules
 
-write_head_requires : tie.Need-write-head-requires
+write_head_requires : tie.Need-write_head-requires
 write_head_requires c κs = search rules
 
-clear_tracks_requires : tie.Need-clear-tracks-requires
+clear_tracks_requires : tie.Need-clear_tracks-requires
 clear_tracks_requires c κs = search rules
 
-mul_spare_rows : tie.Need-overflow-mul-spare-rows
+mul_spare_rows : tie.Need-overflow_mul-places
 mul_spare_rows c = search rules
 
-spare_rows_requires : tie.Need-spare-rows-requires
+spare_rows_requires : tie.Need-spare_rows-requires
 spare_rows_requires c κs = search rules
 
-same_length : tie.Need-same-length
+same_length : tie.Need-shape_of-words
 same_length c = search rules
 
 returns : tie.Need-returns

@@ -20,46 +20,46 @@ one_more : (rows n : ℕ) (words : List ℕ) → rows_spare rows (n + 1) words �
 unfolding rows_spare
 one_more rows n words = ap (λ (k : ℕ). rows_spare rows k words) (add-one n)
 
-abbrev invariant_loop : tie.invariant-loop
+abbrev invariant_loop : tie.invariant-loop-r
 invariant_loop words₀ rows r₀ words r = (r ≤ rows) × (length words ≡ length words₀) × (words ≡ rows_spare rows r words₀)
 
-abbrev decreases_loop : tie.decreases-loop
+abbrev decreases_loop : tie.decreases-loop-r
 decreases_loop words₀ rows r₀ words r = rows - r
 
-loop_holds : tie.Need-loop-init invariant_loop decreases_loop
+loop_holds : tie.Need-loop-r-init invariant_loop decreases_loop
 unfolding rows_spare
 loop_holds c = (omega arith, refl, refl)
 
-add_pick : tie.Need-overflow-add-pick invariant_loop decreases_loop
+add_pick : tie.Need-overflow_add-r invariant_loop decreases_loop
 add_pick c = omega arith
 
-add_pick_2 : tie.Need-overflow-add-pick-2 invariant_loop decreases_loop
+add_pick_2 : tie.Need-overflow_add-r-in-loop-r invariant_loop decreases_loop
 add_pick_2 c = omega arith
 
-pick_requires : tie.Need-pick-requires invariant_loop decreases_loop
+pick_requires : tie.Need-pick-next-requires invariant_loop decreases_loop
 pick_requires c κs = search rules
 
-write_row_requires : tie.Need-write-row-requires invariant_loop decreases_loop
+write_row_requires : tie.Need-write_row-requires invariant_loop decreases_loop
 write_row_requires c κs = search rules
 
-add_r : tie.Need-overflow-add-r invariant_loop decreases_loop
+add_r : tie.Need-overflow_add-r-in-loop-r-2 invariant_loop decreases_loop
 add_r c = omega arith
 
-loop_less : tie.Need-loop-smaller invariant_loop decreases_loop
+loop_less : tie.Need-loop-r-smaller invariant_loop decreases_loop
 loop_less c = omega arith
 
-loop_again : tie.Need-loop-preserved invariant_loop decreases_loop
+loop_again : tie.Need-loop-r-preserved invariant_loop decreases_loop
 loop_again c =
     let l = c.before.before.before.before.before.before in
     let a = l.before.before.args in
-    (omega arith, search rules, cc (one_more a.rows l.loop.r a.words.now))
+    (omega arith, search rules, cc (one_more a.rows l.loop-r.r a.words.now))
 
-same_length : tie.Need-same-length invariant_loop decreases_loop
+same_length : tie.Need-shape_of-words invariant_loop decreases_loop
 same_length c = omega arith
 
 returns : tie.Need-returns invariant_loop decreases_loop
 returns c =
-    let l = c.before.loop in
+    let l = c.before.loop-r in
     let all : l.r ≡ c.before.before.before.args.rows = omega arith in
     cc
 

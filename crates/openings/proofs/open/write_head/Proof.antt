@@ -4,16 +4,16 @@ use Rattle.openings.proofs.open.write_head.Statement.{statement}
 use Rattle.openings.proofs.open.write_head.Tie as tie
 use Rattle.calls.specs.Open.{head_words}
 
-write_opening_requires : tie.Need-write-opening-requires
+write_opening_requires : tie.Need-write_opening-requires
 write_opening_requires c κs = search rules
 
-new_counts_requires : tie.Need-new-counts-requires
+new_counts_requires : tie.Need-new_counts-requires
 new_counts_requires c κs = search rules
 
-write_counts_requires : tie.Need-write-counts-requires
+write_counts_requires : tie.Need-write_counts-requires
 write_counts_requires c κs = search rules
 
-same_length : tie.Need-same-length
+same_length : tie.Need-shape_of-words
 same_length c = search rules
 
 returns : tie.Need-returns

@@ -2,10 +2,10 @@ use Rattle.std.proofs.Common.{◌≡◌, ◌-◌, length, rules}
 use Rattle.plain_list.proofs.opening.begin.Statement.{statement}
 use Rattle.plain_list.proofs.opening.begin.Tie as tie
 
-abbrev invariant_loop : tie.invariant-loop
+abbrev invariant_loop : tie.invariant-loop-s
 invariant_loop book₀ places limit s₀ book s = (length book ≡ length book₀)
 
-abbrev decreases_loop : tie.decreases-loop
+abbrev decreases_loop : tie.decreases-loop-s
 decreases_loop book₀ places limit s₀ book s = 8 - s
 
 put_requires : tie.Need-put-requires invariant_loop decreases_loop
@@ -14,7 +14,7 @@ put_requires c κs = search rules
 put_requires_2 : tie.Need-put-requires-2 invariant_loop decreases_loop
 put_requires_2 c κs = search rules
 
-put_scale_requires : tie.Need-put-scale-requires invariant_loop decreases_loop
+put_scale_requires : tie.Need-put_scale-requires invariant_loop decreases_loop
 put_scale_requires c κs = search rules
 
 put_requires_3 : tie.Need-put-requires-3 invariant_loop decreases_loop
@@ -23,22 +23,22 @@ put_requires_3 c κs = search rules
 put_requires_4 : tie.Need-put-requires-4 invariant_loop decreases_loop
 put_requires_4 c κs = search rules
 
-loop_holds : tie.Need-loop-init invariant_loop decreases_loop
+loop_holds : tie.Need-loop-s-init invariant_loop decreases_loop
 loop_holds c = search rules
 
-begin_station_requires : tie.Need-begin-station-requires invariant_loop decreases_loop
+begin_station_requires : tie.Need-begin_station-requires invariant_loop decreases_loop
 begin_station_requires c κs = search rules
 
-add_s : tie.Need-overflow-add-s invariant_loop decreases_loop
+add_s : tie.Need-overflow_step-s invariant_loop decreases_loop
 add_s c = search rules
 
-loop_less : tie.Need-loop-smaller invariant_loop decreases_loop
+loop_less : tie.Need-loop-s-smaller invariant_loop decreases_loop
 loop_less c = search rules
 
-loop_again : tie.Need-loop-preserved invariant_loop decreases_loop
+loop_again : tie.Need-loop-s-preserved invariant_loop decreases_loop
 loop_again c = search rules
 
-same_length : tie.Need-same-length invariant_loop decreases_loop
+same_length : tie.Need-shape_of-book invariant_loop decreases_loop
 same_length c = search rules
 
 returns : tie.Need-returns invariant_loop decreases_loop

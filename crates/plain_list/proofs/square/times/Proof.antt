@@ -15,22 +15,22 @@ product_fits {d} {e} h k =
     subst⁻¹ (λ (n : ℕ). d * e < n) (pow-add 2 10 54)
     (lt_of_le_of_lt (mul-le-mul_left d (le_of_lt k)) (mul-lt-mul_of_pos_right h (pow_pos 54)))
 
-mul_result : tie.Need-overflow-mul-result
-mul_result c = record { fits = few_fit c.before.if1.true c.if2.true }
+mul_result : tie.Need-overflow_mul-result
+mul_result c = record { fits = few_fit c.before.if-factor-le16.true c.if-x-lt1152921504606846976.true }
 
-returns : tie.Need-returns
+returns : tie.Need-returns-then-x-lt1152921504606846976
 returns c = search rules
 
-mul_result_2 : tie.Need-overflow-mul-result-2
-mul_result_2 c = record { fits = product_fits c.before.if3.true c.if4.true }
+mul_result_2 : tie.Need-overflow_mul-result-then-x-lt18014398509481984
+mul_result_2 c = record { fits = product_fits c.before.if-factor-lt1024.true c.if-x-lt18014398509481984.true }
 
-returns_2 : tie.Need-returns-2
+returns_2 : tie.Need-returns-then-x-lt18014398509481984
 returns_2 c = search rules
 
-returns_3 : tie.Need-returns-3
+returns_3 : tie.Need-returns-else-x-lt18014398509481984
 returns_3 c = search rules
 
-returns_4 : tie.Need-returns-4
+returns_4 : tie.Need-returns-else-factor-lt1024
 returns_4 c = search rules
 
 pub times_spec : {M : Type 1} → statement M

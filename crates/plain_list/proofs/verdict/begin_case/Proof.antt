@@ -2,10 +2,10 @@ use Rattle.std.proofs.Common.{◌≡◌, ◌-◌, length, rules}
 use Rattle.plain_list.proofs.verdict.begin_case.Statement.{statement}
 use Rattle.plain_list.proofs.verdict.begin_case.Tie as tie
 
-abbrev invariant_loop : tie.invariant-loop
+abbrev invariant_loop : tie.invariant-loop-code
 invariant_loop book₀ code₀ book code = (length book ≡ length book₀)
 
-abbrev decreases_loop : tie.decreases-loop
+abbrev decreases_loop : tie.decreases-loop-code
 decreases_loop book₀ code₀ book code = 12 - code
 
 put_requires : tie.Need-put-requires invariant_loop decreases_loop
@@ -26,25 +26,25 @@ put_requires_5 c κs = search rules
 put_requires_6 : tie.Need-put-requires-6 invariant_loop decreases_loop
 put_requires_6 c κs = search rules
 
-loop_holds : tie.Need-loop-init invariant_loop decreases_loop
+loop_holds : tie.Need-loop-code-init invariant_loop decreases_loop
 loop_holds c = search rules
 
-at_code_requires : tie.Need-at-code-requires invariant_loop decreases_loop
+at_code_requires : tie.Need-at_code-requires invariant_loop decreases_loop
 at_code_requires c κs = search rules
 
-put_requires_7 : tie.Need-put-requires-7 invariant_loop decreases_loop
+put_requires_7 : tie.Need-put-requires-in-loop-code invariant_loop decreases_loop
 put_requires_7 c κs = search rules
 
-add_code : tie.Need-overflow-add-code invariant_loop decreases_loop
+add_code : tie.Need-overflow_step-code invariant_loop decreases_loop
 add_code c = search rules
 
-loop_less : tie.Need-loop-smaller invariant_loop decreases_loop
+loop_less : tie.Need-loop-code-smaller invariant_loop decreases_loop
 loop_less c = search rules
 
-loop_again : tie.Need-loop-preserved invariant_loop decreases_loop
+loop_again : tie.Need-loop-code-preserved invariant_loop decreases_loop
 loop_again c = search rules
 
-same_length : tie.Need-same-length invariant_loop decreases_loop
+same_length : tie.Need-shape_of-book invariant_loop decreases_loop
 same_length c = search rules
 
 returns : tie.Need-returns invariant_loop decreases_loop

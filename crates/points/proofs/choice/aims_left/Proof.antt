@@ -5,7 +5,7 @@ use lib.Signed.{lt_z}
 use Rattle.points.specs.Cut.{goes_left}
 use Rattle.points.proofs.MachineLaws.{of_ok, extended_read, doubled}
 
-picked_number_requires : tie.Need-picked-number-requires
+picked_number_requires : tie.Need-picked_number-requires
 picked_number_requires c κs = search rules
 
 twice_requires : tie.Need-twice-requires
@@ -17,9 +17,9 @@ extended_requires c κs = search rules
 returns : tie.Need-returns
 unfolding goes_left
 returns c =
-    let x = c.before.before.before.picked-number in
-    let double = doubled c.before.before.twice.ensures x.ensures x.type-inv in
-    let sum = extended_read c.extended.ensures (of_ok c.before.struct_told.given.1.0.1) in
+    let x = c.before.before.before.picked_number in
+    let double = doubled c.before.before.twice.ensures x.ensures x.type_inv in
+    let sum = extended_read c.extended.ensures (of_ok c.before.struct_told-1.given.1.0.1) in
     λ i. lt_z (double i) (sum i)
 
 pub aims_left_spec : {M : Type 1} → statement M

@@ -10,7 +10,7 @@ square_requires c κs = search rules
 square_requires_2 : tie.Need-square-requires-2
 square_requires_2 c κs = search rules
 
-chosen_at_requires : tie.Need-chosen-at-requires
+chosen_at_requires : tie.Need-chosen_at-requires
 chosen_at_requires c κs = search rules
 
 returns : tie.Need-returns
@@ -18,8 +18,8 @@ unfolding chosen_over chosen_by
 returns c =
     let s = c.before.before.before.args in
     let x = c.before.before.square.ensures in
-    let y = c.before.square2.ensures in
-    c.Chosen-at.ensures ∙ (λ i. chosen_at (x i) (y i) s.a s.b)
+    let y = c.before.square-2.ensures in
+    c.chosen_at.ensures ∙ (λ i. chosen_at (x i) (y i) s.a s.b)
 
 pub chosen_over_spec : {M : Type 1} → statement M
 chosen_over_spec =

@@ -17,38 +17,38 @@ use Rattle.points.proofs.IntegerLaws.{Near, near_add, near_sub, near_more, near_
 use Rattle.points.proofs.MachineLaws.{in64, of_ok, of_result, extended_read, doubled, sub64, fits64, back64, lt_not, cast_sub}
 
 -- twice the target's number, and the sum, as the machine has them
-double : tie.After-extended → ℤ
+double : tie.After-extended-sum → ℤ
 double c =
     let s = c.before.before.before.before.args in
     number_of s.target s.cut.axis +ℤ number_of s.target s.cut.axis
 
-sum : tie.After-extended → ℤ
+sum : tie.After-extended-sum → ℤ
 sum c = c.before.before.before.before.args.cut.sum
 
-module _ (c : tie.After-extended) where
-  is_double : in64 c.before.before.twice.result ≡ double c
+module _ (c : tie.After-extended-sum) where
+  is_double : in64 c.before.before.twice-double.result ≡ double c
   unfolding double
   is_double =
-      let x = c.before.before.before.picked-number in
-      doubled c.before.before.twice.ensures x.ensures x.type-inv
+      let x = c.before.before.before.picked_number in
+      doubled c.before.before.twice-double.ensures x.ensures x.type_inv
 
-  is_sum : in64 c.extended.result ≡ sum c
+  is_sum : in64 c.extended-sum.result ≡ sum c
   unfolding sum
-  is_sum = extended_read c.extended.ensures (of_ok c.before.struct_told.given.1.0.1)
+  is_sum = extended_read c.extended-sum.ensures (of_ok c.before.struct_told-1.given.1.0.1)
 
   near_double : Near 4294967296 (double c)
   unfolding double
   near_double =
-      let x = c.before.before.before.picked-number in
+      let x = c.before.before.before.picked_number in
       let s = c.before.before.before.before.args in
-      let n = of_result x.ensures x.type-inv in
+      let n = of_result x.ensures x.type_inv in
       near_add (number_of s.target s.cut.axis) (number_of s.target s.cut.axis) n n
 
   near_sum : Near 4294967296 (sum c)
   unfolding sum
-  near_sum = near_more 4294967296 (lit≤ tt) (of_ok c.before.struct_told.given.1.0.1)
+  near_sum = near_more 4294967296 (lit≤ tt) (of_ok c.before.struct_told-1.given.1.0.1)
 
-  left : {t : Bool} → lt_z (in64 c.before.before.twice.result) (in64 c.extended.result) ≡ t → lt_z (double c) (sum c) ≡ t
+  left : {t : Bool} → lt_z (in64 c.before.before.twice-double.result) (in64 c.extended-sum.result) ≡ t → lt_z (double c) (sum c) ≡ t
   left e = (λ i. lt_z (sym is_double i) (sym is_sum i)) ∙ e
 
   -- the two differences
@@ -63,48 +63,48 @@ module _ (c : tie.After-extended) where
       let n = near_sub (double c) (sum c) near_double near_sum in
       omega (arith, abs_raise (double c -ℤ sum c) n, near_lt (double c -ℤ sum c) n)
 
-picked_number_requires : tie.Need-picked-number-requires
+picked_number_requires : tie.Need-picked_number-requires
 picked_number_requires c κs = search rules
 
-twice_requires : tie.Need-twice-requires
+twice_requires : tie.Need-twice-double-requires
 twice_requires c κs = search rules
 
-extended_requires : tie.Need-extended-requires
+extended_requires : tie.Need-extended-sum-requires
 extended_requires c κs = search rules
 
-sub_result : tie.Need-overflow-sub-result
+sub_result : tie.Need-overflow_sub-result
 sub_result c = rw (is_sum c.before, is_double c.before) (fits64 (up c.before))
 
-cast_result : tie.Need-overflow-cast-result
+cast_result : tie.Need-overflow_cast-result
 cast_result c =
     let p = c.before in
     rw (is_sum p, is_double p, back64 (up p))
-    (cast_sub w64 (sum p) (double p) (near_sum p) (near_double p) (lt_not (double p) (sum p) (near_double p) (near_sum p) (left p c.if1.true)) (lit≤ tt))
+    (cast_sub w64 (sum p) (double p) (near_sum p) (near_double p) (lt_not (double p) (sum p) (near_double p) (near_sum p) (left p c.if-double-sum.true)) (lit≤ tt))
 
-sub_result_2 : tie.Need-overflow-sub-result-2
+sub_result_2 : tie.Need-overflow_sub-result-else-double-sum
 sub_result_2 c = rw (is_double c.before, is_sum c.before) (fits64 (down c.before))
 
-cast_result_2 : tie.Need-overflow-cast-result-2
+cast_result_2 : tie.Need-overflow_cast-result-else-double-sum
 cast_result_2 c =
     let p = c.before in
-    rw (is_double p, is_sum p, back64 (down p)) (cast_sub w64 (double p) (sum p) (near_double p) (near_sum p) (left p c.if1.false) (lit≤ tt))
+    rw (is_double p, is_sum p, back64 (down p)) (cast_sub w64 (double p) (sum p) (near_double p) (near_sum p) (left p c.if-double-sum.false) (lit≤ tt))
 
-add_result : tie.Need-overflow-add-result
+add_result : tie.Need-overflow_add-result
 add_result c =
     let p = c.before in
     rw (is_double p, is_sum p, back64 (down p)) (omega (arith, down_small p))
 
-returns : tie.Need-returns
+returns : tie.Need-returns-then-double-sum
 unfolding far_gap goes_left double sum
 returns c =
     let p = c.before in
-    rw (is_sum p, is_double p, back64 (up p), left p c.if1.true)
+    rw (is_sum p, is_double p, back64 (up p), left p c.if-double-sum.true)
 
-returns_2 : tie.Need-returns-2
+returns_2 : tie.Need-returns-else-double-sum
 unfolding far_gap goes_left double sum
 returns_2 c =
     let p = c.before in
-    rw (is_double p, is_sum p, back64 (down p), left p c.if1.false, add-one)
+    rw (is_double p, is_sum p, back64 (down p), left p c.if-double-sum.false, add-one)
 
 pub far_gap_spec : {M : Type 1} → statement M
 far_gap_spec =

@@ -8,33 +8,33 @@ use lib.Dec.{ltb}
 use Rattle.points.specs.Square.{topped}
 use Rattle.points.specs.Choice.{excluded_by, excluded}
 
-returns : tie.Need-returns
+returns : tie.Need-returns-then-cut-eq1
 unfolding excluded excluded_by
-returns c = rw (eq-eqb c.before.before.args.cut.axis 1 c.if1.true)
+returns c = rw (eq-eqb c.before.before.args.cut.axis 1 c.if-cut-eq1.true)
 
-count_on_requires : tie.Need-count-on-requires
+count_on_requires : tie.Need-count_on-requires
 count_on_requires c κs = search rules
 
-long_requires : tie.Need-long-requires
+long_requires : tie.Need-long-count-requires
 long_requires c κs = search rules
 
-topped_four_requires : tie.Need-topped-four-requires
+topped_four_requires : tie.Need-topped_four-requires
 topped_four_requires c κs = search rules
 
-far_gap_requires : tie.Need-far-gap-requires
+far_gap_requires : tie.Need-far_gap-requires
 far_gap_requires c κs = search rules
 
-counted_square_requires : tie.Need-counted-square-requires
+counted_square_requires : tie.Need-counted_square-requires
 counted_square_requires c κs = search rules
 
-returns_2 : tie.Need-returns-2
+returns_2 : tie.Need-returns
 unfolding excluded excluded_by
 returns_2 c =
     let s = c.before.before.before.before.before.before.before.args in
-    let gap = c.before.far-gap.ensures in
-    let count = c.before.before.before.long.ensures ∙ c.before.before.before.before.count-on.ensures in
-    let product = c.counted-square.ensures ∙ (λ i. topped (count i * (gap i * gap i))) in
-    rw (ne_eqb s.cut.axis 1 c.before.before.before.before.before.if1.false) (λ i. ltb (c.before.before.topped-four.ensures i) (product i))
+    let gap = c.before.far_gap.ensures in
+    let count = c.before.before.before.long-count.ensures ∙ c.before.before.before.before.count_on.ensures in
+    let product = c.counted_square.ensures ∙ (λ i. topped (count i * (gap i * gap i))) in
+    rw (ne_eqb s.cut.axis 1 c.before.before.before.before.before.if-cut-eq1.false) (λ i. ltb (c.before.before.topped_four.ensures i) (product i))
 
 pub far_side_excluded_spec : {M : Type 1} → statement M
 far_side_excluded_spec =

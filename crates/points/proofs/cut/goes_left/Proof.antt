@@ -18,8 +18,8 @@ returns : tie.Need-returns
 unfolding goes_left
 returns c =
     let x = c.before.before.before.number in
-    let double = doubled c.before.before.twice.ensures x.ensures x.type-inv in
-    let sum = extended_read c.extended.ensures (of_ok c.before.struct_told.given.1.0.1) in
+    let double = doubled c.before.before.twice.ensures x.ensures x.type_inv in
+    let sum = extended_read c.extended.ensures (of_ok c.before.struct_told-1.given.1.0.1) in
     λ i. lt_z (double i) (sum i)
 
 pub goes_left_spec : {M : Type 1} → statement M

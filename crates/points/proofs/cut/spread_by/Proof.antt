@@ -5,7 +5,7 @@ use mathlib.Core.Path.{ap, ◌∙◌}
 use Rattle.points.specs.Square.{gap_of}
 use Rattle.points.specs.Cut.{spread_of}
 
-axis_by_requires : tie.Need-axis-by-requires
+axis_by_requires : tie.Need-axis_by-axis-requires
 axis_by_requires c κs = search rules
 
 gap_requires : tie.Need-gap-requires
@@ -15,7 +15,7 @@ returns : tie.Need-returns
 unfolding spread_of
 returns c =
     let s = c.before.before.args in
-    let axis = c.before.axis-by.ensures in
+    let axis = c.before.axis_by-axis.ensures in
     let gap = c.gap.ensures.0 ∙ ap (gap_of s.a s.b) axis in
     λ i. record { axis = axis i; gap = gap i }
 

@@ -2,7 +2,7 @@ use Rattle.points.proofs.signed.extended.Statement.{statement}
 use Rattle.points.proofs.signed.extended.Tie as tie
 use Rattle.points.proofs.MachineLaws.{of_fits, near_extended, fits64, back32, back64}
 
-cast_result : tie.Need-overflow-cast-result
+cast_result : tie.Need-overflow_cast-result
 cast_result c =
     let n = of_fits c.ranges.x in
     rw (back32 n) (fits64 (near_extended n))

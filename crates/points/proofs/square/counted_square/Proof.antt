@@ -20,36 +20,36 @@ module _ (count gap m n : ℕ) (small : (leb count m && leb gap n) ≡ true) whe
   counted : count * (gap * gap) ≤ m * (n * n)
   counted = mul-le-mul (leb-true count m (and_l (leb count m) (leb gap n) small)) squared
 
-mul_result : tie.Need-overflow-mul-result
-mul_result c = let s = c.before.args in omega (arith, squared s.count s.gap 1024 134217727 c.if1.true)
+mul_result : tie.Need-overflow_mul-result
+mul_result c = let s = c.before.args in omega (arith, squared s.count s.gap 1024 134217727 c.if-count-gap.true)
 
-mul_result_2 : tie.Need-overflow-mul-result-2
-mul_result_2 c = let s = c.before.args in omega (arith, counted s.count s.gap 1024 134217727 c.if1.true)
+mul_result_2 : tie.Need-overflow_mul-result-then-count-gap
+mul_result_2 c = let s = c.before.args in omega (arith, counted s.count s.gap 1024 134217727 c.if-count-gap.true)
 
-returns : tie.Need-returns
+returns : tie.Need-returns-then-count-gap
 unfolding topped
-returns c = let s = c.before.args in omega (arith, counted s.count s.gap 1024 134217727 c.if1.true)
+returns c = let s = c.before.args in omega (arith, counted s.count s.gap 1024 134217727 c.if-count-gap.true)
 
-mul_result_3 : tie.Need-overflow-mul-result-3
-mul_result_3 c = let s = c.before.before.args in omega (arith, squared s.count s.gap 16 1073741823 c.if2.true)
+mul_result_3 : tie.Need-overflow_mul-result-then-count-gap-2
+mul_result_3 c = let s = c.before.before.args in omega (arith, squared s.count s.gap 16 1073741823 c.if-count-gap-2.true)
 
-mul_result_4 : tie.Need-overflow-mul-result-4
-mul_result_4 c = let s = c.before.before.args in omega (arith, counted s.count s.gap 16 1073741823 c.if2.true)
+mul_result_4 : tie.Need-overflow_mul-result-then-count-gap-2-2
+mul_result_4 c = let s = c.before.before.args in omega (arith, counted s.count s.gap 16 1073741823 c.if-count-gap-2.true)
 
-returns_2 : tie.Need-returns-2
+returns_2 : tie.Need-returns-then-count-gap-2
 unfolding topped
-returns_2 c = let s = c.before.before.args in omega (arith, counted s.count s.gap 16 1073741823 c.if2.true)
+returns_2 c = let s = c.before.before.args in omega (arith, counted s.count s.gap 16 1073741823 c.if-count-gap-2.true)
 
-topped_square_requires : tie.Need-topped-square-requires
+topped_square_requires : tie.Need-topped_square-requires
 topped_square_requires c κs = search rules
 
-topped_product_requires : tie.Need-topped-product-requires
+topped_product_requires : tie.Need-topped_product-requires
 topped_product_requires c κs = search rules
 
-returns_3 : tie.Need-returns-3
+returns_3 : tie.Need-returns
 returns_3 c =
     let s = c.before.before.before.before.args in
-    c.topped-product.ensures ∙ (λ i. topped (s.count * c.before.topped-square.ensures i)) ∙ topped_again s.count (s.gap * s.gap)
+    c.topped_product.ensures ∙ (λ i. topped (s.count * c.before.topped_square.ensures i)) ∙ topped_again s.count (s.gap * s.gap)
 
 pub counted_square_spec : {M : Type 1} → statement M
 counted_square_spec =

@@ -21,11 +21,11 @@ unfolding gap_of
 returns c =
     let s = c.before.before.before.args in
     let x = c.before.before.number in
-    let y = c.before.number2 in
+    let y = c.before.number-2 in
     let u = number_of s.a s.axis in
     let v = number_of s.b s.axis in
-    let is : c.apart.result ≡ nat_abs (u -ℤ v) = c.apart.ensures ∙ (λ i. nat_abs (passed x.ensures x.type-inv i -ℤ passed y.ensures y.type-inv i)) in
-    (is, rw is (near_gap u v (of_result x.ensures x.type-inv) (of_result y.ensures y.type-inv)))
+    let is : c.apart.result ≡ nat_abs (u -ℤ v) = c.apart.ensures ∙ (λ i. nat_abs (passed x.ensures x.type_inv i -ℤ passed y.ensures y.type_inv i)) in
+    (is, rw is (near_gap u v (of_result x.ensures x.type_inv) (of_result y.ensures y.type_inv)))
 
 pub gap_spec : {M : Type 1} → statement M
 gap_spec = tie.close (tie.spec number_requires number_requires_2 apart_requires returns)

@@ -7,62 +7,62 @@ use Rattle.points.specs.Word.{sum_range_of}
 use Rattle.points.proofs.PointLaws.{sum_range_rest}
 use Rattle.points.proofs.MachineLaws.{passed}
 
-sum_low_on_requires : tie.Need-sum-low-on-requires
+sum_low_on_requires : tie.Need-sum_low_on-requires
 sum_low_on_requires c κs = search rules
 
-sum_low_on_requires_2 : tie.Need-sum-low-on-requires-2
+sum_low_on_requires_2 : tie.Need-sum_low_on-requires-in-1
 sum_low_on_requires_2 c κs = search rules
 
-sum_low_on_requires_3 : tie.Need-sum-low-on-requires-3
+sum_low_on_requires_3 : tie.Need-sum_low_on-requires-in-2
 sum_low_on_requires_3 c κs = search rules
 
-sum_low_on_requires_4 : tie.Need-sum-low-on-requires-4
+sum_low_on_requires_4 : tie.Need-sum_low_on-requires-in-3
 sum_low_on_requires_4 c κs = search rules
 
-sum_low_on_requires_5 : tie.Need-sum-low-on-requires-5
+sum_low_on_requires_5 : tie.Need-sum_low_on-requires-in-4
 sum_low_on_requires_5 c κs = search rules
 
-sum_low_on_requires_6 : tie.Need-sum-low-on-requires-6
+sum_low_on_requires_6 : tie.Need-sum_low_on-requires-in-5
 sum_low_on_requires_6 c κs = search rules
 
-sum_low_on_requires_7 : tie.Need-sum-low-on-requires-7
+sum_low_on_requires_7 : tie.Need-sum_low_on-requires-in-6
 sum_low_on_requires_7 c κs = search rules
 
-sum_low_on_requires_8 : tie.Need-sum-low-on-requires-8
+sum_low_on_requires_8 : tie.Need-sum_low_on-requires-in-7
 sum_low_on_requires_8 c κs = search rules
 
-sum_low_on_requires_9 : tie.Need-sum-low-on-requires-9
+sum_low_on_requires_9 : tie.Need-sum_low_on-requires-in_default
 sum_low_on_requires_9 c κs = search rules
 
-returns : tie.Need-returns
-returns c = passed (c.sum-low-on.ensures ∙ sym (ap (λ a. (sum_range_of (a + 1)).low) c.before.match.keys1)) c.sum-low-on.type-inv
+returns : tie.Need-returns-in-0
+returns c = passed (c.sum_low_on.ensures ∙ sym (ap (λ a. (sum_range_of (a + 1)).low) c.before.in-0.is)) c.sum_low_on.type_inv
 
-returns_2 : tie.Need-returns-2
-returns_2 c = passed (c.sum-low-on2.ensures ∙ sym (ap (λ a. (sum_range_of (a + 1)).low) c.before.match.keys2)) c.sum-low-on2.type-inv
+returns_2 : tie.Need-returns-in-1
+returns_2 c = passed (c.sum_low_on-in-1.ensures ∙ sym (ap (λ a. (sum_range_of (a + 1)).low) c.before.in-1.is)) c.sum_low_on-in-1.type_inv
 
-returns_3 : tie.Need-returns-3
-returns_3 c = passed (c.sum-low-on3.ensures ∙ sym (ap (λ a. (sum_range_of (a + 1)).low) c.before.match.keys3)) c.sum-low-on3.type-inv
+returns_3 : tie.Need-returns-in-2
+returns_3 c = passed (c.sum_low_on-in-2.ensures ∙ sym (ap (λ a. (sum_range_of (a + 1)).low) c.before.in-2.is)) c.sum_low_on-in-2.type_inv
 
-returns_4 : tie.Need-returns-4
-returns_4 c = passed (c.sum-low-on4.ensures ∙ sym (ap (λ a. (sum_range_of (a + 1)).low) c.before.match.keys4)) c.sum-low-on4.type-inv
+returns_4 : tie.Need-returns-in-3
+returns_4 c = passed (c.sum_low_on-in-3.ensures ∙ sym (ap (λ a. (sum_range_of (a + 1)).low) c.before.in-3.is)) c.sum_low_on-in-3.type_inv
 
-returns_5 : tie.Need-returns-5
-returns_5 c = passed (c.sum-low-on5.ensures ∙ sym (ap (λ a. (sum_range_of (a + 1)).low) c.before.match.keys5)) c.sum-low-on5.type-inv
+returns_5 : tie.Need-returns-in-4
+returns_5 c = passed (c.sum_low_on-in-4.ensures ∙ sym (ap (λ a. (sum_range_of (a + 1)).low) c.before.in-4.is)) c.sum_low_on-in-4.type_inv
 
-returns_6 : tie.Need-returns-6
-returns_6 c = passed (c.sum-low-on6.ensures ∙ sym (ap (λ a. (sum_range_of (a + 1)).low) c.before.match.keys6)) c.sum-low-on6.type-inv
+returns_6 : tie.Need-returns-in-5
+returns_6 c = passed (c.sum_low_on-in-5.ensures ∙ sym (ap (λ a. (sum_range_of (a + 1)).low) c.before.in-5.is)) c.sum_low_on-in-5.type_inv
 
-returns_7 : tie.Need-returns-7
-returns_7 c = passed (c.sum-low-on7.ensures ∙ sym (ap (λ a. (sum_range_of (a + 1)).low) c.before.match.keys7)) c.sum-low-on7.type-inv
+returns_7 : tie.Need-returns-in-6
+returns_7 c = passed (c.sum_low_on-in-6.ensures ∙ sym (ap (λ a. (sum_range_of (a + 1)).low) c.before.in-6.is)) c.sum_low_on-in-6.type_inv
 
-returns_8 : tie.Need-returns-8
-returns_8 c = passed (c.sum-low-on8.ensures ∙ sym (ap (λ a. (sum_range_of (a + 1)).low) c.before.match.keys8)) c.sum-low-on8.type-inv
+returns_8 : tie.Need-returns-in-7
+returns_8 c = passed (c.sum_low_on-in-7.ensures ∙ sym (ap (λ a. (sum_range_of (a + 1)).low) c.before.in-7.is)) c.sum_low_on-in-7.type_inv
 
-returns_9 : tie.Need-returns-9
+returns_9 : tie.Need-returns-in_default
 returns_9 c =
-    let r = c.before.match.rest in
+    let r = c.before.in_default.in_default-own.rest in
     let last = sum_range_rest c.before.before.args.axis r.0.0.0.0.0.0.0.1 r.0.0.0.0.0.0.1 r.0.0.0.0.0.1 r.0.0.0.0.1 r.0.0.0.1 r.0.0.1 r.0.1 r.1 in
-    passed (c.sum-low-on9.ensures ∙ sym (ap (λ r. r.low) last)) c.sum-low-on9.type-inv
+    passed (c.sum_low_on-in_default.ensures ∙ sym (ap (λ r. r.low) last)) c.sum_low_on-in_default.type_inv
 
 pub sum_low_at_spec : {M : Type 1} → statement M
 sum_low_at_spec =

@@ -17,21 +17,21 @@ end n = near_more 2147483648 (lit≤ tt) n
 double : (z : ℤ) → Near reach z → Near32 (z +ℤ z)
 double z n = near_more 2147483648 (lit≤ tt) (near_add z z n n)
 
-low : (c : tie.After-number-range-on) → in32 c.number-range-on.result.low ≡ (number_range_of c.before.args.axis).low
-low c = hop32 (ap (λ r. r.low) c.number-range-on.ensures) (end (number_range_sound c.before.args.axis).low)
+low : (c : tie.After-number_range_on-one) → in32 c.number_range_on-one.result.low ≡ (number_range_of c.before.args.axis).low
+low c = hop32 (ap (λ r. r.low) c.number_range_on-one.ensures) (end (number_range_sound c.before.args.axis).low)
 
-high : (c : tie.After-number-range-on) → in32 c.number-range-on.result.high ≡ (number_range_of c.before.args.axis).high
-high c = hop32 (ap (λ r. r.high) c.number-range-on.ensures) (end (number_range_sound c.before.args.axis).high)
+high : (c : tie.After-number_range_on-one) → in32 c.number_range_on-one.result.high ≡ (number_range_of c.before.args.axis).high
+high c = hop32 (ap (λ r. r.high) c.number_range_on-one.ensures) (end (number_range_sound c.before.args.axis).high)
 
-number_range_on_requires : tie.Need-number-range-on-requires
+number_range_on_requires : tie.Need-number_range_on-one-requires
 number_range_on_requires c κs = search rules
 
-add_t3 : tie.Need-overflow-add-t3
+add_t3 : tie.Need-overflow_add-result
 add_t3 c =
     let s = number_range_sound c.before.before.before.args.axis in
     rw (low c.before.before) (fits32 (double (number_range_of c.before.before.before.args.axis).low s.low))
 
-add_t4 : tie.Need-overflow-add-t4
+add_t4 : tie.Need-overflow_add-result-2
 add_t4 c =
     let s = number_range_sound c.before.before.before.before.before.args.axis in
     rw (high c.before.before.before.before) (fits32 (double (number_range_of c.before.before.before.before.before.args.axis).high s.high))

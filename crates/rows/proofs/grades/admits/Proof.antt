@@ -4,13 +4,13 @@ use Rattle.rows.proofs.grades.admits.Statement.{statement}
 use Rattle.rows.proofs.grades.admits.Tie as tie
 use Rattle.rows.specs.Grades.{admits}
 
-at_slot_requires : tie.Need-at-slot-requires
+at_slot_requires : tie.Need-at_slot-requires
 at_slot_requires c κs = search rules
 
 get_requires : tie.Need-get-requires
 get_requires c κs = search rules
 
-has_bit_requires : tie.Need-has-bit-requires
+has_bit_requires : tie.Need-has_bit-requires
 has_bit_requires c κs = search rules
 
 returns : tie.Need-returns

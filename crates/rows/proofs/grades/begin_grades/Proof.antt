@@ -12,32 +12,32 @@ use Rattle.words.specs.Layout.{row_size, at_row}
 use Rattle.words.proofs.Lent.{part_put}
 use Rattle.rows.specs.Grades.{no_grades, mark_side, begin_grades}
 
-at_row_requires : tie.Need-at-row-requires
+at_row_requires : tie.Need-at_row-at-requires
 at_row_requires c κs = search rules
 
-add_if2 : tie.Need-overflow-add-if2
+add_if2 : tie.Need-overflow_add-at
 unfolding at_row
 add_if2 c = search rules
 
-add_write_part : tie.Need-overflow-add-write-part
+add_write_part : tie.Need-overflow_add-at-then-at-words
 add_write_part c = search rules
 
-slice_aggregate_write_part : tie.Need-slice-aggregate-write-part
+slice_aggregate_write_part : tie.Need-slice_bounds-write_part-end
 slice_aggregate_write_part c = search rules
 
-write_part_requires : tie.Need-write-part-requires
+write_part_requires : tie.Need-write_part-requires
 write_part_requires c κs = search rules
 
-mark_side_requires : tie.Need-mark-side-requires
+mark_side_requires : tie.Need-mark_side-requires
 mark_side_requires c κs = search rules
 
-mark_side_requires_2 : tie.Need-mark-side-requires-2
+mark_side_requires_2 : tie.Need-mark_side-requires-then-at-words
 mark_side_requires_2 c κs = search rules
 
-same_length : tie.Need-same-length
+same_length : tie.Need-shape_of-words
 same_length c = search rules
 
-returns : tie.Need-returns
+returns : tie.Need-returns-then-at-words
 unfolding begin_grades no_grades
 returns c =
     let second = c.before.before in
@@ -46,24 +46,24 @@ returns c =
     let t = p.before.before.before in
     let a = t.before in
     let s = a.before.before.before.args in
-    let at = a.at-row.ensures in
-    simp (lt-ltb _ _ a.before.if1.true, le-leb (at_row s.r + row_size) (length s.words.now) (omega (arith, t.if2.true)))
-    (second.mark-side2.ensures
+    let at = a.at_row-at.ensures in
+    simp (lt-ltb _ _ a.before.if-r-lt-MOST_ROWS.true, le-leb (at_row s.r + row_size) (length s.words.now) (omega (arith, t.if-at-words.true)))
+    (second.mark_side-then-at-words.ensures
     ∙ ap (λ v. mark_side v s.r (not s.left) s.there)
-    (first.mark-side.ensures
+    (first.mark_side.ensures
     ∙ ap (λ v. mark_side v s.r s.left s.here)
-    (p.write-part.ensures ∙ part_put s.words.now _ no_grades (at_row s.r + 8) _ 8 refl (ap (λ k. k + 8) at) refl (omega (arith, t.if2.true)))))
+    (p.write_part.ensures ∙ part_put s.words.now _ no_grades (at_row s.r + 8) _ 8 refl (ap (λ k. k + 8) at) refl (omega (arith, t.if-at-words.true)))))
 
-returns_2 : tie.Need-returns-2
+returns_2 : tie.Need-returns-else-at-words
 unfolding begin_grades
 returns_2 c =
     let a = c.before in
     let s = a.before.before.before.args in
-    simp (lt-ltb _ _ a.before.if1.true, lt-leb (at_row s.r + row_size) (length s.words.now) (omega (arith, c.if2.false, a.at-row.ensures)))
+    simp (lt-ltb _ _ a.before.if-r-lt-MOST_ROWS.true, lt-leb (at_row s.r + row_size) (length s.words.now) (omega (arith, c.if-at-words.false, a.at_row-at.ensures)))
 
-returns_3 : tie.Need-returns-3
+returns_3 : tie.Need-returns-else-r-lt-MOST_ROWS
 unfolding begin_grades
-returns_3 c = simp (le-ltb _ _ c.if1.false)
+returns_3 c = simp (le-ltb _ _ c.if-r-lt-MOST_ROWS.false)
 
 pub begin_grades_spec : {M : Type 1} → statement M
 begin_grades_spec =

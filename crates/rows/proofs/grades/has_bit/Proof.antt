@@ -8,7 +8,7 @@ use lib.Dec.{eqb}
 use Prim.Native.Nat.{◌/◌, ◌^◌, ◌%◌}
 use Rattle.rows.specs.Grades.{has_bit}
 
-shr_result : tie.Need-overflow-shr-result
+shr_result : tie.Need-overflow_shr-result
 shr_result c = search rules
 
 returns : tie.Need-returns

@@ -4,19 +4,19 @@ use Rattle.rows.proofs.grades.mark_side.Statement.{statement}
 use Rattle.rows.proofs.grades.mark_side.Tie as tie
 use Rattle.rows.specs.Grades.{mark_side}
 
-at_slot_requires : tie.Need-at-slot-requires
+at_slot_requires : tie.Need-at_slot-at-requires
 at_slot_requires c κs = search rules
 
 get_requires : tie.Need-get-requires
 get_requires c κs = search rules
 
-with_bit_requires : tie.Need-with-bit-requires
+with_bit_requires : tie.Need-with_bit-marked-requires
 with_bit_requires c κs = search rules
 
 put_requires : tie.Need-put-requires
 put_requires c κs = search rules
 
-same_length : tie.Need-same-length
+same_length : tie.Need-shape_of-words
 same_length c = search rules
 
 returns : tie.Need-returns

@@ -4,19 +4,19 @@ use Rattle.rows.proofs.row.as_removed.Statement.{statement}
 use Rattle.rows.proofs.row.as_removed.Tie as tie
 use Rattle.rows.specs.Row.{as_removed}
 
-shared_slice_read_t3 : tie.Need-shared-slice-read-t3
+shared_slice_read_t3 : tie.Need-bounds-part-1
 shared_slice_read_t3 c = search rules
 
-shared_slice_read_t5 : tie.Need-shared-slice-read-t5
+shared_slice_read_t5 : tie.Need-bounds-part-2
 shared_slice_read_t5 c = search rules
 
-shared_slice_read_t7 : tie.Need-shared-slice-read-t7
+shared_slice_read_t7 : tie.Need-bounds-part-3
 shared_slice_read_t7 c = search rules
 
-point_from_requires : tie.Need-point-from-requires
+point_from_requires : tie.Need-point_from-requires
 point_from_requires c κs = search rules
 
-shared_slice_read_t10 : tie.Need-shared-slice-read-t10
+shared_slice_read_t10 : tie.Need-bounds-part-9
 shared_slice_read_t10 c = search rules
 
 returns : tie.Need-returns

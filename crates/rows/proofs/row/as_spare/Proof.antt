@@ -4,10 +4,10 @@ use Rattle.rows.proofs.row.as_spare.Statement.{statement}
 use Rattle.rows.proofs.row.as_spare.Tie as tie
 use Rattle.rows.specs.Row.{as_spare}
 
-shared_slice_read_t3 : tie.Need-shared-slice-read-t3
+shared_slice_read_t3 : tie.Need-bounds-part-1
 shared_slice_read_t3 c = search rules
 
-shared_slice_read_t5 : tie.Need-shared-slice-read-t5
+shared_slice_read_t5 : tie.Need-bounds-part-2
 shared_slice_read_t5 c = search rules
 
 returns : tie.Need-returns

@@ -4,7 +4,7 @@ use Rattle.rows.proofs.tree.child_at.Statement.{statement}
 use Rattle.rows.proofs.tree.child_at.Tie as tie
 use Rattle.rows.specs.Tree.{child_at}
 
-at_child_requires : tie.Need-at-child-requires
+at_child_requires : tie.Need-at_child-requires
 at_child_requires c κs = search rules
 
 get_requires : tie.Need-get-requires

@@ -4,25 +4,25 @@ use Rattle.rows.proofs.tree.cut_sound.Statement.{statement}
 use Rattle.rows.proofs.tree.cut_sound.Tie as tie
 use Rattle.rows.specs.Row.{in_rows, as_cut}
 
-shared_slice_read_link_in : tie.Need-shared-slice-read-link-in
+shared_slice_read_link_in : tie.Need-bounds-part-1
 shared_slice_read_link_in c = search rules
 
-link_in_requires : tie.Need-link-in-requires
+link_in_requires : tie.Need-link_in-requires
 link_in_requires c κs = search rules
 
-shared_slice_read_cut_words_in_range : tie.Need-shared-slice-read-cut-words-in-range
+shared_slice_read_cut_words_in_range : tie.Need-bounds-part-4
 shared_slice_read_cut_words_in_range c = search rules
 
-shared_slice_read_cut_words_in_range_2 : tie.Need-shared-slice-read-cut-words-in-range-2
+shared_slice_read_cut_words_in_range_2 : tie.Need-bounds-part-5
 shared_slice_read_cut_words_in_range_2 c = search rules
 
-cut_words_in_range_requires : tie.Need-cut-words-in-range-requires
+cut_words_in_range_requires : tie.Need-cut_words_in_range-requires
 cut_words_in_range_requires c κs = search rules
 
-shared_slice_read_result : tie.Need-shared-slice-read-result
+shared_slice_read_result : tie.Need-bounds-part-6
 shared_slice_read_result c = search rules
 
-shared_slice_read_result_2 : tie.Need-shared-slice-read-result-2
+shared_slice_read_result_2 : tie.Need-bounds-part-7
 shared_slice_read_result_2 c = search rules
 
 returns : tie.Need-returns

@@ -22,20 +22,20 @@ known s = cut_plainly s.args.axis s.args.sum s.requires.0 s.requires.1
 near : (s : tie.Start) → Near32 ((sum_range_of (s.args.axis + 1)).low +ℤ pos s.args.sum)
 near s = near_more 2147483648 (lit≤ tt) (known s).near
 
-parts : (c : tie.After-sum-low-at) → in32 c.sum-low-at.result +ℤ to_z w32 c.before.args.sum ≡ (sum_range_of (c.before.args.axis + 1)).low +ℤ pos c.before.args.sum
+parts : (c : tie.After-sum_low_at) → in32 c.sum_low_at.result +ℤ to_z w32 c.before.args.sum ≡ (sum_range_of (c.before.args.axis + 1)).low +ℤ pos c.before.args.sum
 parts c =
-    λ i. passed c.sum-low-at.ensures c.sum-low-at.type-inv i +ℤ to_z_pos w32 {n = c.before.args.sum} (omega (arith, (known c.before).small)) i
+    λ i. passed c.sum_low_at.ensures c.sum_low_at.type_inv i +ℤ to_z_pos w32 {n = c.before.args.sum} (omega (arith, (known c.before).small)) i
 
-add_t3 : tie.Need-overflow-add-t3
+add_t3 : tie.Need-overflow_add-result
 add_t3 c = record { fits = omega (arith, (known c).axis_small) }
 
-sum_low_at_requires : tie.Need-sum-low-at-requires
+sum_low_at_requires : tie.Need-sum_low_at-requires
 sum_low_at_requires c κs = search rules
 
-cast_t5 : tie.Need-overflow-cast-t5
+cast_t5 : tie.Need-overflow_cast-result
 cast_t5 c = record { sfits = omega (arith, (known c.before).small) }
 
-add_t6 : tie.Need-overflow-add-t6
+add_t6 : tie.Need-overflow_add-result-2
 add_t6 c = rw (parts c) (fits32 (near c.before))
 
 returns : tie.Need-returns

@@ -3,10 +3,10 @@ use borrow.Author.Rules.{rules}
 use Rattle.runs.proofs.run.goes_on.Statement.{statement}
 use Rattle.runs.proofs.run.goes_on.Tie as tie
 
-read_waiting_requires : tie.Need-read-waiting-requires
+read_waiting_requires : tie.Need-read_waiting-requires
 read_waiting_requires c κs = search rules
 
-is_given_requires : tie.Need-is-given-requires
+is_given_requires : tie.Need-is_given-requires
 is_given_requires c κs = search rules
 
 returns : tie.Need-returns

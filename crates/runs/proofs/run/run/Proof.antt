@@ -8,7 +8,6 @@ use mathlib.Core.Bool.{true, false}
 use mathlib.Core.List.{List}
 use Prim.Native.Nat.{ℕ, zero, suc, ◌-◌, ◌≤◌, ◌<◌}
 use native.Mathlib.Omega.{arith}
-use borrow.Author.Tests.{not-true, not-false}
 use lib.ListN.{length}
 use Rattle.calls.specs.Reply.{Reply, done}
 use Rattle.calls.specs.Step.{step_of}
@@ -34,71 +33,71 @@ unfolding run_for
 ended zero words s h = refl
 ended (suc m) words s h = absurd (omega arith)
 
-abbrev invariant_loop : tie.invariant-loop
+abbrev invariant_loop : tie.invariant-loop-left
 invariant_loop words₀ s left₀ words left = (length words ≡ length words₀) × (run_of words₀ s ≡ run_for left words s)
 
-abbrev decreases_loop : tie.decreases-loop
+abbrev decreases_loop : tie.decreases-loop-left
 decreases_loop words₀ s left₀ words left = left
 
-abbrev at_step : tie.After-goes-on invariant_loop decreases_loop → tie.After-step invariant_loop decreases_loop
-at_step c = c.before.before.before.before
+abbrev at_step : tie.After-goes_on invariant_loop decreases_loop → tie.After-step-number invariant_loop decreases_loop
+at_step c = c.before.before.before
 
-abbrev at_loop : tie.After-goes-on invariant_loop decreases_loop → tie.At-loop invariant_loop decreases_loop
+abbrev at_loop : tie.After-goes_on invariant_loop decreases_loop → tie.At-loop-left invariant_loop decreases_loop
 at_loop c = (at_step c).before.before.before
 
-abbrev station : tie.After-goes-on invariant_loop decreases_loop → ℕ
-station c = (at_loop c).before.before.before.before.args.s
+abbrev station : tie.After-goes_on invariant_loop decreases_loop → ℕ
+station c = (at_loop c).before.before.before.args.s
 
 -- the test is that of the step's reply
-test_is : (c : tie.After-goes-on invariant_loop decreases_loop) → goes_on (station c) (step_of (at_loop c).loop.words (station c)) ≡ c.goes_on.result
-test_is c = ap (goes_on (station c)) (sym (at_step c).step.ensures) ∙ sym c.goes_on.ensures
+test_is : (c : tie.After-goes_on invariant_loop decreases_loop) → goes_on (station c) (step_of (at_loop c).loop-left.words (station c)) ≡ c.goes_on.result
+test_is c = ap (goes_on (station c)) (sym (at_step c).step-number.ensures) ∙ sym c.goes_on.ensures
 
-most_steps_requires : tie.Need-most-steps-requires invariant_loop decreases_loop
+most_steps_requires : tie.Need-most_steps-left-requires invariant_loop decreases_loop
 most_steps_requires c κs = search rules
 
-loop_holds : tie.Need-loop-init invariant_loop decreases_loop
+loop_holds : tie.Need-loop-left-init invariant_loop decreases_loop
 unfolding run_of
 loop_holds c = (refl, cc)
 
-step_requires : tie.Need-step-requires invariant_loop decreases_loop
+step_requires : tie.Need-step-number-requires invariant_loop decreases_loop
 step_requires c κs = search rules
 
-goes_on_requires : tie.Need-goes-on-requires invariant_loop decreases_loop
+goes_on_requires : tie.Need-goes_on-requires invariant_loop decreases_loop
 goes_on_requires c κs = search rules
 
-same_length : tie.Need-same-length invariant_loop decreases_loop
+same_length : tie.Need-shape_of-words-then-not-goes_on invariant_loop decreases_loop
 same_length c = omega arith
 
-returns : tie.Need-returns invariant_loop decreases_loop
+returns : tie.Need-returns-then-not-goes_on invariant_loop decreases_loop
 returns c =
     let g = c.before in
-    let l = (at_loop g).loop in
-    (at_step g).step.ensures
-    ∙ sym (l.inv.1 ∙ last l.left l.words (station g) (omega (arith, (at_step g).before.before.loop-test)) (test_is g ∙ not-true _ c.if1.true))
+    let l = (at_loop g).loop-left in
+    (at_step g).step-number.ensures
+    ∙ sym (l.invariant.1 ∙ last l.left l.words (station g) (omega (arith, (at_step g).before.before.loop-left-test)) (test_is g ∙ c.if-not-goes_on.true))
 
-sub_left : tie.Need-overflow-sub-left invariant_loop decreases_loop
+sub_left : tie.Need-overflow_sub-left invariant_loop decreases_loop
 sub_left c = omega arith
 
-loop_less : tie.Need-loop-smaller invariant_loop decreases_loop
+loop_less : tie.Need-loop-left-smaller invariant_loop decreases_loop
 loop_less c = omega arith
 
-loop_again : tie.Need-loop-preserved invariant_loop decreases_loop
+loop_again : tie.Need-loop-left-preserved invariant_loop decreases_loop
 loop_again c =
     let g = c.before in
-    let l = (at_loop g).loop in (
+    let l = (at_loop g).loop-left in (
       search rules,
-      l.inv.1
-          ∙ turn l.left l.words (station g) (omega (arith, (at_step g).before.before.loop-test)) (test_is g ∙ not-false _ c.if1.false)
-          ∙ ap (λ (reply : Reply). run_for (l.left - 1) reply.words (station g)) (sym (at_step g).step.ensures),
+      l.invariant.1
+          ∙ turn l.left l.words (station g) (omega (arith, (at_step g).before.before.loop-left-test)) (test_is g ∙ c.if-not-goes_on.false)
+          ∙ ap (λ (reply : Reply). run_for (l.left - 1) reply.words (station g)) (sym (at_step g).step-number.ensures),
     )
 
-same_length_2 : tie.Need-same-length-2 invariant_loop decreases_loop
+same_length_2 : tie.Need-shape_of-words invariant_loop decreases_loop
 same_length_2 c = omega arith
 
-returns_2 : tie.Need-returns-2 invariant_loop decreases_loop
+returns_2 : tie.Need-returns invariant_loop decreases_loop
 returns_2 c =
-    let l = c.before.loop in
-    let a = c.before.before.before.before.before.args in
+    let l = c.before.loop-left in
+    let a = c.before.before.before.before.args in
     sym (l.invariant.1 ∙ ended l.left l.words a.s (omega arith))
 
 pub run_spec : {M : Type 1} → statement M

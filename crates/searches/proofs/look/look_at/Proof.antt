@@ -3,19 +3,19 @@ use borrow.Author.Rules.{rules}
 use Rattle.searches.proofs.look.look_at.Statement.{statement}
 use Rattle.searches.proofs.look.look_at.Tie as tie
 
-next_of_requires : tie.Need-next-of-requires
+next_of_requires : tie.Need-next_of-next-requires
 next_of_requires c κs = search rules
 
-look_best_requires : tie.Need-look-best-requires
+look_best_requires : tie.Need-look_best-best-requires
 look_best_requires c κs = search rules
 
-pass_spare_requires : tie.Need-pass-spare-requires
+pass_spare_requires : tie.Need-pass_spare-requires
 pass_spare_requires c κs = search rules
 
-is_free_requires : tie.Need-is-free-requires
+is_free_requires : tie.Need-is_free-requires
 is_free_requires c κs = search rules
 
-is_free_requires_2 : tie.Need-is-free-requires-2
+is_free_requires_2 : tie.Need-is_free-requires-2
 is_free_requires_2 c κs = search rules
 
 returns : tie.Need-returns

@@ -3,16 +3,16 @@ use borrow.Author.Rules.{rules}
 use Rattle.searches.proofs.look.look_from.Statement.{statement}
 use Rattle.searches.proofs.look.look_from.Tie as tie
 
-read_row_requires : tie.Need-read-row-requires
+read_row_requires : tie.Need-read_row-row-requires
 read_row_requires c κs = search rules
 
-next_of_requires : tie.Need-next-of-requires
+next_of_requires : tie.Need-next_of-requires
 next_of_requires c κs = search rules
 
-read_row_requires_2 : tie.Need-read-row-requires-2
+read_row_requires_2 : tie.Need-read_row-after-requires
 read_row_requires_2 c κs = search rules
 
-look_at_requires : tie.Need-look-at-requires
+look_at_requires : tie.Need-look_at-requires
 look_at_requires c κs = search rules
 
 returns : tie.Need-returns

@@ -8,13 +8,13 @@ use Rattle.calls.specs.Progress.{considered}
 prevails_requires : tie.Need-prevails-requires
 prevails_requires c κs = search rules
 
-returns : tie.Need-returns
+returns : tie.Need-returns-then-prevails
 unfolding considered
-returns c = simp (sym c.before.prevails.ensures ∙ c.if1.true)
+returns c = simp (sym c.before.prevails.ensures ∙ c.if-prevails.true)
 
-returns_2 : tie.Need-returns-2
+returns_2 : tie.Need-returns-else-prevails
 unfolding considered
-returns_2 c = simp (sym c.before.prevails.ensures ∙ c.if1.false)
+returns_2 c = simp (sym c.before.prevails.ensures ∙ c.if-prevails.false)
 
 pub consider_spec : {M : Type 1} → statement M
 consider_spec = tie.close (tie.spec prevails_requires returns returns_2)

@@ -8,13 +8,13 @@ use Rattle.calls.specs.Search.{found_answer}
 square_requires : tie.Need-square-requires
 square_requires c κs = search rules
 
-returns : tie.Need-returns
+returns : tie.Need-returns-then-best-eq0
 unfolding found_answer
-returns c = simp (eq-eqb _ _ c.before.if1.true)
+returns c = simp (eq-eqb _ _ c.before.if-best-eq0.true)
 
-returns_2 : tie.Need-returns-2
+returns_2 : tie.Need-returns-else-best-eq0
 unfolding found_answer
-returns_2 c = simp (ne_eqb _ _ c.before.before.if1.false) cc
+returns_2 c = simp (ne_eqb _ _ c.before.before.if-best-eq0.false) cc
 
 pub found_answer_spec : {M : Type 1} → statement M
 found_answer_spec = tie.close (tie.spec square_requires returns returns_2)

@@ -4,7 +4,7 @@ use Rattle.searches.proofs.search.progress_at.Statement.{statement}
 use Rattle.searches.proofs.search.progress_at.Tie as tie
 use Rattle.calls.specs.Search.{progress_at}
 
-read_track_requires : tie.Need-read-track-requires
+read_track_requires : tie.Need-read_track-track-requires
 read_track_requires c κs = search rules
 
 returns : tie.Need-returns

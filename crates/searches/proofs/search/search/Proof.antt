@@ -24,48 +24,48 @@ reply_by words rows s call aim p a e h =
     ∙ ap (λ (x : Progress). search_to words s aim x) e
     ∙ ap (λ (x : Aim). search_to words s x (seek words rows x (progress_at words s call))) a
 
-abbrev aimed : tie.After-seek → tie.After-aim-at
-aimed c = c.before.before.before
+abbrev aimed : tie.After-seek-p → tie.After-aim_at-aim
+aimed c = c.before.before
 
-abbrev start : tie.After-seek → tie.Start
-start c = (aimed c).before.before.before
+abbrev start : tie.After-seek-p → tie.Start
+start c = (aimed c).before.before
 
 -- the aim and the progress of the code are those of the definition
-aim_is : (c : tie.After-seek) → (aimed c).aim_at.result ≡ aim_at (start c).args.words.now (start c).args.call
-aim_is c = (aimed c).aim_at.ensures
+aim_is : (c : tie.After-seek-p) → (aimed c).aim_at-aim.result ≡ aim_at (start c).args.words.now (start c).args.call
+aim_is c = (aimed c).aim_at-aim.ensures
 
-found : (c : tie.After-seek)
-    → c.seek.result ≡ seek (start c).args.words.now (start c).args.rows (aimed c).aim_at.result (progress_at (start c).args.words.now (start c).args.s (start c).args.call)
+found : (c : tie.After-seek-p)
+    → c.seek-p.result ≡ seek (start c).args.words.now (start c).args.rows (aimed c).aim_at-aim.result (progress_at (start c).args.words.now (start c).args.s (start c).args.call)
 found c =
-    c.seek.ensures
-    ∙ ap (λ (x : Progress). seek (start c).args.words.now (start c).args.rows (aimed c).aim_at.result x) c.before.progress-at.ensures
+    c.seek-p.ensures
+    ∙ ap (λ (x : Progress). seek (start c).args.words.now (start c).args.rows (aimed c).aim_at-aim.result x) c.before.progress_at.ensures
 
-aim_at_requires : tie.Need-aim-at-requires
+aim_at_requires : tie.Need-aim_at-aim-requires
 aim_at_requires c κs = search rules
 
-progress_at_requires : tie.Need-progress-at-requires
+progress_at_requires : tie.Need-progress_at-requires
 progress_at_requires c κs = search rules
 
-seek_requires : tie.Need-seek-requires
+seek_requires : tie.Need-seek-p-requires
 seek_requires c κs = search rules
 
-write_search_requires : tie.Need-write-search-requires
+write_search_requires : tie.Need-write_search-requires
 write_search_requires c κs = search rules
 
-same_length : tie.Need-same-length
+same_length : tie.Need-shape_of-words-then-p
 same_length c = search rules
 
-returns : tie.Need-returns
+returns : tie.Need-returns-then-p
 returns c =
     let t = c.before.before.before.before in
     reply_by _ _ _ _ _ _ (aim_is t.before) (found t.before)
-    (simp t.if1.true (ap (λ (w : List ℕ). replied 0 w) c.before.before.write-search.ensures))
+    (simp t.if-p.true (ap (λ (w : List ℕ). replied 0 w) c.before.before.write_search.ensures))
 
-same_length_2 : tie.Need-same-length-2
+same_length_2 : tie.Need-shape_of-words-else-p
 same_length_2 c = search rules
 
-returns_2 : tie.Need-returns-2
-returns_2 c = reply_by _ _ _ _ _ _ (aim_is c.before) (found c.before) (simp c.if1.false)
+returns_2 : tie.Need-returns-else-p
+returns_2 c = reply_by _ _ _ _ _ _ (aim_is c.before) (found c.before) (simp c.if-p.false)
 
 pub search_spec : {M : Type 1} → statement M
 search_spec =

@@ -10,27 +10,27 @@ use lib.Dec.{eqb}
 use Rattle.points.specs.Choice.{no_square}
 
 -- the square of a record that prevails is its own; a record without a curve has none
-kept_square : (c : tie.Joined2)
-    → c.if2.t24 ≡ cond (eqb c.before.before.before.before.args.curve 0) no_square c.before.before.before.before.args.own
-kept_square c = ⊎_elim (λ w. simp (eq-eqb _ _ w.0.taken) w.1) (λ w. simp (ne_eqb _ _ w.0.left) w.1) c.if2.branch
+kept_square : (c : tie.Joined-curve-eq0)
+    → c.if-curve-eq0.result ≡ cond (eqb c.before.before.before.before.args.curve 0) no_square c.before.before.before.before.args.own
+kept_square c = ⊎_elim (λ w. simp (eq-eqb _ _ w.if-curve-eq0.true) w.result-is) (λ w. simp (ne_eqb _ _ w.if-curve-eq0.false) w.result-is) c.if-curve-eq0.branch-raw
 
-prevails_at_requires : tie.Need-prevails-at-requires
+prevails_at_requires : tie.Need-prevails_at-requires
 prevails_at_requires c κs = search rules
 
 onward_requires : tie.Need-onward-requires
 onward_requires c κs = search rules
 
-go_up_requires : tie.Need-go-up-requires
+go_up_requires : tie.Need-go_up-requires
 go_up_requires c κs = search rules
 
-returns : tie.Need-returns
+returns : tie.Need-returns-after-curve-eq0
 returns c =
     let t = c.before.before in
-    simp (sym t.before.prevails-at.ensures ∙ t.if1.true)
+    simp (sym t.before.prevails_at.ensures ∙ t.if-prevails_at.true)
     (λ i. record { above = t.before.before.before.args.parent; square = kept_square c.before i; progress = c.onward.ensures i })
 
-returns_2 : tie.Need-returns-2
-returns_2 c = simp (sym c.before.before.prevails-at.ensures ∙ c.before.if1.false) c.go-up.ensures
+returns_2 : tie.Need-returns-else-prevails_at
+returns_2 c = simp (sym c.before.before.prevails_at.ensures ∙ c.before.if-prevails_at.false) c.go_up.ensures
 
 pub down_leaf_spec : {M : Type 1} → statement M
 down_leaf_spec = tie.close (tie.spec prevails_at_requires onward_requires go_up_requires returns returns_2)

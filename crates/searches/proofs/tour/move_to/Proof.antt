@@ -4,20 +4,20 @@ use Rattle.searches.proofs.tour.move_to.Statement.{statement}
 use Rattle.searches.proofs.tour.move_to.Tie as tie
 use borrow.Author.Tests.{eq-eqb, ne_eqb}
 
-at_top_requires : tie.Need-at-top-requires
+at_top_requires : tie.Need-at_top-requires
 at_top_requires c κs = search rules
 
-read_tree_requires : tie.Need-read-tree-requires
+read_tree_requires : tie.Need-read_tree-requires
 read_tree_requires c κs = search rules
 
-visit_row_requires : tie.Need-visit-row-requires
+visit_row_requires : tie.Need-visit_row-requires
 visit_row_requires c κs = search rules
 
-returns : tie.Need-returns
-returns c = simp (eq-eqb _ _ c.before.if1.true) c.at_top.ensures
+returns : tie.Need-returns-then-x-eq-NONE
+returns c = simp (eq-eqb _ _ c.before.if-x-eq-NONE.true) c.at_top.ensures
 
-returns_2 : tie.Need-returns-2
-returns_2 c = simp (ne_eqb _ _ c.before.before.if1.false) cc
+returns_2 : tie.Need-returns-else-x-eq-NONE
+returns_2 c = simp (ne_eqb _ _ c.before.before.if-x-eq-NONE.false) cc
 
 pub move_to_spec : {M : Type 1} → statement M
 move_to_spec =

@@ -4,20 +4,20 @@ use Rattle.searches.proofs.tour.past_near.Statement.{statement}
 use Rattle.searches.proofs.tour.past_near.Tie as tie
 use mathlib.Core.Path.{sym, ◌∙◌}
 
-shut_at_requires : tie.Need-shut-at-requires
+shut_at_requires : tie.Need-shut_at-requires
 shut_at_requires c κs = search rules
 
-go_up_requires : tie.Need-go-up-requires
+go_up_requires : tie.Need-go_up-requires
 go_up_requires c κs = search rules
 
-go_to_requires : tie.Need-go-to-requires
+go_to_requires : tie.Need-go_to-requires
 go_to_requires c κs = search rules
 
-returns : tie.Need-returns
-returns c = simp (sym c.before.before.shut_at.ensures ∙ c.before.if1.true) c.go-up.ensures
+returns : tie.Need-returns-then-shut_at
+returns c = simp (sym c.before.before.shut_at.ensures ∙ c.before.if-shut_at.true) c.go_up.ensures
 
-returns_2 : tie.Need-returns-2
-returns_2 c = simp (sym c.before.before.shut_at.ensures ∙ c.before.if1.false) c.go-to.ensures
+returns_2 : tie.Need-returns-else-shut_at
+returns_2 c = simp (sym c.before.before.shut_at.ensures ∙ c.before.if-shut_at.false) c.go_to.ensures
 
 pub past_near_spec : {M : Type 1} → statement M
 past_near_spec =

@@ -3,17 +3,17 @@ use borrow.Author.Rules.{rules}
 use Rattle.searches.proofs.tour.past_side.Statement.{statement}
 use Rattle.searches.proofs.tour.past_side.Tie as tie
 
-past_near_requires : tie.Need-past-near-requires
+past_near_requires : tie.Need-past_near-requires
 past_near_requires c κs = search rules
 
-past_far_requires : tie.Need-past-far-requires
+past_far_requires : tie.Need-past_far-requires
 past_far_requires c κs = search rules
 
-returns : tie.Need-returns
-returns c = simp c.before.if1.true c.past_near.ensures
+returns : tie.Need-returns-then-p-near
+returns c = simp c.before.if-p-near.true c.past_near.ensures
 
-returns_2 : tie.Need-returns-2
-returns_2 c = simp c.before.if1.false c.past-far.ensures
+returns_2 : tie.Need-returns-else-p-near
+returns_2 c = simp c.before.if-p-near.false c.past_far.ensures
 
 pub past_side_spec : {M : Type 1} → statement M
 past_side_spec = tie.close (tie.spec past_near_requires past_far_requires returns returns_2)

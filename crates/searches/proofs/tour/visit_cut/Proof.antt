@@ -3,10 +3,10 @@ use borrow.Author.Rules.{rules}
 use Rattle.searches.proofs.tour.visit_cut.Statement.{statement}
 use Rattle.searches.proofs.tour.visit_cut.Tie as tie
 
-aims_left_requires : tie.Need-aims-left-requires
+aims_left_requires : tie.Need-aims_left-goes-requires
 aims_left_requires c κs = search rules
 
-visit_sides_requires : tie.Need-visit-sides-requires
+visit_sides_requires : tie.Need-visit_sides-requires
 visit_sides_requires c κs = search rules
 
 returns : tie.Need-returns

@@ -4,19 +4,19 @@ use Rattle.stations.proofs.answer.answer_of.Statement.{statement}
 use Rattle.stations.proofs.answer.answer_of.Tie as tie
 use Rattle.stations.specs.Answer.{answer_of}
 
-shared_slice_read_t3 : tie.Need-shared-slice-read-t3
+shared_slice_read_t3 : tie.Need-bounds-part-0
 shared_slice_read_t3 c = search rules
 
-point_from_requires : tie.Need-point-from-requires
+point_from_requires : tie.Need-point_from-requires
 point_from_requires c κs = search rules
 
-shared_slice_read_t6 : tie.Need-shared-slice-read-t6
+shared_slice_read_t6 : tie.Need-bounds-part-6
 shared_slice_read_t6 c = search rules
 
-shared_slice_read_joined : tie.Need-shared-slice-read-joined
+shared_slice_read_joined : tie.Need-bounds-part-7
 shared_slice_read_joined c = search rules
 
-shared_slice_read_joined_2 : tie.Need-shared-slice-read-joined-2
+shared_slice_read_joined_2 : tie.Need-bounds-part-8
 shared_slice_read_joined_2 c = search rules
 
 joined_requires : tie.Need-joined-requires

@@ -4,13 +4,13 @@ use Rattle.stations.proofs.answer.answer_sound.Statement.{statement}
 use Rattle.stations.proofs.answer.answer_sound.Tie as tie
 use Rattle.stations.specs.Answer.{answer_sound}
 
-code_in_requires : tie.Need-code-in-requires
+code_in_requires : tie.Need-code_in-requires
 code_in_requires c κs = search rules
 
-in_range_by_requires : tie.Need-in-range-by-requires
+in_range_by_requires : tie.Need-in_range_by-requires
 in_range_by_requires c κs = search rules
 
-most_square_requires : tie.Need-most-square-requires
+most_square_requires : tie.Need-most_square-requires
 most_square_requires c κs = search rules
 
 returns : tie.Need-returns

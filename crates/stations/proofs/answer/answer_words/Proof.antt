@@ -20,10 +20,10 @@ word_requires_4 c κs = search rules
 word_requires_5 : tie.Need-word-requires-5
 word_requires_5 c κs = search rules
 
-low_word_requires : tie.Need-low-word-requires
+low_word_requires : tie.Need-low_word-requires
 low_word_requires c κs = search rules
 
-high_word_requires : tie.Need-high-word-requires
+high_word_requires : tie.Need-high_word-requires
 high_word_requires c κs = search rules
 
 returns : tie.Need-returns

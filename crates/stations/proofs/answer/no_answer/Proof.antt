@@ -3,7 +3,7 @@ use borrow.Author.Rules.{rules}
 use Rattle.stations.proofs.answer.no_answer.Statement.{statement}
 use Rattle.stations.proofs.answer.no_answer.Tie as tie
 
-point_at_requires : tie.Need-point-at-requires
+point_at_requires : tie.Need-point_at-requires
 point_at_requires c κs = search rules
 
 returns : tie.Need-returns

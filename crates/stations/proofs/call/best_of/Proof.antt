@@ -4,10 +4,10 @@ use Rattle.stations.proofs.call.best_of.Statement.{statement}
 use Rattle.stations.proofs.call.best_of.Tie as tie
 use Rattle.stations.specs.Call.{best_of}
 
-shared_slice_read_t3 : tie.Need-shared-slice-read-t3
+shared_slice_read_t3 : tie.Need-bounds-part-0
 shared_slice_read_t3 c = search rules
 
-point_from_requires : tie.Need-point-from-requires
+point_from_requires : tie.Need-point_from-requires
 point_from_requires c κs = search rules
 
 returns : tie.Need-returns

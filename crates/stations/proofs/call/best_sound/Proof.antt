@@ -4,7 +4,7 @@ use Rattle.stations.proofs.call.best_sound.Statement.{statement}
 use Rattle.stations.proofs.call.best_sound.Tie as tie
 use Rattle.stations.specs.Call.{best_sound}
 
-in_range_by_requires : tie.Need-in-range-by-requires
+in_range_by_requires : tie.Need-in_range_by-requires
 in_range_by_requires c κs = search rules
 
 returns : tie.Need-returns

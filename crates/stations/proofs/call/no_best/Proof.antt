@@ -3,7 +3,7 @@ use borrow.Author.Rules.{rules}
 use Rattle.stations.proofs.call.no_best.Statement.{statement}
 use Rattle.stations.proofs.call.no_best.Tie as tie
 
-point_at_requires : tie.Need-point-at-requires
+point_at_requires : tie.Need-point_at-requires
 point_at_requires c κs = search rules
 
 returns : tie.Need-returns

@@ -3,10 +3,10 @@ use borrow.Author.Rules.{rules}
 use Rattle.stations.proofs.call.no_call.Statement.{statement}
 use Rattle.stations.proofs.call.no_call.Tie as tie
 
-point_at_requires : tie.Need-point-at-requires
+point_at_requires : tie.Need-point_at-requires
 point_at_requires c κs = search rules
 
-no_best_requires : tie.Need-no-best-requires
+no_best_requires : tie.Need-no_best-requires
 no_best_requires c κs = search rules
 
 returns : tie.Need-returns

@@ -9,79 +9,79 @@ use Rattle.stations.specs.Call.{call_of, best_of, call_at}
 use borrow.Author.Tests.{lt-ltb, le-ltb, le-leb, lt-leb}
 use Rattle.words.proofs.Lent.{part_lent}
 
-no_call_requires : tie.Need-no-call-requires
+no_call_requires : tie.Need-no_call-requires
 no_call_requires c κs = search rules
 
-returns : tie.Need-returns
+returns : tie.Need-returns-then-s-ge-STATIONS
 unfolding call_at has_station
-returns c = simp (le-ltb _ _ c.before.if1.true) c.no_call.ensures
+returns c = simp (le-ltb _ _ c.before.if-s-ge-STATIONS.true) c.no_call.ensures
 
-no_call_requires_2 : tie.Need-no-call-requires-2
+no_call_requires_2 : tie.Need-no_call-requires-then-words-lt-RECORDS
 no_call_requires_2 c κs = search rules
 
-returns_2 : tie.Need-returns-2
+returns_2 : tie.Need-returns-then-words-lt-RECORDS
 unfolding call_at has_station
-returns_2 c = simp (lt-ltb _ _ c.before.before.if1.false, lt-leb _ _ c.before.if2.true) c.no-call2.ensures
+returns_2 c = simp (lt-ltb _ _ c.before.before.if-s-ge-STATIONS.false, lt-leb _ _ c.before.if-words-lt-RECORDS.true) c.no_call-then-words-lt-RECORDS.ensures
 
-at_call_requires : tie.Need-at-call-requires
+at_call_requires : tie.Need-at_call-start-requires
 at_call_requires c κs = search rules
 
-add_end : tie.Need-overflow-add-end
+add_end : tie.Need-overflow_add-end
 unfolding at_call at_station
 add_end c = search rules
 
-at_best_requires : tie.Need-at-best-requires
+at_best_requires : tie.Need-at_best-first-requires
 at_best_requires c κs = search rules
 
-add_last : tie.Need-overflow-add-last
+add_last : tie.Need-overflow_add-last
 unfolding at_best at_station
 add_last c = search rules
 
-mul_best_of : tie.Need-overflow-mul-best-of
+mul_best_of : tie.Need-offset_bounds-words-first
 unfolding at_best at_station
 mul_best_of c = search rules
 
-sub_best_of : tie.Need-overflow-sub-best-of
+sub_best_of : tie.Need-slice_bounds-best_of-count
 sub_best_of c = search rules
 
-part_best_of_start : tie.Need-slice-bounds-best-of-start
+part_best_of_start : tie.Need-slice_bounds-best_of-start
 part_best_of_start c = search rules
 
-part_best_of_end : tie.Need-slice-bounds-best-of-end
+part_best_of_end : tie.Need-slice_bounds-best_of-end
 unfolding at_best at_station
 part_best_of_end c = search rules
 
-best_of_requires : tie.Need-best-of-requires
+best_of_requires : tie.Need-best_of-best-requires
 best_of_requires c κs = search rules
 
-mul_call_of : tie.Need-overflow-mul-call-of
+mul_call_of : tie.Need-offset_bounds-words-start
 unfolding at_call at_station
 mul_call_of c = search rules
 
-sub_call_of : tie.Need-overflow-sub-call-of
+sub_call_of : tie.Need-slice_bounds-call_of-count
 sub_call_of c = search rules
 
-part_call_of_start : tie.Need-slice-bounds-call-of-start
+part_call_of_start : tie.Need-slice_bounds-call_of-start
 part_call_of_start c = search rules
 
-part_call_of_end : tie.Need-slice-bounds-call-of-end
+part_call_of_end : tie.Need-slice_bounds-call_of-end
 unfolding at_call at_station
 part_call_of_end c = search rules
 
-call_of_requires : tie.Need-call-of-requires
+call_of_requires : tie.Need-call_of-requires
 call_of_requires c κs = search rules
 
-returns_3 : tie.Need-returns-3
+returns_3 : tie.Need-returns
 unfolding call_at has_station
 returns_3 c =
     let b = c.before.before in
     let h = b.before.before in
     let e = h.before.before in
     let s = e.before.before.before.args in
-    simp (lt-ltb _ _ e.before.if1.false, le-leb _ _ e.if2.false)
-    (c.call-of.ensures
-    ∙ ap₂ call_of (part_lent s.words.now (at_call s.s) _ 8 h.before.at_call.ensures)
-    (b.best_of.ensures ∙ ap best_of (part_lent s.words.now (at_best s.s) _ 6 h.at-best.ensures)))
+    simp (lt-ltb _ _ e.before.if-s-ge-STATIONS.false, le-leb _ _ e.if-words-lt-RECORDS.false)
+    (c.call_of.ensures
+    ∙ ap₂ call_of (part_lent s.words.now (at_call s.s) _ 8 h.before.at_call-start.ensures)
+    (b.best_of-best.ensures ∙ ap best_of (part_lent s.words.now (at_best s.s) _ 6 h.at_best-first.ensures)))
 
 pub read_call_spec : {M : Type 1} → statement M
 read_call_spec =

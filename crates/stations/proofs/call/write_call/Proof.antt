@@ -4,13 +4,13 @@ use Rattle.stations.proofs.call.write_call.Statement.{statement}
 use Rattle.stations.proofs.call.write_call.Tie as tie
 use Rattle.stations.specs.Call.{put_call}
 
-write_asked_requires : tie.Need-write-asked-requires
+write_asked_requires : tie.Need-write_asked-requires
 write_asked_requires c κs = search rules
 
-write_best_requires : tie.Need-write-best-requires
+write_best_requires : tie.Need-write_best-requires
 write_best_requires c κs = search rules
 
-same_length : tie.Need-same-length
+same_length : tie.Need-shape_of-words
 same_length c = search rules
 
 returns : tie.Need-returns

@@ -7,14 +7,14 @@ use native.Mathlib.Omega.{arith}
 use Rattle.stations.specs.Common.{awaiting_in}
 use Rattle.stations.proofs.TakenLaws.{least_removals}
 
-read_counts_requires : tie.Need-read-counts-requires
+read_counts_requires : tie.Need-read_counts-requires
 read_counts_requires c κs = search rules
 
-least_since_requires : tie.Need-least-since-requires
+least_since_requires : tie.Need-least_since-requires
 least_since_requires c κs = search rules
 
-sub_result : tie.Need-overflow-sub-result
-sub_result c = omega (arith, least_removals c.before.before.before.before.args.words.now, c.before.least-since.ensures, ap (λ x. x.removals) c.before.before.read-counts.ensures)
+sub_result : tie.Need-overflow_sub-result
+sub_result c = omega (arith, least_removals c.before.before.before.before.args.words.now, c.before.least_since.ensures, ap (λ x. x.removals) c.before.before.read_counts.ensures)
 
 returns : tie.Need-returns
 unfolding awaiting_in

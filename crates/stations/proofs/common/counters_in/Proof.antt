@@ -4,10 +4,10 @@ use Rattle.stations.proofs.common.counters_in.Statement.{statement}
 use Rattle.stations.proofs.common.counters_in.Tie as tie
 use Rattle.stations.specs.Common.{counters_in}
 
-greatest_counter_requires : tie.Need-greatest-counter-requires
+greatest_counter_requires : tie.Need-greatest_counter-requires
 greatest_counter_requires c κs = search rules
 
-read_limit_requires : tie.Need-read-limit-requires
+read_limit_requires : tie.Need-read_limit-requires
 read_limit_requires c κs = search rules
 
 returns : tie.Need-returns

@@ -9,16 +9,16 @@ use Rattle.stations.proofs.OpeningLaws.{opened_is}
 get_requires : tie.Need-get-requires
 get_requires c κs = search rules
 
-read_places_requires : tie.Need-read-places-requires
+read_places_requires : tie.Need-read_places-requires
 read_places_requires c κs = search rules
 
-read_limit_requires : tie.Need-read-limit-requires
+read_limit_requires : tie.Need-read_limit-requires
 read_limit_requires c κs = search rules
 
-read_scale_requires : tie.Need-read-scale-requires
+read_scale_requires : tie.Need-read_scale-requires
 read_scale_requires c κs = search rules
 
-open_in_requires : tie.Need-open-in-requires
+open_in_requires : tie.Need-open_in-requires
 open_in_requires c κs = search rules
 
 returns : tie.Need-returns

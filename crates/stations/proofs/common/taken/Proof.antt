@@ -4,19 +4,19 @@ use Rattle.stations.proofs.common.taken.Statement.{statement}
 use Rattle.stations.proofs.common.taken.Tie as tie
 use Rattle.stations.specs.Common.{taken_in}
 
-read_counts_requires : tie.Need-read-counts-requires
+read_counts_requires : tie.Need-read_counts-requires
 read_counts_requires c κs = search rules
 
-cast_result : tie.Need-overflow-cast-result
+cast_result : tie.Need-overflow_cast-result
 cast_result c = search rules
 
 awaiting_requires : tie.Need-awaiting-requires
 awaiting_requires c κs = search rules
 
-cast_result_2 : tie.Need-overflow-cast-result-2
+cast_result_2 : tie.Need-overflow_cast-result-2
 cast_result_2 c = search rules
 
-add_result : tie.Need-overflow-add-result
+add_result : tie.Need-overflow_add-result
 add_result c = search rules
 
 returns : tie.Need-returns

@@ -4,16 +4,16 @@ use Rattle.stations.proofs.common.track_in.Statement.{statement}
 use Rattle.stations.proofs.common.track_in.Tie as tie
 use Rattle.stations.specs.Common.{track_in}
 
-read_track_requires : tie.Need-read-track-requires
+read_track_requires : tie.Need-read_track-track-requires
 read_track_requires c κs = search rules
 
-link_in_requires : tie.Need-link-in-requires
+link_in_requires : tie.Need-link_in-requires
 link_in_requires c κs = search rules
 
-since_in_requires : tie.Need-since-in-requires
+since_in_requires : tie.Need-since_in-requires
 since_in_requires c κs = search rules
 
-link_in_requires_2 : tie.Need-link-in-requires-2
+link_in_requires_2 : tie.Need-link_in-requires-2
 link_in_requires_2 c κs = search rules
 
 returns : tie.Need-returns

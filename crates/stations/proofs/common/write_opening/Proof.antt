@@ -14,10 +14,10 @@ put_requires_2 c κs = search rules
 put_requires_3 : tie.Need-put-requires-3
 put_requires_3 c κs = search rules
 
-write_scale_requires : tie.Need-write-scale-requires
+write_scale_requires : tie.Need-write_scale-requires
 write_scale_requires c κs = search rules
 
-same_length : tie.Need-same-length
+same_length : tie.Need-shape_of-words
 same_length c = search rules
 
 returns : tie.Need-returns

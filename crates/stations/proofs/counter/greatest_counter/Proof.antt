@@ -9,35 +9,35 @@ use native.Mathlib.Numerals.{add-one}
 use Rattle.words.specs.Layout.{stations}
 use Rattle.stations.specs.Counter.{greatest_counter}
 
-abbrev invariant_loop : tie.invariant-loop
+abbrev invariant_loop : tie.invariant-loop-s
 invariant_loop words most₀ s₀ most s = (s ≤ stations) × (most ≡ greatest_counter words s)
 
-abbrev decreases_loop : tie.decreases-loop
+abbrev decreases_loop : tie.decreases-loop-s
 decreases_loop words most₀ s₀ most s = stations - s
 
-loop_holds : tie.Need-loop-init invariant_loop decreases_loop
+loop_holds : tie.Need-loop-s-init invariant_loop decreases_loop
 unfolding greatest_counter
 loop_holds c = (omega arith, refl)
 
-read_counter_requires : tie.Need-read-counter-requires invariant_loop decreases_loop
+read_counter_requires : tie.Need-read_counter-requires invariant_loop decreases_loop
 read_counter_requires c κs = search rules
 
-higher_requires : tie.Need-higher-requires invariant_loop decreases_loop
+higher_requires : tie.Need-higher-most-requires invariant_loop decreases_loop
 higher_requires c κs = search rules
 
-add_s : tie.Need-overflow-add-s invariant_loop decreases_loop
+add_s : tie.Need-overflow_add-s invariant_loop decreases_loop
 add_s c = search rules
 
-loop_less : tie.Need-loop-smaller invariant_loop decreases_loop
+loop_less : tie.Need-loop-s-smaller invariant_loop decreases_loop
 loop_less c = omega arith
 
-loop_again : tie.Need-loop-preserved invariant_loop decreases_loop
+loop_again : tie.Need-loop-s-preserved invariant_loop decreases_loop
 unfolding greatest_counter
 loop_again c = (omega arith, simp add-one (cc))
 
 returns : tie.Need-returns invariant_loop decreases_loop
 returns c =
-    let l = c.before.loop in
+    let l = c.before.loop-s in
     let all : l.s ≡ stations = omega arith in
     cc
 

@@ -8,31 +8,31 @@ use Rattle.stations.specs.Counts.{counts_at}
 get_requires : tie.Need-get-requires
 get_requires c κs = search rules
 
-add_get : tie.Need-overflow-add-get
+add_get : tie.Need-overflow_add-get
 add_get c = search rules
 
 get_requires_2 : tie.Need-get-requires-2
 get_requires_2 c κs = search rules
 
-add_get_2 : tie.Need-overflow-add-get-2
+add_get_2 : tie.Need-overflow_add-get-2
 add_get_2 c = search rules
 
 get_requires_3 : tie.Need-get-requires-3
 get_requires_3 c κs = search rules
 
-add_get_3 : tie.Need-overflow-add-get-3
+add_get_3 : tie.Need-overflow_add-get-3
 add_get_3 c = search rules
 
 get_requires_4 : tie.Need-get-requires-4
 get_requires_4 c κs = search rules
 
-add_get_4 : tie.Need-overflow-add-get-4
+add_get_4 : tie.Need-overflow_add-get-4
 add_get_4 c = search rules
 
 get_requires_5 : tie.Need-get-requires-5
 get_requires_5 c κs = search rules
 
-add_get_5 : tie.Need-overflow-add-get-5
+add_get_5 : tie.Need-overflow_add-get-5
 add_get_5 c = search rules
 
 get_requires_6 : tie.Need-get-requires-6

@@ -9,30 +9,30 @@ use Rattle.words.specs.Layout.{at_scale}
 use Rattle.words.proofs.Lent.{part_put}
 use Rattle.stations.specs.Scale.{scale_words, put_scale}
 
-scale_words_requires : tie.Need-scale-words-requires
+scale_words_requires : tie.Need-scale_words-from-requires
 scale_words_requires c κs = search rules
 
-slice_aggregate_write_part : tie.Need-slice-aggregate-write-part
+slice_aggregate_write_part : tie.Need-slice_bounds-write_part-end
 slice_aggregate_write_part c = search rules
 
-write_part_requires : tie.Need-write-part-requires
+write_part_requires : tie.Need-write_part-requires
 write_part_requires c κs = search rules
 
-same_length : tie.Need-same-length
+same_length : tie.Need-shape_of-words
 same_length c = search rules
 
-returns : tie.Need-returns
+returns : tie.Need-returns-then-words-ge-COMMON_SIZE
 unfolding put_scale scale_words at_scale
 returns c =
     let p = c.before.before in
     let b = p.before.before.before in
     let t = b.before in
     let s = t.before.before.args in
-    rw (le-leb _ _ t.if1.true) (p.write-part.ensures ∙ part_put s.words.now _ (scale_words s.scale) at_scale _ 5 b.scale-words.ensures refl refl (omega arith))
+    rw (le-leb _ _ t.if-words-ge-COMMON_SIZE.true) (p.write_part.ensures ∙ part_put s.words.now _ (scale_words s.scale) at_scale _ 5 b.scale_words-from.ensures refl refl (omega arith))
 
-returns_2 : tie.Need-returns-2
+returns_2 : tie.Need-returns-else-words-ge-COMMON_SIZE
 unfolding put_scale
-returns_2 c = rw (lt-leb _ _ c.if1.false)
+returns_2 c = rw (lt-leb _ _ c.if-words-ge-COMMON_SIZE.false)
 
 pub write_scale_spec : {M : Type 1} → statement M
 write_scale_spec =

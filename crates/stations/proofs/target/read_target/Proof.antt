@@ -3,72 +3,72 @@ use borrow.Author.Rules.{rules}
 use Rattle.stations.proofs.target.read_target.Statement.{statement}
 use Rattle.stations.proofs.target.read_target.Tie as tie
 use mathlib.Core.Path.{ap, ◌∙◌}
-use Rattle.words.specs.Layout.{atTarget}
-use Rattle.stations.specs.Station.{hasStation}
-use Rattle.stations.specs.Target.{target_of, targetAt}
+use Rattle.words.specs.Layout.{at_target}
+use Rattle.stations.specs.Station.{has_station}
+use Rattle.stations.specs.Target.{target_of, target_at}
 use borrow.Author.Tests.{lt-ltb, le-ltb, le-leb, lt-leb}
-use Rattle.words.proofs.Lent.{part-lent}
+use Rattle.words.proofs.Lent.{part_lent}
 
-no-target-requires : tie.Need-no-target-requires
-no-target-requires c κs = search rules
+no_target_requires : tie.Need-no_target-requires
+no_target_requires c κs = search rules
 
-returns : tie.Need-returns
-unfolding targetAt hasStation
-returns c = simp (le-ltb _ _ c.before.if1.true) c.no_target.ensures
+returns : tie.Need-returns-then-s-ge-STATIONS
+unfolding target_at has_station
+returns c = simp (le-ltb _ _ c.before.if-s-ge-STATIONS.true) c.no_target.ensures
 
-no-target-requires-2 : tie.Need-no-target-requires-2
-no-target-requires-2 c κs = search rules
+no_target_requires_2 : tie.Need-no_target-requires-then-words-lt-RECORDS
+no_target_requires_2 c κs = search rules
 
-returns-2 : tie.Need-returns-2
-unfolding targetAt hasStation
-returns-2 c = simp (lt-ltb _ _ c.before.before.if1.false, lt-leb _ _ c.before.if2.true) c.no-target2.ensures
+returns_2 : tie.Need-returns-then-words-lt-RECORDS
+unfolding target_at has_station
+returns_2 c = simp (lt-ltb _ _ c.before.before.if-s-ge-STATIONS.false, lt-leb _ _ c.before.if-words-lt-RECORDS.true) c.no_target-then-words-lt-RECORDS.ensures
 
-at-target-requires : tie.Need-at-target-requires
-at-target-requires c κs = search rules
+at_target_requires : tie.Need-at_target-start-requires
+at_target_requires c κs = search rules
 
-add-end : tie.Need-overflow-add-end
-unfolding atTarget
-add-end c = search rules
+add_end : tie.Need-overflow_add-end
+unfolding at_target
+add_end c = search rules
 
-mul-target-of : tie.Need-overflow-mul-target-of
-unfolding atTarget
-mul-target-of c = search rules
+mul_target_of : tie.Need-offset_bounds-words-start
+unfolding at_target
+mul_target_of c = search rules
 
-sub-target-of : tie.Need-overflow-sub-target-of
-sub-target-of c = search rules
+sub_target_of : tie.Need-slice_bounds-target_of-count
+sub_target_of c = search rules
 
-part-target-of-start : tie.Need-slice-bounds-target-of-start
-part-target-of-start c = search rules
+part_target_of_start : tie.Need-slice_bounds-target_of-start
+part_target_of_start c = search rules
 
-part-target-of-end : tie.Need-slice-bounds-target-of-end
-unfolding atTarget
-part-target-of-end c = search rules
+part_target_of_end : tie.Need-slice_bounds-target_of-end
+unfolding at_target
+part_target_of_end c = search rules
 
-target-of-requires : tie.Need-target-of-requires
-target-of-requires c κs = search rules
+target_of_requires : tie.Need-target_of-requires
+target_of_requires c κs = search rules
 
-returns-3 : tie.Need-returns-3
-unfolding targetAt hasStation
-returns-3 c =
+returns_3 : tie.Need-returns
+unfolding target_at has_station
+returns_3 c =
     let a = c.before.before in
     let e = a.before in
     let s = e.before.before.before.args in
-    simp (lt-ltb _ _ e.before.if1.false, le-leb _ _ e.if2.false)
-    (c.target-of.ensures ∙ ap target_of (part-lent s.words.now (atTarget s.s) _ 4 a.at_Target.ensures))
+    simp (lt-ltb _ _ e.before.if-s-ge-STATIONS.false, le-leb _ _ e.if-words-lt-RECORDS.false)
+    (c.target_of.ensures ∙ ap target_of (part_lent s.words.now (at_target s.s) _ 4 a.at_target-start.ensures))
 
-pub read-target-spec : {M : Type 1} → statement M
-read-target-spec =
+pub read_target_spec : {M : Type 1} → statement M
+read_target_spec =
     tie.close
     (tie.spec
-    no-target-requires
+    no_target_requires
     returns
-    no-target-requires-2
-    returns-2
-    at-target-requires
-    add-end
-    mul-target-of
-    sub-target-of
-    part-target-of-start
-    part-target-of-end
-    target-of-requires
-    returns-3)
+    no_target_requires_2
+    returns_2
+    at_target_requires
+    add_end
+    mul_target_of
+    sub_target_of
+    part_target_of_start
+    part_target_of_end
+    target_of_requires
+    returns_3)

@@ -2,24 +2,24 @@
 use borrow.Author.Rules.{rules}
 use Rattle.stations.proofs.target.target_words.Statement.{statement}
 use Rattle.stations.proofs.target.target_words.Tie as tie
-use Rattle.stations.specs.Target.{targetWords}
+use Rattle.stations.specs.Target.{target_words}
 
-word-requires : tie.Need-word-requires
-word-requires c κs = search rules
+word_requires : tie.Need-word-requires
+word_requires c κs = search rules
 
-word-requires-2 : tie.Need-word-requires-2
-word-requires-2 c κs = search rules
+word_requires_2 : tie.Need-word-requires-2
+word_requires_2 c κs = search rules
 
-word-requires-3 : tie.Need-word-requires-3
-word-requires-3 c κs = search rules
+word_requires_3 : tie.Need-word-requires-3
+word_requires_3 c κs = search rules
 
-pair-of-requires : tie.Need-pair-of-requires
-pair-of-requires c κs = search rules
+pair_of_requires : tie.Need-pair_of-requires
+pair_of_requires c κs = search rules
 
 returns : tie.Need-returns
-unfolding targetWords
+unfolding target_words
 returns c = cc
 
-pub target-words-spec : {M : Type 1} → statement M
-target-words-spec =
-    tie.close (tie.spec word-requires word-requires-2 word-requires-3 pair-of-requires returns)
+pub target_words_spec : {M : Type 1} → statement M
+target_words_spec =
+    tie.close (tie.spec word_requires word_requires_2 word_requires_3 pair_of_requires returns)

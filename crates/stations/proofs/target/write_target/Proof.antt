@@ -3,54 +3,54 @@ use borrow.Author.Rules.{rules}
 use Rattle.stations.proofs.target.write_target.Statement.{statement}
 use Rattle.stations.proofs.target.write_target.Tie as tie
 use mathlib.Core.Path.{refl, sym, ◌∙◌}
-use Rattle.words.specs.Layout.{atTarget}
-use Rattle.stations.specs.Target.{targetWords, putTarget}
-use Rattle.stations.proofs.StationLaws.{target_fits, station-part}
+use Rattle.words.specs.Layout.{at_target}
+use Rattle.stations.specs.Target.{target_words, put_target}
+use Rattle.stations.proofs.StationLaws.{target_fits, station_part}
 
-has-station-requires : tie.Need-has-station-requires
-has-station-requires c κs = search rules
+has_station_requires : tie.Need-has_station-requires
+has_station_requires c κs = search rules
 
-target-words-requires : tie.Need-target-words-requires
-target-words-requires c κs = search rules
+target_words_requires : tie.Need-target_words-from-requires
+target_words_requires c κs = search rules
 
-at-target-requires : tie.Need-at-target-requires
-at-target-requires c κs = search rules
+at_target_requires : tie.Need-at_target-requires
+at_target_requires c κs = search rules
 
-slice-aggregate-write-part : tie.Need-slice-aggregate-write-part
-slice-aggregate-write-part c = search rules
+slice_aggregate_write_part : tie.Need-slice_bounds-write_part-end
+slice_aggregate_write_part c = search rules
 
-write-part-requires : tie.Need-write-part-requires
-write-part-requires c κs = search rules
+write_part_requires : tie.Need-write_part-requires
+write_part_requires c κs = search rules
 
-same_length : tie.Need-same-length
+same_length : tie.Need-shape_of-words-then-has_station
 same_length c = search rules
 
-returns : tie.Need-returns
-unfolding putTarget targetWords
+returns : tie.Need-returns-then-has_station
+unfolding put_target target_words
 returns c =
     let p = c.before.before in
     let a = p.before.before in
     let b = a.before.before in
     let t = b.before in
-    p.write-part.ensures ∙ station-part _ (atTarget _) 4 (sym t.before.has-station.ensures ∙ t.if1.true) b.target-words.ensures a.at_Target.ensures refl target_fits
+    p.write_part.ensures ∙ station_part _ (at_target _) 4 (sym t.before.has_station.ensures ∙ t.if-has_station.true) b.target_words-from.ensures a.at_target.ensures refl target_fits
 
-same-length-2 : tie.Need-same-length-2
-same-length-2 c = search rules
+same_length_2 : tie.Need-shape_of-words-else-has_station
+same_length_2 c = search rules
 
-returns-2 : tie.Need-returns-2
-unfolding putTarget
-returns-2 c = rw (sym c.before.has-station.ensures ∙ c.if1.false)
+returns_2 : tie.Need-returns-else-has_station
+unfolding put_target
+returns_2 c = rw (sym c.before.has_station.ensures ∙ c.if-has_station.false)
 
-pub write-target-spec : {M : Type 1} → statement M
-write-target-spec =
+pub write_target_spec : {M : Type 1} → statement M
+write_target_spec =
     tie.close
     (tie.spec
-    has-station-requires
-    target-words-requires
-    at-target-requires
-    slice-aggregate-write-part
-    write-part-requires
+    has_station_requires
+    target_words_requires
+    at_target_requires
+    slice_aggregate_write_part
+    write_part_requires
     same_length
     returns
-    same-length-2
-    returns-2)
+    same_length_2
+    returns_2)

@@ -8,7 +8,7 @@ use Rattle.calls.specs.Advance.{advance_of}
 advance_requires : tie.Need-advance-requires
 advance_requires c κs = search rules
 
-same_length : tie.Need-same-length
+same_length : tie.Need-shape_of-words
 same_length c = search rules
 
 returns : tie.Need-returns

@@ -4,16 +4,16 @@ use Rattle.submissions.proofs.submit.begin.Statement.{statement}
 use Rattle.submissions.proofs.submit.begin.Tie as tie
 use Rattle.calls.specs.Submit.{begun_words}
 
-read_counts_requires : tie.Need-read-counts-requires
+read_counts_requires : tie.Need-read_counts-counts-requires
 read_counts_requires c κs = search rules
 
-begun_track_requires : tie.Need-begun-track-requires
+begun_track_requires : tie.Need-begun_track-requires
 begun_track_requires c κs = search rules
 
-write_track_requires : tie.Need-write-track-requires
+write_track_requires : tie.Need-write_track-requires
 write_track_requires c κs = search rules
 
-same_length : tie.Need-same-length
+same_length : tie.Need-shape_of-words
 same_length c = search rules
 
 returns : tie.Need-returns

@@ -4,7 +4,7 @@ use Rattle.submissions.proofs.submit.begun_track.Statement.{statement}
 use Rattle.submissions.proofs.submit.begun_track.Tie as tie
 use Rattle.calls.specs.Submit.{begun_track}
 
-since_for_requires : tie.Need-since-for-requires
+since_for_requires : tie.Need-since_for-requires
 since_for_requires c κs = search rules
 
 returns : tie.Need-returns

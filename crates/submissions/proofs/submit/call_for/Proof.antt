@@ -7,7 +7,7 @@ use Rattle.calls.specs.Submit.{call_for}
 pick_requires : tie.Need-pick-requires
 pick_requires c κs = search rules
 
-no_best_requires : tie.Need-no-best-requires
+no_best_requires : tie.Need-no_best-requires
 no_best_requires c κs = search rules
 
 returns : tie.Need-returns

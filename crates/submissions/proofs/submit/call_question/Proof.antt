@@ -4,22 +4,22 @@ use Rattle.submissions.proofs.submit.call_question.Statement.{statement}
 use Rattle.submissions.proofs.submit.call_question.Tie as tie
 use Rattle.calls.specs.Submit.{call_question}
 
-curve_fits_requires : tie.Need-curve-fits-requires
+curve_fits_requires : tie.Need-curve_fits-requires
 curve_fits_requires c κs = search rules
 
-pick_requires : tie.Need-pick-requires
+pick_requires : tie.Need-pick-ninth-requires
 pick_requires c κs = search rules
 
-in_range_by_requires : tie.Need-in-range-by-requires
+in_range_by_requires : tie.Need-in_range_by-requires
 in_range_by_requires c κs = search rules
 
-pick_requires_2 : tie.Need-pick-requires-2
+pick_requires_2 : tie.Need-pick-eighth-requires
 pick_requires_2 c κs = search rules
 
-kind_in_requires : tie.Need-kind-in-requires
+kind_in_requires : tie.Need-kind_in-requires
 kind_in_requires c κs = search rules
 
-pick_requires_3 : tie.Need-pick-requires-3
+pick_requires_3 : tie.Need-pick-requires
 pick_requires_3 c κs = search rules
 
 returns : tie.Need-returns

@@ -3,7 +3,7 @@ use borrow.Author.Rules.{rules}
 use Rattle.submissions.proofs.submit.curve_fits.Statement.{statement}
 use Rattle.submissions.proofs.submit.curve_fits.Tie as tie
 
-curve_in_requires : tie.Need-curve-in-requires
+curve_in_requires : tie.Need-curve_in-requires
 curve_in_requires c κs = search rules
 
 returns : tie.Need-returns

@@ -6,25 +6,25 @@ use borrow.Author.Tests.{eq-eqb, ne_eqb}
 use mathlib.Core.Path.{sym}
 use Rattle.calls.proofs.Questions.{submit_settled}
 
-submit_question_requires : tie.Need-submit-question-requires
+submit_question_requires : tie.Need-submit_question-number-requires
 submit_question_requires c κs = search rules
 
-write_submitted_requires : tie.Need-write-submitted-requires
+write_submitted_requires : tie.Need-write_submitted-requires
 write_submitted_requires c κs = search rules
 
-same_length : tie.Need-same-length
+same_length : tie.Need-shape_of-words-then-number-eq0
 same_length c = search rules
 
-returns : tie.Need-returns
+returns : tie.Need-returns-then-number-eq0
 returns c =
     let t = c.before.before.before.before in
-    simp (submit_settled, sym t.before.submit-question.ensures, eq-eqb _ _ t.if1.true) (cc)
+    simp (submit_settled, sym t.before.submit_question-number.ensures, eq-eqb _ _ t.if-number-eq0.true) (cc)
 
-same_length_2 : tie.Need-same-length-2
+same_length_2 : tie.Need-shape_of-words-else-number-eq0
 same_length_2 c = search rules
 
-returns_2 : tie.Need-returns-2
-returns_2 c = simp (submit_settled, sym c.before.submit-question.ensures, ne_eqb _ _ c.if1.false)
+returns_2 : tie.Need-returns-else-number-eq0
+returns_2 c = simp (submit_settled, sym c.before.submit_question-number.ensures, ne_eqb _ _ c.if-number-eq0.false)
 
 pub submit_spec : {M : Type 1} → statement M
 submit_spec =

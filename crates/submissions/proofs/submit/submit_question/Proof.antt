@@ -4,28 +4,28 @@ use Rattle.submissions.proofs.submit.submit_question.Statement.{statement}
 use Rattle.submissions.proofs.submit.submit_question.Tie as tie
 use Rattle.calls.specs.Submit.{submit_question}
 
-read_state_requires : tie.Need-read-state-requires
+read_state_requires : tie.Need-read_state-state-requires
 read_state_requires c κs = search rules
 
-read_rule_requires : tie.Need-read-rule-requires
+read_rule_requires : tie.Need-read_rule-requires
 read_rule_requires c κs = search rules
 
-is_idle_requires : tie.Need-is-idle-requires
+is_idle_requires : tie.Need-is_idle-requires
 is_idle_requires c κs = search rules
 
-call_question_requires : tie.Need-call-question-requires
+call_question_requires : tie.Need-call_question-call-requires
 call_question_requires c κs = search rules
 
-pick_requires : tie.Need-pick-requires
+pick_requires : tie.Need-pick-sixth-requires
 pick_requires c κs = search rules
 
-pick_requires_2 : tie.Need-pick-requires-2
+pick_requires_2 : tie.Need-pick-fifth-requires
 pick_requires_2 c κs = search rules
 
-is_opened_requires : tie.Need-is-opened-requires
+is_opened_requires : tie.Need-is_opened-requires
 is_opened_requires c κs = search rules
 
-pick_requires_3 : tie.Need-pick-requires-3
+pick_requires_3 : tie.Need-pick-requires
 pick_requires_3 c κs = search rules
 
 returns : tie.Need-returns

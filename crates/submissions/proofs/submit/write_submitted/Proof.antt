@@ -4,22 +4,22 @@ use Rattle.submissions.proofs.submit.write_submitted.Statement.{statement}
 use Rattle.submissions.proofs.submit.write_submitted.Tie as tie
 use Rattle.calls.specs.Submit.{aimed_words, submitted_words}
 
-read_state_requires : tie.Need-read-state-requires
+read_state_requires : tie.Need-read_state-state-requires
 read_state_requires c κs = search rules
 
-read_counts_requires : tie.Need-read-counts-requires
+read_counts_requires : tie.Need-read_counts-changes-requires
 read_counts_requires c κs = search rules
 
-call_for_requires : tie.Need-call-for-requires
+call_for_requires : tie.Need-call_for-requires
 call_for_requires c κs = search rules
 
-write_call_requires : tie.Need-write-call-requires
+write_call_requires : tie.Need-write_call-requires
 write_call_requires c κs = search rules
 
 submitted_requires : tie.Need-submitted-requires
 submitted_requires c κs = search rules
 
-write_state_requires : tie.Need-write-state-requires
+write_state_requires : tie.Need-write_state-requires
 write_state_requires c κs = search rules
 
 begin_requires : tie.Need-begin-requires
@@ -28,7 +28,7 @@ begin_requires c κs = search rules
 aim_requires : tie.Need-aim-requires
 aim_requires c κs = search rules
 
-same_length : tie.Need-same-length
+same_length : tie.Need-shape_of-words
 same_length c = search rules
 
 returns : tie.Need-returns

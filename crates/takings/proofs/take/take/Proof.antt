@@ -4,13 +4,13 @@ use Rattle.takings.proofs.take.take.Statement.{statement}
 use Rattle.takings.proofs.take.take.Tie as tie
 use Rattle.calls.specs.Take.{take_words}
 
-taking_at_requires : tie.Need-taking-at-requires
+taking_at_requires : tie.Need-taking_at-taking-requires
 taking_at_requires c κs = search rules
 
-write_emptied_requires : tie.Need-write-emptied-requires
+write_emptied_requires : tie.Need-write_emptied-requires
 write_emptied_requires c κs = search rules
 
-same_length : tie.Need-same-length
+same_length : tie.Need-shape_of-words
 same_length c = search rules
 
 returns : tie.Need-returns

@@ -3,31 +3,31 @@ use borrow.Author.Rules.{rules}
 use Rattle.takings.proofs.take.write_emptied.Statement.{statement}
 use Rattle.takings.proofs.take.write_emptied.Tie as tie
 
-enum_told : tie.Need-enum-told
+enum_told : tie.Need-enum_told-1
 enum_told c = search rules
 
-enum_told_2 : tie.Need-enum-told-2
+enum_told_2 : tie.Need-enum_told-in-Given
 enum_told_2 c = search rules
 
-read_state_requires : tie.Need-read-state-requires
+read_state_requires : tie.Need-read_state-state-requires
 read_state_requires c κs = search rules
 
 emptied_requires : tie.Need-emptied-requires
 emptied_requires c κs = search rules
 
-write_state_requires : tie.Need-write-state-requires
+write_state_requires : tie.Need-write_state-requires
 write_state_requires c κs = search rules
 
-returns : tie.Need-returns
+returns : tie.Need-returns-in-Refused
 returns c = search rules
 
-same_length : tie.Need-same-length
+same_length : tie.Need-shape_of-words
 same_length c = search rules
 
-returns_2 : tie.Need-returns-2
+returns_2 : tie.Need-returns-in-Given
 returns_2 c =
-    let t = c.before.before.before.before.before.before.before in
-    rw t.enum-told2.given.1 (cc)
+    let t = c.before.before.before.before.before.before in
+    rw t.in-Given.is (cc)
 
 pub write_emptied_spec : {M : Type 1} → statement M
 write_emptied_spec =

@@ -18,29 +18,29 @@ near c = c.ranges.n.sfits
 back : (c : tie.Start) → to_z w32 (of_z w32 c.args.n) ≡ c.args.n
 back c = to_z-of_z {w = w32} c.ranges.n
 
-negative : (c : tie.Then1) → Flipped c.before.args.n
-negative c = flipped c.before.args.n (near c.before) (rw (back c.before) at c.if1.true)
+negative : (c : tie.Then-n-lt0) → Flipped c.before.args.n
+negative c = flipped c.before.args.n (near c.before) (rw (back c.before) at c.if-n-lt0.true)
 
-not_negative : (c : tie.Else1) → Kept c.before.args.n
-not_negative c = kept c.before.args.n (near c.before) (rw (back c.before) at c.if1.false)
+not_negative : (c : tie.Else-n-lt0) → Kept c.before.args.n
+not_negative c = kept c.before.args.n (near c.before) (rw (back c.before) at c.if-n-lt0.false)
 
-sub_result : tie.Need-overflow-sub-result
+sub_result : tie.Need-overflow_sub-result
 sub_result c = rw (back c.before) (negative c).there
 
-cast_result : tie.Need-overflow-cast-result
+cast_result : tie.Need-overflow_cast-result
 cast_result c = rw (back c.before, to_z-of_z {w = w32} (negative c).there) ((negative c).not_negative, record { fits = omega (arith, (negative c).small) })
 
-add_result : tie.Need-overflow-add-result
+add_result : tie.Need-overflow_add-result
 add_result c = rw (back c.before, to_z-of_z {w = w32} (negative c).there) (omega (arith, (negative c).small))
 
-cast_result_2 : tie.Need-overflow-cast-result-2
+cast_result_2 : tie.Need-overflow_cast-result-else-n-lt0
 cast_result_2 c = rw (back c.before) ((not_negative c).not_negative, record { fits = omega (arith, (not_negative c).small) })
 
-returns : tie.Need-returns
+returns : tie.Need-returns-then-n-lt0
 returns c =
-    rw (back c.before, to_z-of_z {w = w32} (negative c).there) (size_negative c.before.args.n (rw (back c.before) at c.if1.true))
+    rw (back c.before, to_z-of_z {w = w32} (negative c).there) (size_negative c.before.args.n (rw (back c.before) at c.if-n-lt0.true))
 
-returns_2 : tie.Need-returns-2
+returns_2 : tie.Need-returns-else-n-lt0
 returns_2 c = rw (back c.before)
 
 pub magnitude_spec : {M : Type 1} → statement M

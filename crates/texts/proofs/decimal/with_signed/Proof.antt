@@ -18,36 +18,36 @@ use Rattle.texts.proofs.decimal.with_signed.Tie as tie
 back : (c : tie.Start) → to_z w32 (of_z w32 c.args.n) ≡ c.args.n
 back c = to_z-of_z {w = w32} c.ranges.n
 
-with_byte_requires : tie.Need-with-byte-requires
+with_byte_requires : tie.Need-with_byte-requires
 with_byte_requires c κs = search rules
 
 magnitude_requires : tie.Need-magnitude-requires
 magnitude_requires c κs = search rules
 
-with_number_requires : tie.Need-with-number-requires
+with_number_requires : tie.Need-with_number-requires
 with_number_requires c κs = search rules
 
-magnitude_requires_2 : tie.Need-magnitude-requires-2
+magnitude_requires_2 : tie.Need-magnitude-requires-else-n-lt0
 magnitude_requires_2 c κs = search rules
 
-with_number_requires_2 : tie.Need-with-number-requires-2
+with_number_requires_2 : tie.Need-with_number-requires-else-n-lt0
 with_number_requires_2 c κs = search rules
 
-returns : tie.Need-returns
+returns : tie.Need-returns-then-n-lt0
 returns c =
     let s = c.before.before.before.before in
     let n = s.args.n in
     let size = c.before.magnitude.ensures ∙ ap nat_abs (back s) in
-    let spelled = ap (λ (k : ℕ). minus ∷ decimal_of k) size ∙ sym (signed_negative n (rw (back s) at c.before.before.before.if1.true)) in
+    let spelled = ap (λ (k : ℕ). minus ∷ decimal_of k) size ∙ sym (signed_negative n (rw (back s) at c.before.before.before.if-n-lt0.true)) in
     subst (λ (xs : List ℕ). Puts s.args.text xs c.with_number.result) spelled (puts_both c.before.before.with_byte.ensures c.with_number.ensures)
 
-returns_2 : tie.Need-returns-2
+returns_2 : tie.Need-returns-else-n-lt0
 returns_2 c =
     let s = c.before.before.before in
     let n = s.args.n in
-    let size = c.before.magnitude2.ensures ∙ ap nat_abs (back s) in
-    let spelled = ap decimal_of size ∙ sym (signed_positive n (rw (back s) at c.before.before.if1.false)) in
-    subst (λ (xs : List ℕ). Puts s.args.text xs c.with-number2.result) spelled c.with-number2.ensures
+    let size = c.before.magnitude-else-n-lt0.ensures ∙ ap nat_abs (back s) in
+    let spelled = ap decimal_of size ∙ sym (signed_positive n (rw (back s) at c.before.before.if-n-lt0.false)) in
+    subst (λ (xs : List ℕ). Puts s.args.text xs c.with_number-else-n-lt0.result) spelled c.with_number-else-n-lt0.ensures
 
 pub with_signed_spec : {M : Type 1} → statement M
 with_signed_spec =

@@ -8,7 +8,7 @@ use Rattle.texts.proofs.line.answer_line.Tie as tie
 -- each number of the answer is of its width
 narrow : (c : tie.Start) → Narrow c.args.answer
 narrow c =
-    let a = c.well-formed.1.0.1.1 in
+    let a = c.well_formed.1.0.1.1 in
     let p = a.1.0.1.1 in
     record {
       code = a.0.1;
@@ -30,25 +30,25 @@ field_requires c κs = search rules
 field_requires_2 : tie.Need-field-requires-2
 field_requires_2 c κs = search rules
 
-cast_field : tie.Need-overflow-cast-field
+cast_field : tie.Need-overflow_cast-answer
 cast_field c = search rules
 
-field_requires_3 : tie.Need-field-requires-3
+field_requires_3 : tie.Need-field-start-requires
 field_requires_3 c κs = search rules
 
-with_point_requires : tie.Need-with-point-requires
+with_point_requires : tie.Need-with_point-requires
 with_point_requires c κs = search rules
 
-cast_field_2 : tie.Need-overflow-cast-field-2
+cast_field_2 : tie.Need-overflow_cast-answer-2
 cast_field_2 c = search rules
 
-field_requires_4 : tie.Need-field-requires-4
+field_requires_4 : tie.Need-field-found-requires
 field_requires_4 c κs = search rules
 
-with_number_requires : tie.Need-with-number-requires
+with_number_requires : tie.Need-with_number-requires
 with_number_requires c κs = search rules
 
-with_byte_requires : tie.Need-with-byte-requires
+with_byte_requires : tie.Need-with_byte-requires
 with_byte_requires c κs = search rules
 
 returns : tie.Need-returns
@@ -56,10 +56,10 @@ returns c =
     let code = c.before.before.before.before.before in
     let start = code.before.before.before.before.before.before in
     let found =
-    puts_both c.before.before.before.before.with-point.ensures
-    (puts_both c.before.before.field4.ensures (puts_both c.before.with_number.ensures c.with_byte.ensures)) in
+    puts_both c.before.before.before.before.with_point.ensures
+    (puts_both c.before.before.field-found.ensures (puts_both c.before.with_number.ensures c.with_byte.ensures)) in
     let fields =
-    puts_both code.before.before.before.field.ensures (puts_both code.before.before.field2.ensures (puts_both code.field3.ensures found)) in
+    puts_both code.before.before.before.field.ensures (puts_both code.before.before.field-2.ensures (puts_both code.field-start.ensures found)) in
     answer_text start.args.ordinal start.args.answer start.ranges.ordinal.fits (narrow start) code.before.before.before.before.empty.ensures fields
 
 pub answer_line_spec : {M : Type 1} → statement M

@@ -4,10 +4,10 @@ use Rattle.texts.proofs.TextLaws.{puts_both}
 use Rattle.texts.proofs.line.field.Statement.{statement}
 use Rattle.texts.proofs.line.field.Tie as tie
 
-with_number_requires : tie.Need-with-number-requires
+with_number_requires : tie.Need-with_number-requires
 with_number_requires c κs = search rules
 
-with_byte_requires : tie.Need-with-byte-requires
+with_byte_requires : tie.Need-with_byte-requires
 with_byte_requires c κs = search rules
 
 returns : tie.Need-returns

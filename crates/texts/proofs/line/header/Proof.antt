@@ -9,16 +9,13 @@ use Rattle.texts.proofs.line.header.Tie as tie
 empty_requires : tie.Need-empty-requires
 empty_requires c κs = search rules
 
-slice_aggregate_with_bytes : tie.Need-slice-aggregate-with-bytes
-slice_aggregate_with_bytes c = search rules
-
-with_bytes_requires : tie.Need-with-bytes-requires
+with_bytes_requires : tie.Need-with_bytes-requires
 with_bytes_requires c κs = search rules
 
 returns : tie.Need-returns
 unfolding header_bytes
-returns c = puts_all c.before.before.empty.ensures c.with-bytes.ensures (lit≤ tt)
+returns c = puts_all c.before.before.before.empty.ensures c.with_bytes.ensures (lit≤ tt)
 
 pub header_spec : {M : Type 1} → statement M
 header_spec =
-    tie.close (tie.spec empty_requires slice_aggregate_with_bytes with_bytes_requires returns)
+    tie.close (tie.spec empty_requires with_bytes_requires returns)

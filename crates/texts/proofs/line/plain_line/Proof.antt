@@ -11,20 +11,17 @@ empty_requires c κs = search rules
 field_requires : tie.Need-field-requires
 field_requires c κs = search rules
 
-field_requires_2 : tie.Need-field-requires-2
+field_requires_2 : tie.Need-field-start-requires
 field_requires_2 c κs = search rules
 
-slice_aggregate_with_bytes : tie.Need-slice-aggregate-with-bytes
-slice_aggregate_with_bytes c = search rules
-
-with_bytes_requires : tie.Need-with-bytes-requires
+with_bytes_requires : tie.Need-with_bytes-requires
 with_bytes_requires c κs = search rules
 
 returns : tie.Need-returns
 returns c =
-    let s = c.before.before.before.before.before in
-    let fields = puts_both c.before.before.before.field.ensures (puts_both c.before.before.field2.ensures c.with-bytes.ensures) in
-    plain_text s.args.ordinal s.args.number s.ranges.ordinal.fits s.ranges.number.fits c.before.before.before.before.empty.ensures fields
+    let s = c.before.before.before.before.before.before in
+    let fields = puts_both c.before.before.before.before.field.ensures (puts_both c.before.before.before.field-start.ensures c.with_bytes.ensures) in
+    plain_text s.args.ordinal s.args.number s.ranges.ordinal.fits s.ranges.number.fits c.before.before.before.before.before.empty.ensures fields
 
 pub plain_line_spec : {M : Type 1} → statement M
 plain_line_spec =
@@ -33,6 +30,5 @@ plain_line_spec =
     empty_requires
     field_requires
     field_requires_2
-    slice_aggregate_with_bytes
     with_bytes_requires
     returns)

@@ -4,13 +4,13 @@ use Rattle.texts.specs.Output.{after_line}
 use Rattle.texts.proofs.output.after_line.Statement.{statement}
 use Rattle.texts.proofs.output.after_line.Tie as tie
 
-line_text_requires : tie.Need-line-text-requires
+line_text_requires : tie.Need-line_text-text-requires
 line_text_requires c κs = search rules
 
-next_at_requires : tie.Need-next-at-requires
+next_at_requires : tie.Need-next_at-requires
 next_at_requires c κs = search rules
 
-goes_on_requires : tie.Need-goes-on-requires
+goes_on_requires : tie.Need-goes_on-requires
 goes_on_requires c κs = search rules
 
 returns : tie.Need-returns
@@ -18,9 +18,9 @@ unfolding after_line
 returns c =
     λ i.
     record {
-      text = c.before.before.line-text.ensures i;
+      text = c.before.before.line_text-text.ensures i;
       ordinal = c.before.before.before.args.ordinal;
-      at = c.before.next-at.ensures i;
+      at = c.before.next_at.ensures i;
       more = c.goes_on.ensures i;
     }
 

@@ -5,12 +5,12 @@ use Rattle.texts.specs.Output.{begun}
 use Rattle.texts.proofs.output.begin.Statement.{statement}
 use Rattle.texts.proofs.output.begin.Tie as tie
 
-header_requires : tie.Need-header-requires
+header_requires : tie.Need-header-text-requires
 header_requires c κs = search rules
 
 returns : tie.Need-returns
 unfolding begun
-returns c = λ i. record { text = c.header.ensures i; ordinal = 0; at = 0; more = true }
+returns c = λ i. record { text = c.header-text.ensures i; ordinal = 0; at = 0; more = true }
 
 pub begin_spec : {M : Type 1} → statement M
 begin_spec = tie.close (tie.spec header_requires returns)

@@ -10,10 +10,10 @@ more_requires c κs = search rules
 fewer_requires : tie.Need-fewer-requires
 fewer_requires c κs = search rules
 
-root_after_requires : tie.Need-root-after-requires
+root_after_requires : tie.Need-root_after-requires
 root_after_requires c κs = search rules
 
-tail_after_requires : tie.Need-tail-after-requires
+tail_after_requires : tie.Need-tail_after-requires
 tail_after_requires c κs = search rules
 
 more_requires_2 : tie.Need-more-requires-2

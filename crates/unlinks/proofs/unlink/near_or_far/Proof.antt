@@ -3,13 +3,13 @@ use borrow.Author.Rules.{rules}
 use Rattle.unlinks.proofs.unlink.near_or_far.Statement.{statement}
 use Rattle.unlinks.proofs.unlink.near_or_far.Tie as tie
 
-goes_left_requires : tie.Need-goes-left-requires
+goes_left_requires : tie.Need-goes_left-requires
 goes_left_requires c κs = search rules
 
-pick_requires : tie.Need-pick-requires
+pick_requires : tie.Need-pick-near-requires
 pick_requires c κs = search rules
 
-pick_requires_2 : tie.Need-pick-requires-2
+pick_requires_2 : tie.Need-pick-requires
 pick_requires_2 c κs = search rules
 
 returns : tie.Need-returns

@@ -4,13 +4,13 @@ use Rattle.unlinks.proofs.unlink.track_after.Statement.{statement}
 use Rattle.unlinks.proofs.unlink.track_after.Tie as tie
 use Rattle.calls.specs.Unlink.{track_after}
 
-cursor_after_requires : tie.Need-cursor-after-requires
+cursor_after_requires : tie.Need-cursor_after-requires
 cursor_after_requires c κs = search rules
 
-phase_after_requires : tie.Need-phase-after-requires
+phase_after_requires : tie.Need-phase_after-requires
 phase_after_requires c κs = search rules
 
-missed_after_requires : tie.Need-missed-after-requires
+missed_after_requires : tie.Need-missed_after-requires
 missed_after_requires c κs = search rules
 
 returns : tie.Need-returns

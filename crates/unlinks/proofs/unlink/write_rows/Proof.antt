@@ -4,34 +4,34 @@ use Rattle.unlinks.proofs.unlink.write_rows.Statement.{statement}
 use Rattle.unlinks.proofs.unlink.write_rows.Tie as tie
 use Rattle.calls.specs.Unlink.{unlink_rows}
 
-with_next_requires : tie.Need-with-next-requires
+with_next_requires : tie.Need-with_next-requires
 with_next_requires c κs = search rules
 
-write_row_requires : tie.Need-write-row-requires
+write_row_requires : tie.Need-write_row-requires
 write_row_requires c κs = search rules
 
-removed_as_requires : tie.Need-removed-as-requires
+removed_as_requires : tie.Need-removed_as-requires
 removed_as_requires c κs = search rules
 
-write_row_requires_2 : tie.Need-write-row-requires-2
+write_row_requires_2 : tie.Need-write_row-requires-2
 write_row_requires_2 c κs = search rules
 
-write_row_requires_3 : tie.Need-write-row-requires-3
+write_row_requires_3 : tie.Need-write_row-requires-3
 write_row_requires_3 c κs = search rules
 
-with_parent_requires : tie.Need-with-parent-requires
+with_parent_requires : tie.Need-with_parent-requires
 with_parent_requires c κs = search rules
 
-write_row_requires_4 : tie.Need-write-row-requires-4
+write_row_requires_4 : tie.Need-write_row-requires-4
 write_row_requires_4 c κs = search rules
 
 replaced_requires : tie.Need-replaced-requires
 replaced_requires c κs = search rules
 
-write_row_requires_5 : tie.Need-write-row-requires-5
+write_row_requires_5 : tie.Need-write_row-requires-5
 write_row_requires_5 c κs = search rules
 
-same_length : tie.Need-same-length
+same_length : tie.Need-shape_of-words
 same_length c = search rules
 
 returns : tie.Need-returns

@@ -3,16 +3,16 @@ use borrow.Author.Rules.{rules}
 use Rattle.unlinks.proofs.unlink.write_station.Statement.{statement}
 use Rattle.unlinks.proofs.unlink.write_station.Tie as tie
 
-read_target_requires : tie.Need-read-target-requires
+read_target_requires : tie.Need-read_target-target-requires
 read_target_requires c κs = search rules
 
-track_after_requires : tie.Need-track-after-requires
+track_after_requires : tie.Need-track_after-requires
 track_after_requires c κs = search rules
 
-write_track_requires : tie.Need-write-track-requires
+write_track_requires : tie.Need-write_track-requires
 write_track_requires c κs = search rules
 
-same_length : tie.Need-same-length
+same_length : tie.Need-shape_of-words
 same_length c = search rules
 
 returns : tie.Need-returns

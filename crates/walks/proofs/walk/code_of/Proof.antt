@@ -10,22 +10,22 @@ pick_requires c κs = search rules
 pick_requires_2 : tie.Need-pick-requires-2
 pick_requires_2 c κs = search rules
 
-pick_requires_3 : tie.Need-pick-requires-3
+pick_requires_3 : tie.Need-pick-add-requires
 pick_requires_3 c κs = search rules
 
-pick_requires_4 : tie.Need-pick-requires-4
+pick_requires_4 : tie.Need-pick-requires-3
 pick_requires_4 c κs = search rules
 
-pick_requires_5 : tie.Need-pick-requires-5
+pick_requires_5 : tie.Need-pick-remove-requires
 pick_requires_5 c κs = search rules
 
-pick_requires_6 : tie.Need-pick-requires-6
+pick_requires_6 : tie.Need-pick-contains-requires
 pick_requires_6 c κs = search rules
 
-pick_requires_7 : tie.Need-pick-requires-7
+pick_requires_7 : tie.Need-pick-requires-4
 pick_requires_7 c κs = search rules
 
-pick_requires_8 : tie.Need-pick-requires-8
+pick_requires_8 : tie.Need-pick-requires-5
 pick_requires_8 c κs = search rules
 
 returns : tie.Need-returns

@@ -4,10 +4,10 @@ use Rattle.walks.proofs.walk.down.Statement.{statement}
 use Rattle.walks.proofs.walk.down.Tie as tie
 use Rattle.calls.specs.Walk.{down}
 
-read_row_requires : tie.Need-read-row-requires
+read_row_requires : tie.Need-read_row-requires
 read_row_requires c κs = search rules
 
-down_from_requires : tie.Need-down-from-requires
+down_from_requires : tie.Need-down_from-requires
 down_from_requires c κs = search rules
 
 returns : tie.Need-returns

@@ -6,10 +6,10 @@ use Rattle.walks.proofs.walk.further.Tie as tie
 down_requires : tie.Need-down-requires
 down_requires c κs = search rules
 
-returns : tie.Need-returns
+returns : tie.Need-returns-then-at-from
 returns c = cc
 
-returns_2 : tie.Need-returns-2
+returns_2 : tie.Need-returns-else-at-from
 returns_2 c = search rules
 
 pub further_spec : {M : Type 1} → statement M

@@ -4,7 +4,7 @@ use Rattle.walks.proofs.walk.plain_answer.Statement.{statement}
 use Rattle.walks.proofs.walk.plain_answer.Tie as tie
 use Rattle.calls.specs.Walk.{plain_answer}
 
-leaf_curve_requires : tie.Need-leaf-curve-requires
+leaf_curve_requires : tie.Need-leaf_curve-requires
 leaf_curve_requires c κs = search rules
 
 pick_requires : tie.Need-pick-requires

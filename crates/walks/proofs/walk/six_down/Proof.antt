@@ -24,30 +24,30 @@ first_is : (words : List ℕ) (rows : ℕ) (point : Point) (at one : ℕ) (row :
 unfolding down
 first_is words rows point at one row r e = e ∙ ap (down_from point at) r
 
-down_from_requires : tie.Need-down-from-requires
+down_from_requires : tie.Need-down_from-one-requires
 down_from_requires c κs = search rules
 
-further_requires : tie.Need-further-requires
+further_requires : tie.Need-further-two-requires
 unfolding down
 further_requires c κs = cc
 
-further_requires_2 : tie.Need-further-requires-2
+further_requires_2 : tie.Need-further-three-requires
 further_requires_2 c κs = search rules
 
-further_requires_3 : tie.Need-further-requires-3
+further_requires_3 : tie.Need-further-four-requires
 further_requires_3 c κs = search rules
 
-further_requires_4 : tie.Need-further-requires-4
+further_requires_4 : tie.Need-further-five-requires
 further_requires_4 c κs = search rules
 
-further_requires_5 : tie.Need-further-requires-5
+further_requires_5 : tie.Need-further-to-requires
 further_requires_5 c κs = search rules
 
 returns : tie.Need-returns
 returns c =
     let d = c.before.before.before.before.before in
-    way_is _ _ _ _ _ _ _ _ _ _ (first_is _ _ _ _ _ _ d.before.before.requires d.down-from.ensures) c.before.before.before.before.further.ensures
-    c.before.before.before.further2.ensures c.before.before.further3.ensures c.before.further4.ensures c.further5.ensures
+    way_is _ _ _ _ _ _ _ _ _ _ (first_is _ _ _ _ _ _ d.before.before.requires d.down_from-one.ensures) c.before.before.before.before.further-two.ensures
+    c.before.before.before.further-three.ensures c.before.before.further-four.ensures c.before.further-five.ensures c.further-to.ensures
 
 pub six_down_spec : {M : Type 1} → statement M
 six_down_spec =

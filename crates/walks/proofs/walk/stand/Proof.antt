@@ -4,13 +4,13 @@ use Rattle.walks.proofs.walk.stand.Statement.{statement}
 use Rattle.walks.proofs.walk.stand.Tie as tie
 use Rattle.calls.specs.Walk.{walked_words}
 
-read_track_requires : tie.Need-read-track-requires
+read_track_requires : tie.Need-read_track-track-requires
 read_track_requires c κs = search rules
 
-write_track_requires : tie.Need-write-track-requires
+write_track_requires : tie.Need-write_track-requires
 write_track_requires c κs = search rules
 
-same_length : tie.Need-same-length
+same_length : tie.Need-shape_of-words
 same_length c = search rules
 
 returns : tie.Need-returns

@@ -4,10 +4,10 @@ use Rattle.walks.proofs.walk.stands_at.Statement.{statement}
 use Rattle.walks.proofs.walk.stands_at.Tie as tie
 use Rattle.calls.specs.Walk.{stands_at}
 
-read_track_requires : tie.Need-read-track-requires
+read_track_requires : tie.Need-read_track-cursor-requires
 read_track_requires c κs = search rules
 
-read_counts_requires : tie.Need-read-counts-requires
+read_counts_requires : tie.Need-read_counts-requires
 read_counts_requires c κs = search rules
 
 pick_requires : tie.Need-pick-requires

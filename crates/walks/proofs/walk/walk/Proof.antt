@@ -52,63 +52,63 @@ stops : (words : List ℕ) (rows s : ℕ) (call : Call) (at : ℕ) (row : Row) �
 stops words rows s call at row a r k l = from_other words rows s call at row k l ∙ from_is words rows s call at row a r
 
 -- the test of the second `if`
-test_is : (c : tie.After-is-leaf) → (eqb c.before.before.before.before.before.stands_at.result NONE || is_leaf c.before.before.before.read-row.result) ≡ (eqb c.before.before.before.before.before.stands_at.result NONE || c.is_IsLeaf.result)
-test_is c = ap (λ y. eqb c.before.before.before.before.before.stands_at.result NONE || y) (sym c.is_IsLeaf.ensures)
+test_is : (c : tie.After-is_leaf) → (eqb c.before.before.before.before.stands_at-at.result NONE || is_leaf c.before.before.before.read_row-row.result) ≡ (eqb c.before.before.before.before.stands_at-at.result NONE || c.is_leaf.result)
+test_is c = ap (λ y. eqb c.before.before.before.before.stands_at-at.result NONE || y) (sym c.is_leaf.ensures)
 
-stands_at_requires : tie.Need-stands-at-requires
+stands_at_requires : tie.Need-stands_at-at-requires
 stands_at_requires c κs = search rules
 
-read_row_requires : tie.Need-read-row-requires
+read_row_requires : tie.Need-read_row-row-requires
 read_row_requires c κs = search rules
 
-is_cut_requires : tie.Need-is-cut-requires
+is_cut_requires : tie.Need-is_cut-requires
 is_cut_requires c κs = search rules
 
-six_down_requires : tie.Need-six-down-requires
+six_down_requires : tie.Need-six_down-way-requires
 six_down_requires c κs = search rules
 
-walk_to_requires : tie.Need-walk-to-requires
+walk_to_requires : tie.Need-walk_to-requires
 walk_to_requires c κs = search rules
 
-is_leaf_requires : tie.Need-is-leaf-requires
+is_leaf_requires : tie.Need-is_leaf-requires
 is_leaf_requires c κs = search rules
 
 conclude_requires : tie.Need-conclude-requires
 conclude_requires c κs = search rules
 
-same_length : tie.Need-same-length
+same_length : tie.Need-shape_of-words-then-is_cut
 same_length c = search rules
 
-returns : tie.Need-returns
+returns : tie.Need-returns-then-is_cut
 returns c =
     let t = c.before.before.before.before.before.before in
     let f = t.before in
-    goes_down _ _ _ _ _ _ _ _ f.before.before.before.stands_at.ensures f.before.read-row.ensures
-    (sym f.is_cut.ensures ∙ t.if1.true)
-    c.before.before.before.before.six-down.ensures
-    c.before.before.walk-to.ensures
+    goes_down _ _ _ _ _ _ _ _ f.before.before.stands_at-at.ensures f.before.read_row-row.ensures
+    (sym f.is_cut.ensures ∙ t.if-is_cut.true)
+    c.before.before.before.before.six_down-way.ensures
+    c.before.before.walk_to.ensures
 
-same_length_2 : tie.Need-same-length-2
+same_length_2 : tie.Need-shape_of-words-then-at-is_leaf
 same_length_2 c = search rules
 
-returns_2 : tie.Need-returns-2
+returns_2 : tie.Need-returns-then-at-is_leaf
 returns_2 c =
     let t = c.before.before.before.before in
     let f = t.before.before.before in
-    ends _ _ _ _ _ _ _ f.before.before.before.stands_at.ensures f.before.read-row.ensures
-    (sym f.is_cut.ensures ∙ t.before.before.if1.false)
-    (test_is t.before ∙ t.if2.true)
+    ends _ _ _ _ _ _ _ f.before.before.stands_at-at.ensures f.before.read_row-row.ensures
+    (sym f.is_cut.ensures ∙ t.before.before.if-is_cut.false)
+    (test_is t.before ∙ t.if-at-is_leaf.true)
     c.before.before.conclude.ensures
 
-same_length_3 : tie.Need-same-length-3
+same_length_3 : tie.Need-shape_of-words-else-at-is_leaf
 same_length_3 c = search rules
 
-returns_3 : tie.Need-returns-3
+returns_3 : tie.Need-returns-else-at-is_leaf
 returns_3 c =
     let f = c.before.before.before in
-    stops _ _ _ _ _ _ f.before.before.before.stands_at.ensures f.before.read-row.ensures
-    (sym f.is_cut.ensures ∙ c.before.before.if1.false)
-    (test_is c.before ∙ c.if2.false)
+    stops _ _ _ _ _ _ f.before.before.stands_at-at.ensures f.before.read_row-row.ensures
+    (sym f.is_cut.ensures ∙ c.before.before.if-is_cut.false)
+    (test_is c.before ∙ c.if-at-is_leaf.false)
 
 pub walk_spec : {M : Type 1} → statement M
 walk_spec =

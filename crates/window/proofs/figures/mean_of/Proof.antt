@@ -5,16 +5,16 @@ use Rattle.window.specs.Figures.{mean_of}
 use Rattle.window.proofs.figures.mean_of.Statement.{statement}
 use Rattle.window.proofs.figures.mean_of.Tie as tie
 
-mul_result : tie.Need-overflow-mul-result
+mul_result : tie.Need-overflow_mul-result
 mul_result c = search rules
 
-add_result : tie.Need-overflow-add-result
+add_result : tie.Need-overflow_add-result
 add_result c = search rules
 
-mul_result_2 : tie.Need-overflow-mul-result-2
+mul_result_2 : tie.Need-overflow_mul-result-2
 mul_result_2 c = search rules
 
-div_result : tie.Need-nonzero-div-result
+div_result : tie.Need-nonzero_div-result
 div_result c = search rules
 
 returns : tie.Need-returns

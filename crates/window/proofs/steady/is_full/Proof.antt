@@ -4,7 +4,7 @@ use Rattle.window.specs.Steady.{is_full}
 use Rattle.window.proofs.steady.is_full.Statement.{statement}
 use Rattle.window.proofs.steady.is_full.Tie as tie
 
-is_sound_requires : tie.Need-is-sound-requires
+is_sound_requires : tie.Need-is_sound-requires
 is_sound_requires c κs = search rules
 
 returns : tie.Need-returns

@@ -1,10 +1,10 @@
 -- `window::steady::within_spread` meets its contract. Assumes nothing.
 use borrow.Author.Rules.{rules}
 use Prim.Native.Nat.{ℕ, ◌-◌}
-use mathlib.Core.Path.{◌≡◌, sym, ap, ◌∙◌}
+use mathlib.Core.Path.{◌≡◌, ap, ◌∙◌}
 use native.Mathlib.Omega.{arith}
 use lib.Dec.{leb}
-use lib.ListN.{length, length-map}
+use lib.ListN.{length}
 use Rattle.window.specs.declared.figures.Figures.{Figures}
 use Rattle.window.specs.Figures.{least_of, greatest_of, figures_of}
 use Rattle.window.specs.Window.{present_in}
@@ -15,21 +15,21 @@ use Rattle.window.proofs.steady.within_spread.Statement.{statement}
 use Rattle.window.proofs.steady.within_spread.Tie as tie
 
 size : (c : tie.Start) → length c.args.window.readings ≡ 64
-size c = sym (length-map c.args.window.readings (λ v. v)) ∙ c.well-formed.0.1.1.1.1.0.1.0.1
+size c = c.well_formed.0.1.1.1.1.0.1.0.1
 
-figures_of_requires : tie.Need-figures-of-requires
+figures_of_requires : tie.Need-figures_of-figures-requires
 figures_of_requires c κs = search rules
 
 -- what the figures tell
-told_least : (c : tie.After-struct-known) → c.before.figures-of.result.least ≡ least_of (present_in c.before.before.args.window)
+told_least : (c : tie.After-struct_known-1) → c.before.figures_of-figures.result.least ≡ least_of (present_in c.before.before.args.window)
 unfolding figures_of
-told_least c = ap (λ (f : Figures). f.least) c.before.figures-of.ensures
+told_least c = ap (λ (f : Figures). f.least) c.before.figures_of-figures.ensures
 
-told_greatest : (c : tie.After-struct-known) → c.before.figures-of.result.greatest ≡ greatest_of (present_in c.before.before.args.window)
+told_greatest : (c : tie.After-struct_known-1) → c.before.figures_of-figures.result.greatest ≡ greatest_of (present_in c.before.before.args.window)
 unfolding figures_of
-told_greatest c = ap (λ (f : Figures). f.greatest) c.before.figures-of.ensures
+told_greatest c = ap (λ (f : Figures). f.greatest) c.before.figures_of-figures.ensures
 
-sub_result : tie.Need-overflow-sub-result
+sub_result : tie.Need-overflow_sub-result
 sub_result c =
     let s = c.before.before in
     let w = s.args.window in
@@ -39,7 +39,7 @@ sub_result c =
 
 returns : tie.Need-returns
 unfolding within_spread
-returns c = ap (λ (k : ℕ). leb (k - c.before.figures-of.result.least) c.before.before.args.spread) (told_greatest c)
+returns c = ap (λ (k : ℕ). leb (k - c.before.figures_of-figures.result.least) c.before.before.args.spread) (told_greatest c)
     ∙ ap (λ (k : ℕ). leb (greatest_of (present_in c.before.before.args.window) - k) c.before.before.args.spread) (told_least c)
 
 pub within_spread_spec : {M : Type 1} → statement M

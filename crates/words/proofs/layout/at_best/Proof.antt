@@ -4,10 +4,10 @@ use Rattle.words.proofs.layout.at_best.Statement.{statement}
 use Rattle.words.proofs.layout.at_best.Tie as tie
 use Rattle.words.specs.Layout.{at_station, at_best}
 
-at_station_requires : tie.Need-at-station-requires
+at_station_requires : tie.Need-at_station-requires
 at_station_requires c κs = search rules
 
-add_result : tie.Need-overflow-add-result
+add_result : tie.Need-overflow_add-result
 unfolding at_station
 add_result c = search rules
 

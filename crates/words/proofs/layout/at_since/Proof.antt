@@ -4,7 +4,7 @@ use Rattle.words.proofs.layout.at_since.Statement.{statement}
 use Rattle.words.proofs.layout.at_since.Tie as tie
 use Rattle.words.specs.Layout.{at_since}
 
-add_result : tie.Need-overflow-add-result
+add_result : tie.Need-overflow_add-result
 add_result c = search rules
 
 returns : tie.Need-returns

@@ -4,10 +4,10 @@ use Rattle.words.proofs.layout.at_target.Statement.{statement}
 use Rattle.words.proofs.layout.at_target.Tie as tie
 use Rattle.words.specs.Layout.{at_target}
 
-mul_result : tie.Need-overflow-mul-result
+mul_result : tie.Need-overflow_mul-result
 mul_result c = search rules
 
-add_result : tie.Need-overflow-add-result
+add_result : tie.Need-overflow_add-result
 add_result c = search rules
 
 returns : tie.Need-returns
