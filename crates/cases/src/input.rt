@@ -1,9 +1,11 @@
 // The text of the cases that are run: what stands on standard input, or the program's own, which are put together in its place.
+ghost use Rattle.std.specs.Prelude.{◌≤◌, length};
+
 use crate::tally::refuse;
 use crate::{cases, counters, factors, grades, hold_up, rule_words, rules, withdrawals};
-use libc::STDIN_FILENO;
 use plain_list::given;
 use plain_list::given::Given;
+use std::io::{Print, Read};
 use trial::bytes::byte;
 
 // Writes the byte at an offset, where the text has it.
@@ -92,18 +94,33 @@ fn all(to: &mut [u8]) -> usize {
 }
 
 // A text that is not understood has no case, and is a wrong one itself.
-fn none(book: &mut [u64]) -> usize {
-    refuse(book);
+fn none(rt: &impl Print, book: &mut [u64]) -> usize {
+    refuse(rt, book);
     0
 }
 
+// Reads until the bytes are full, the input ends or a read fails, and gives how many were read.
+fn read_full(input: &mut impl Read, bytes: &mut [u8]) -> usize
+    ensures { result ≤ length bytes.new }
+{
+    let mut done = 0;
+    while done < bytes.len() {
+        let n = input.read(&mut bytes[done..]).unwrap_or(0);
+        if n == 0 {
+            break;
+        }
+        done += n;
+    }
+    done
+}
+
 // The text that is to be run, from what was read of it; gives where it ends.
-pub fn ready(text: &mut [u8], book: &mut [u64]) -> usize {
-    let n = io::read_full(STDIN_FILENO, text);
+pub fn ready(rt: &impl Print, input: &mut impl Read, text: &mut [u8], book: &mut [u64]) -> usize {
+    let n = read_full(input, text);
     match given::begin(book, &text[..n]) {
         Given::All => all(text),
         Given::Random => random(text, 0),
         Given::Text => n,
-        Given::Unclear => none(book),
+        Given::Unclear => none(rt, book),
     }
 }

@@ -12,6 +12,7 @@ use plain_list::parts::{end_from, start_from};
 use plain_list::text::{Item, bars, item_of};
 use plain_list::verdict::{begin_case, judge};
 use plain_list::{own, stretch};
+use std::io::Print;
 
 // What an item asks for: h random histories of a plan, b one on the index as it is, x a stair and y every axis at its ends, both under a rule, v
 // contests; l, m and p what the line tells: the longest stretch, the most own steps of a search, their greatest share; a capital letter for a call on the
@@ -54,14 +55,15 @@ fn run_items(words: &mut [u32], copied: &mut [u32], book: &mut [u64], text: &[u8
 }
 
 // A case, from its text.
-fn run_case(words: &mut [u32], copied: &mut [u32], book: &mut [u64], text: &[u8]) {
+fn run_case(rt: &impl Print, words: &mut [u32], copied: &mut [u32], book: &mut [u64], text: &[u8]) {
     begin_case(book);
     run_items(words, copied, book, text);
-    end_case(book, text);
+    end_case(rt, book, text);
 }
 
 // The case from one offset to another.
 fn run_part(
+    rt: &impl Print,
     words: &mut [u32],
     copied: &mut [u32],
     book: &mut [u64],
@@ -71,13 +73,19 @@ fn run_part(
 ) {
     if start <= end {
         if end <= text.len() {
-            run_case(words, copied, book, &text[start..end]);
+            run_case(rt, words, copied, book, &text[start..end]);
         }
     }
 }
 
 // Every case of a text.
-pub fn run_cases(words: &mut [u32], copied: &mut [u32], book: &mut [u64], text: &[u8]) {
+pub fn run_cases(
+    rt: &impl Print,
+    words: &mut [u32],
+    copied: &mut [u32],
+    book: &mut [u64],
+    text: &[u8],
+) {
     let mut from = 0;
     for k in 0..100000u32 {
         let start = start_from(text, from);
@@ -85,6 +93,6 @@ pub fn run_cases(words: &mut [u32], copied: &mut [u32], book: &mut [u64], text: 
             return;
         }
         from = end_from(text, start);
-        run_part(words, copied, book, text, start, from);
+        run_part(rt, words, copied, book, text, start, from);
     }
 }

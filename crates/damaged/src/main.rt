@@ -1,6 +1,10 @@
 // Damages words of a live index at random and makes every call on it: each call returns with one of the numbers of Rules 7.1 or an answer, a
 // refused one changes nothing, a withdrawal changes no row, an audit that says yes finds every row in range under the rule, and none touches a word outside of
 // its slice.
+#![tactic(auto)]
+
+ghost use Rattle.std.specs.Prelude.{◌≤◌, length};
+
 mod attempts;
 mod choice;
 mod harm;
@@ -9,10 +13,10 @@ mod tally;
 
 use attempts::{call, is_allowed};
 use choice::{some_kind, some_scale};
-use libc::{STDIN_FILENO, STDOUT_FILENO};
 use points::scale::Scale;
 use ranges::{rows_stored, scale_stored};
-use tally::{AT_DAMAGED, count_call, judge, say, say_all};
+use std::io::{Print, Read};
+use tally::{AT_DAMAGED, count_call, judge, say, say_all, write};
 use trial::bytes::seed_in;
 use trial::cells::{copy, count, fill, same};
 use trial::random::{below, seed};
@@ -171,36 +175,51 @@ fn rounds(whole: &mut [u32], copied: &mut [u32], book: &mut [u64]) {
 }
 
 // The rounds from a seed, and what was counted.
-fn run(number: u32) {
+fn run(rt: &impl Print, number: u32) {
     let mut whole = [0u32; 1000];
     let mut copied = [0u32; 1000];
     let mut book = [0u64; 128];
     fill(&mut whole, 1515870810);
     seed(&mut book, number);
     rounds(&mut whole, &mut copied, &mut book);
-    say_all(&book);
+    say_all(rt, &book);
 }
 
 // The rounds from a seed that was given, which is told first. The generator cannot begin with 0.
-fn run_given(number: u32) {
+fn run_given(rt: &impl Print, number: u32) {
     if number == 0 {
-        io::write_all(
-            STDOUT_FILENO,
+        write(
+            rt,
             b"damaged: a seed is a number from 1 to 4294967295, such as 2026\n",
         );
         return;
     }
-    say(b"seed: ", number as u64);
-    run(number);
+    say(rt, b"seed: ", number as u64);
+    run(rt, number);
+}
+
+// Reads until the bytes are full, the input ends or a read fails, and gives how many were read.
+fn read_full(input: &mut impl Read, bytes: &mut [u8]) -> usize
+    ensures { result ≤ length bytes.new }
+{
+    let mut done = 0;
+    while done < bytes.len() {
+        let n = input.read(&mut bytes[done..]).unwrap_or(0);
+        if n == 0 {
+            break;
+        }
+        done += n;
+    }
+    done
 }
 
 // The seed is the first number on standard input, or a fixed one where that is empty.
-fn main() {
-    let mut bytes = io::buffer();
-    let n = io::read_full(STDIN_FILENO, &mut bytes);
+fn main(rt: HostRuntime) {
+    let mut bytes = [0u8; 4096];
+    let n = read_full(&mut rt.stdin(), &mut bytes);
     if n == 0 {
-        run(2026);
+        run(&rt, 2026);
     } else {
-        run_given(seed_in(&bytes[..n]));
+        run_given(&rt, seed_in(&bytes[..n]));
     }
 }

@@ -2,7 +2,7 @@
 
 // What a line says so far: nothing yet; in a reading and behind it; in the name `window`, after so many letters, and behind it; in a window's length
 // and behind it; in its spread and behind it; or what is not understood.
-#[derive(Drop)]
+#[derive(Clone, Copy)]
 pub enum Content {
     Blank,
     InReading(u32),

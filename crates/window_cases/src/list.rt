@@ -1,5 +1,6 @@
 // A window beside a plain list of all readings accepted: its state and its figures are worked out afresh from the end of the list.
 use crate::tally::{LISTED, count, end_case, get, judge, tried};
+use std::io::Print;
 use std::num::wrapping_add_u32;
 use window::figures::Figures;
 use window::update::update;
@@ -141,7 +142,7 @@ pub fn state(length: u32, present: u32) -> Window {
 }
 
 // 1,000 readings to a window of a length, about one in eight of them out of range.
-pub fn history(book: &mut [u64], list: &mut [u32], length: u32, name: &[u8]) {
+pub fn history(rt: &impl Print, book: &mut [u64], list: &mut [u32], length: u32, name: &[u8]) {
     let mut window = state(length, 0);
     let mut random: u32 = 2026;
     for i in 0..1000u32 {
@@ -150,5 +151,5 @@ pub fn history(book: &mut [u64], list: &mut [u32], length: u32, name: &[u8]) {
     }
     let listed = get(book, LISTED);
     judge(book, (850 < listed) & (listed < 900));
-    end_case(book, name);
+    end_case(rt, book, name);
 }

@@ -1,9 +1,12 @@
 // Runs the cases that the claims about a window speak of, and prints a line for each.
+#![tactic(auto)]
+
 mod list;
 mod tally;
 
 use crate::list::{history, state, try_reading, try_refused};
 use crate::tally::{end_case, judge, tried};
+use std::io::Print;
 use std::num::wrapping_sub_u32;
 use window::window::Window;
 
@@ -38,10 +41,10 @@ fn try_lengths(book: &mut [u64], window: Window) {
 }
 
 // These on a state that readings leave, and on one that no readings leave.
-fn lengths(book: &mut [u64]) {
+fn lengths(rt: &impl Print, book: &mut [u64]) {
     try_lengths(book, state(12, 5));
     try_lengths(book, state(77, 99));
-    end_case(book, b"lengths 0, 1, 64, 65 and 4,294,967,295: ");
+    end_case(rt, book, b"lengths 0, 1, 64, 65 and 4,294,967,295: ");
 }
 
 // Readings at the ends of their range.
@@ -69,7 +72,7 @@ fn try_three(book: &mut [u64], readings: [u32; 3], sums: [u32; 3], means: [u32; 
 }
 
 // Means that end in a half, in a third and in two thirds, and the mean of 64 times 10,000.
-fn means(book: &mut [u64]) {
+fn means(rt: &impl Print, book: &mut [u64]) {
     try_three(book, [1, 2, 2], [1, 3, 5], [1, 2, 2]);
     try_three(book, [1, 1, 2], [1, 2, 4], [1, 1, 1]);
     try_three(book, [0, 1, 0], [0, 1, 1], [0, 1, 0]);
@@ -79,7 +82,7 @@ fn means(book: &mut [u64]) {
         readings: [10000; 64],
     };
     try_mean(book, wet, 10000, 640000, 10000);
-    end_case(book, b"means, a half rounded up: ");
+    end_case(rt, book, b"means, a half rounded up: ");
 }
 
 // A state that no readings leave refuses by 18 a reading in range and one out of range.
@@ -89,18 +92,22 @@ fn try_bad(book: &mut [u64], window: Window) {
 }
 
 // Lengths out of range.
-fn bad_lengths(book: &mut [u64]) {
+fn bad_lengths(rt: &impl Print, book: &mut [u64]) {
     try_bad(book, state(0, 0));
     try_bad(book, state(65, 64));
-    end_case(book, b"states of length 0 and 65: ");
+    end_case(rt, book, b"states of length 0 and 65: ");
 }
 
 // One reading more present than each length.
-fn more_present(book: &mut [u64]) {
+fn more_present(rt: &impl Print, book: &mut [u64]) {
     for n in 1..65u32 {
         try_bad(book, state(n, n + 1));
     }
-    end_case(book, b"states with more readings present than the length: ");
+    end_case(
+        rt,
+        book,
+        b"states with more readings present than the length: ",
+    );
 }
 
 // A number at a position, where it is one of the readings present, or one behind them.
@@ -123,12 +130,12 @@ fn shortest(present: u32) -> u32 {
 }
 
 // In the shortest window and in the longest, with each number of readings present.
-fn bad_positions(book: &mut [u64], behind: bool, number: u32, name: &[u8]) {
+fn bad_positions(rt: &impl Print, book: &mut [u64], behind: bool, number: u32, name: &[u8]) {
     for present in 0..65u32 {
         try_positions(book, state(shortest(present), present), behind, number);
         try_positions(book, state(64, present), behind, number);
     }
-    end_case(book, name);
+    end_case(rt, book, name);
 }
 
 // Whether a window is steady.
@@ -148,7 +155,7 @@ fn try_full(book: &mut [u64], window: Window) {
 }
 
 // At each length a full window and one that lacks a reading, and a state of length 0.
-fn spreads(book: &mut [u64]) {
+fn spreads(rt: &impl Print, book: &mut [u64]) {
     try_steady(book, state(0, 0), 4294967295, false);
     try_steady(book, state(1, 0), 4294967295, false);
     try_steady(book, state(1, 1), 0, true);
@@ -156,36 +163,42 @@ fn spreads(book: &mut [u64]) {
         try_steady(book, state(n + 1, n), 4294967295, false);
         try_full(book, state(n + 1, n + 1));
     }
-    end_case(book, b"steady: full, and within the spread: ");
+    end_case(rt, book, b"steady: full, and within the spread: ");
 }
 
-fn main() {
+fn main(rt: HostRuntime) {
     let mut book = [0u64; 6];
     let mut list = [0u32; 1000];
-    lengths(&mut book);
+    lengths(&rt, &mut book);
     readings(&mut book, &mut list);
-    end_case(&mut book, b"readings 0, 10,000, 10,001 and 4,294,967,295: ");
-    means(&mut book);
-    history(&mut book, &mut list, 1, b"length 1, beside a list: ");
-    history(&mut book, &mut list, 2, b"length 2, beside a list: ");
-    history(&mut book, &mut list, 3, b"length 3, beside a list: ");
-    history(&mut book, &mut list, 12, b"length 12, beside a list: ");
-    history(&mut book, &mut list, 63, b"length 63, beside a list: ");
-    history(&mut book, &mut list, 64, b"length 64, beside a list: ");
-    bad_lengths(&mut book);
-    more_present(&mut book);
+    end_case(
+        &rt,
+        &mut book,
+        b"readings 0, 10,000, 10,001 and 4,294,967,295: ",
+    );
+    means(&rt, &mut book);
+    history(&rt, &mut book, &mut list, 1, b"length 1, beside a list: ");
+    history(&rt, &mut book, &mut list, 2, b"length 2, beside a list: ");
+    history(&rt, &mut book, &mut list, 3, b"length 3, beside a list: ");
+    history(&rt, &mut book, &mut list, 12, b"length 12, beside a list: ");
+    history(&rt, &mut book, &mut list, 63, b"length 63, beside a list: ");
+    history(&rt, &mut book, &mut list, 64, b"length 64, beside a list: ");
+    bad_lengths(&rt, &mut book);
+    more_present(&rt, &mut book);
     bad_positions(
+        &rt,
         &mut book,
         false,
         10001,
         b"states with a reading of 10,001, at each place: ",
     );
     bad_positions(
+        &rt,
         &mut book,
         true,
         1,
         b"states with a number behind, at each place: ",
     );
-    spreads(&mut book);
-    tally::end(&book);
+    spreads(&rt, &mut book);
+    tally::end(&rt, &book);
 }

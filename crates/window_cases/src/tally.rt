@@ -1,5 +1,5 @@
 // Checks are counted in a book of cells, and each case ends with a line.
-use libc::STDOUT_FILENO;
+use std::io::Print;
 
 // The cells: of the case under way the calls, the checks, the wrong ones, and the readings on its list; the cases, and the wrong ones.
 const CALLS: usize = 0;
@@ -45,29 +45,34 @@ pub fn judge(book: &mut [u64], right: bool) {
     }
 }
 
+// Some bytes. Where they could not be written, it goes on.
+fn write(rt: &impl Print, bytes: &[u8]) {
+    let _ = rt.write_all(bytes);
+}
+
 // A number between two texts.
-fn say(before: &[u8], n: u64, behind: &[u8]) {
-    io::write_all(STDOUT_FILENO, before);
-    io::print_decimal(STDOUT_FILENO, n);
-    io::write_all(STDOUT_FILENO, behind);
+fn say(rt: &impl Print, before: &[u8], n: u64, behind: &[u8]) {
+    write(rt, before);
+    let _ = rt.print(n);
+    write(rt, behind);
 }
 
 // Says how the case went. One with no check is wrong.
-fn say_verdict(book: &mut [u64]) {
+fn say_verdict(rt: &impl Print, book: &mut [u64]) {
     let wrong = get(book, WRONG);
     if (0 < get(book, CHECKS)) & (wrong == 0) {
-        io::write_all(STDOUT_FILENO, b"ok\n");
+        write(rt, b"ok\n");
     } else {
-        say(b"", wrong, b" WRONG\n");
+        say(rt, b"", wrong, b" WRONG\n");
         count(book, WRONG_CASES);
     }
 }
 
 // The line of the case, under its name. Another begins.
-pub fn end_case(book: &mut [u64], name: &[u8]) {
-    say(name, get(book, CALLS), b" calls, ");
-    say(b"", get(book, CHECKS), b" checks: ");
-    say_verdict(book);
+pub fn end_case(rt: &impl Print, book: &mut [u64], name: &[u8]) {
+    say(rt, name, get(book, CALLS), b" calls, ");
+    say(rt, b"", get(book, CHECKS), b" checks: ");
+    say_verdict(rt, book);
     count(book, CASES);
     put(book, CALLS, 0);
     put(book, CHECKS, 0);
@@ -76,7 +81,7 @@ pub fn end_case(book: &mut [u64], name: &[u8]) {
 }
 
 // The last line.
-pub fn end(book: &[u64]) {
-    say(b"", get(book, CASES), b" cases, ");
-    say(b"", get(book, WRONG_CASES), b" wrong\n");
+pub fn end(rt: &impl Print, book: &[u64]) {
+    say(rt, b"", get(book, CASES), b" cases, ");
+    say(rt, b"", get(book, WRONG_CASES), b" wrong\n");
 }
