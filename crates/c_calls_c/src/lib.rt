@@ -1,0 +1,138 @@
+// The calls of c_calls for programs in C, under the names that bench/index.h declares: a slice is lent as its first word and its length.
+#![tactic(auto)]
+
+ghost use Rattle.std.specs.Prelude.{◌≡◌};
+ghost use Rattle.points.specs.Rule.{plain_rule};
+ghost use Rattle.points.specs.Scale.{plain_scale};
+ghost use Rattle.calls.specs.Reply.{replied};
+ghost use Rattle.calls.specs.Open.{open_of};
+ghost use Rattle.calls.specs.Submit.{submit_of};
+ghost use Rattle.calls.specs.Step.{step_of};
+ghost use Rattle.calls.specs.Run.{run_of};
+ghost use Rattle.calls.specs.Take.{number_of, take_of, take_words};
+ghost use Rattle.calls.specs.Withdraw.{withdraw_of};
+ghost use Rattle.calls.specs.Report.{report_of};
+ghost use Rattle.calls.specs.Audit.{verdict_of};
+
+// Opening under rule 1, with factors of one.
+#[unsafe(no_mangle)]
+pub extern "C" fn index_open(words: &mut [u32], places: u32, limit: u32) -> u32
+    ensures { replied result words.new ≡ open_of words.old places limit plain_scale }
+{
+    c_calls::index_open(words, places, limit)
+}
+
+// Opening under rule 1, with a factor for each of the axes 2 to 5.
+#[unsafe(no_mangle)]
+pub extern "C" fn index_open_scaled(
+    words: &mut [u32],
+    places: u32,
+    limit: u32,
+    weight: u32,
+    moisture: u32,
+    speed: u32,
+    draw: u32,
+) -> u32
+    ensures { replied result words.new ≡ open_of words.old places limit (record { rule = plain_rule; weight = weight; moisture = moisture; speed = speed; draw = draw }) }
+{
+    c_calls::index_open_scaled(words, places, limit, weight, moisture, speed, draw)
+}
+
+// Opening, with a factor for each of the axes 2 to 5 and a rule.
+#[unsafe(no_mangle)]
+pub extern "C" fn index_open_ruled(
+    words: &mut [u32],
+    places: u32,
+    limit: u32,
+    weight: u32,
+    moisture: u32,
+    speed: u32,
+    draw: u32,
+    rule: u32,
+) -> u32
+    ensures { replied result words.new ≡ open_of words.old places limit (record { rule = rule; weight = weight; moisture = moisture; speed = speed; draw = draw }) }
+{
+    c_calls::index_open_ruled(words, places, limit, weight, moisture, speed, draw, rule)
+}
+
+// A submission of station s, with the coordinates of its point.
+#[unsafe(no_mangle)]
+pub extern "C" fn index_submit(
+    words: &mut [u32],
+    s: u32,
+    kind: u32,
+    grade: i32,
+    weight: i32,
+    moisture: i32,
+    speed: i32,
+    draw: i32,
+    curve: u32,
+) -> u32
+    ensures { replied result words.new ≡ submit_of words.old s kind (record { grade = grade; weight = weight; moisture = moisture; speed = speed; draw = draw }) curve }
+{
+    c_calls::index_submit(words, s, kind, grade, weight, moisture, speed, draw, curve)
+}
+
+// One step of station s.
+#[unsafe(no_mangle)]
+pub extern "C" fn index_step(words: &mut [u32], s: u32) -> u32
+    ensures { replied result words.new ≡ step_of words.old s }
+{
+    c_calls::index_step(words, s)
+}
+
+// Steps of station s until it is answered.
+#[unsafe(no_mangle)]
+pub extern "C" fn index_run(words: &mut [u32], s: u32) -> u32
+    ensures { replied result words.new ≡ run_of words.old s }
+{
+    c_calls::index_run(words, s)
+}
+
+// A taking by station s. Its answer stays in the words of the station's record.
+#[unsafe(no_mangle)]
+pub extern "C" fn index_take(words: &mut [u32], s: u32) -> u32
+    ensures { (result ≡ number_of (take_of words.old s)) × (words.new ≡ take_words words.old s) }
+{
+    c_calls::index_take(words, s)
+}
+
+// Takes back the unfinished call of station s.
+#[unsafe(no_mangle)]
+pub extern "C" fn index_withdraw(words: &mut [u32], s: u32) -> u32
+    ensures { replied result words.new ≡ withdraw_of words.old s }
+{
+    c_calls::index_withdraw(words, s)
+}
+
+// The number of a report.
+#[unsafe(no_mangle)]
+pub extern "C" fn index_report_number(words: &[u32]) -> u32
+    ensures { result ≡ (report_of words.now).number }
+{
+    c_calls::index_report_number(words)
+}
+
+// The places taken, 0 with a refusal.
+#[unsafe(no_mangle)]
+pub extern "C" fn index_report(words: &[u32]) -> u64
+    ensures { result ≡ (report_of words.now).taken }
+{
+    c_calls::index_report(words)
+}
+
+// The number of an audit.
+#[unsafe(no_mangle)]
+pub extern "C" fn index_audit_number(words: &[u32]) -> u32
+    ensures { result ≡ (verdict_of words.now).number }
+{
+    c_calls::index_audit_number(words)
+}
+
+// Whether the audit says yes; not with a refusal.
+#[unsafe(no_mangle)]
+pub extern "C" fn index_audit(words: &[u32]) -> bool
+    ensures { result ≡ (verdict_of words.now).sound }
+{
+    c_calls::index_audit(words)
+}
