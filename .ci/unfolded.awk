@@ -22,12 +22,13 @@ function take_list(text, from,    list, items, words, n, i, m) {
 }
 
 # a whole `use`, wrapped over lines or not
-function take_use(text,    path, from) {
+function take_use(text,    path, from, head) {
   hands = (text ~ /^ *(unfoldable )?pub use /) && mode == "hand"
-  sub(/^ *(unfoldable )?(pub )?use /, "", text)
+  sub(/^ *(unfoldable )?(pub )?use /, "", text); sub(/^package\./, "", text)
   path = text; sub(/[ ;].*/, "", path); sub(/\.?\{.*/, "", path)
   module = last_of(path)
-  from = index(path ".", "Rattle·" layer ".specs.") == 1 || path == "Rattle·" layer
+  head = path; sub(/\..*/, "", head)
+  from = index(path ".", "Rattle." layer ".specs.") == 1 || path == "Rattle." layer || head in prefixes
   if (text ~ /\{/) take_list(text, from)
   else if (from && match(text, / as [^ ]+/)) prefixes[substr(text, RSTART + 4, RLENGTH - 4)] = 1
   else if (from) prefixes[module] = 1
@@ -35,8 +36,9 @@ function take_use(text,    path, from) {
 
 # what a name that is unfolded is called in the layer; empty where it is none of its
 function origin(name,    p) {
+  sub(/^package\./, "", name)
   if (name in called) return called[name]
-  if (index(name, "Rattle·" layer ".") == 1) return last_of(name)
+  if (index(name, "Rattle." layer ".") == 1) return last_of(name)
   for (p in prefixes) if (index(name, p ".") == 1) return last_of(name)
   return ""
 }

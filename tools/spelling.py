@@ -22,7 +22,7 @@ HUMP = re.compile(r"(?<=[a-z0-9])(?=[A-Z])")
 
 def files(root, *ends):
     for folder, dirs, names in os.walk(os.path.join(root, "crates")):
-        dirs[:] = sorted(d for d in dirs if d not in ("out", "target"))
+        dirs[:] = sorted(d for d in dirs if d != "out")
         for name in sorted(names):
             if name.endswith(ends):
                 yield os.path.join(folder, name)
