@@ -72,6 +72,13 @@ def declared(root):
 # What returns a type is spelled as a type.
 TYPES = {"allEffects": "AllEffects", "effects": "Effects"}
 
+# Variables and aliases, which no declaration names.
+BOUND = (
+    "asOf afterEvents askWords bestWordSquare betterWord consideredWord curveFitsWords downWords headAfter heldRecord idleState landingWord lookWord nextIn"
+    " passWordSpare pickWordBest pickWordProgress rootAfter seekWord standsIn tourWord tourWordDown tourWordParent tourWordUp touredWord wordAnswer wordParent"
+    " wordSibling"
+).split()
+
 
 def snake(part):
     """camelCase as snake_case; a type's name stays."""
@@ -113,6 +120,7 @@ def table(root, crates):
         if new != name:
             names[name] = new
     names |= {old: new for old, new in TYPES.items() if old in all_of}
+    names |= {old: snake(old) for old in BOUND}
     for path in files(root, ".antt"):
         text = read(path)
         foreign, _ = own_modules(text, crates)
