@@ -1,4 +1,4 @@
-// The calls for programs in C, as the benchmark makes them: a slice is lent as its first word and its length.
+// The calls for programs in C, which `c_calls_c` exports: a slice is lent as its first word and its length.
 #![tactic(auto)]
 
 ghost use Rattle.std.specs.Prelude.{◌≡◌};

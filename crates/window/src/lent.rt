@@ -1,4 +1,4 @@
-// The state of a window is lent, and brought up to date there (Rules 11.2). A program in C makes these calls too.
+// The state of a window is lent, and brought up to date there (Rules 11.2). `window_c` exports these calls for programs in C.
 ghost use Rattle.std.specs.Prelude.{◌≡◌};
 ghost use Rattle.window.specs.Begin.{begin_of};
 ghost use Rattle.window.specs.Update.{update_of};
