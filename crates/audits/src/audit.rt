@@ -5,23 +5,14 @@ ghost use Rattle.calls.specs.Audit.{verdict_of};
 use crate::queue::queue;
 use crate::tree::tree;
 use crate::whole::all_rows;
-use calls::audit::Verdict;
 use stations::common::is_opened;
-use words::refusal::NOT_OPENED;
+use words::refusal::{Refusal, ask};
 
 // Question 4; then whether every row is in the tree or in the queue, once, and both are sound.
-pub fn audit(words: &[u32]) -> Verdict
+#[tactic(auto, unfolding(calls::specs::Audit::verdict_of))]
+pub fn audit(words: &[u32]) -> Result<bool, Refusal>
     ensures { result ≡ verdict_of words.now }
 {
-    if is_opened(words) {
-        Verdict {
-            number: 0,
-            sound: all_rows(words, tree(words), queue(words)),
-        }
-    } else {
-        Verdict {
-            number: NOT_OPENED,
-            sound: false,
-        }
-    }
+    ask(is_opened(words), Refusal::NotOpened)?;
+    Ok(all_rows(words, tree(words), queue(words)))
 }

@@ -2,7 +2,6 @@
 ghost use Rattle.std.specs.Prelude.{◌≡◌, ◌+◌, eqb};
 ghost use Rattle.calls.specs.Queue.{passed, broken, no_longer, pass_spare, pass_removed, pass_row, walk_queue, queued_at_head, queue_in};
 
-use crate::sum::plus;
 use calls::queue::Queued;
 use rows::row::{Row, read_row};
 use stations::common::{least_since, rows_in};
@@ -10,6 +9,7 @@ use stations::counts::read_counts;
 use words::layout::NONE;
 
 // A free row is passed.
+#[tactic(auto, unfolding(calls::specs::Sum::plus))]
 fn passed(l: Queued, sound: bool, next: u32, number: u32, half: bool) -> Queued
     ensures { result ≡ passed l sound next number half }
 {
@@ -17,23 +17,20 @@ fn passed(l: Queued, sound: bool, next: u32, number: u32, half: bool) -> Queued
         sound: l.sound & sound,
         at: next,
         last: l.at,
-        rows: plus(1, l.rows),
-        number: number,
-        half: half,
+        rows: l.rows.saturating_add(1),
+        number,
+        half,
     }
 }
 
-// No free row: the queue is broken here.
+// No free row: the queue is broken here. Whether it is sound stands beside the rest, as `queue_in` has it, of which what is proved of the queue speaks.
 fn broken(l: Queued) -> Queued
     ensures { result ≡ broken l }
 {
     Queued {
         sound: false,
         at: NONE,
-        last: l.last,
-        rows: l.rows,
-        number: l.number,
-        half: l.half,
+        ..l
     }
 }
 
@@ -48,7 +45,7 @@ fn no_longer(released: u32, l: Queued, freed: u32) -> bool
 fn follows(freed: u32, number: u32) -> bool
     ensures { result ≡ eqb freed (number + 1) }
 {
-    (freed as u64) == (number as u64) + 1
+    u64::from(freed) == u64::from(number) + 1
 }
 
 // A removed record is passed.
@@ -75,11 +72,9 @@ fn pass_row(released: u32, l: Queued, row: Row) -> Queued
     ensures { result ≡ pass_row released l row }
 {
     match row {
-        Row::Bad => broken(l),
         Row::Spare { next, freed } => pass_spare(released, l, next, freed),
         Row::Removed { next, freed, .. } => pass_removed(released, l, next, freed),
-        Row::Leaf { .. } => broken(l),
-        Row::Cut { .. } => broken(l),
+        _ => broken(l),
     }
 }
 
@@ -88,10 +83,11 @@ fn walk_queue(words: &[u32], rows: u32, released: u32, n: u32, l: Queued) -> Que
     ensures { result ≡ walk_queue words.now rows released n l }
 {
     let mut line = l;
-    let mut left = n;
-    while (left > 0) & (line.at != NONE) {
+    for _ in 0..n {
+        if line.at == NONE {
+            break;
+        }
         line = pass_row(released, line, read_row(words, rows, line.at));
-        left -= 1;
     }
     line
 }
@@ -111,7 +107,8 @@ fn queued_at_head(words: &[u32]) -> Queued
 }
 
 // The whole queue.
-pub fn queue(words: &[u32]) -> Queued
+#[tactic(auto, unfolding(calls::specs::Queue::queue_in))]
+pub(crate) fn queue(words: &[u32]) -> Queued
     ensures { result ≡ queue_in words.now }
 {
     let rows = rows_in(words);

@@ -2,7 +2,7 @@
 ghost use Rattle.std.specs.Prelude.{◌≡◌};
 ghost use Rattle.calls.specs.Whole.{whole_queue, all_rows};
 
-use crate::sum::{plus, tree_rows};
+use crate::sum::tree_rows;
 use calls::queue::Queued;
 use calls::tree::Count;
 use stations::common::rows_in;
@@ -13,15 +13,14 @@ use words::layout::NONE;
 fn whole_queue(words: &[u32], l: Queued) -> bool
     ensures { result ≡ whole_queue words.now l }
 {
-    l.sound
-        & (l.at == NONE)
-        & (l.last == read_counts(words).tail)
-        & (l.number == read_counts(words).removals)
+    let counts = read_counts(words);
+    l.sound & (l.at == NONE) & (l.last == counts.tail) & (l.number == counts.removals)
 }
 
 // Whether tree and queue are sound, and are all the rows.
+#[tactic(auto, unfolding(calls::specs::Sum::plus))]
 pub(crate) fn all_rows(words: &[u32], t: Count, l: Queued) -> bool
     ensures { result ≡ all_rows words.now t l }
 {
-    t.sound & whole_queue(words, l) & (plus(tree_rows(t.leaves), l.rows) == rows_in(words))
+    t.sound & whole_queue(words, l) & (tree_rows(t.leaves).saturating_add(l.rows) == rows_in(words))
 }

@@ -4,15 +4,16 @@
 ghost use Rattle.std.specs.Prelude.{◌≡◌};
 ghost use Rattle.points.specs.Rule.{plain_rule};
 ghost use Rattle.points.specs.Scale.{plain_scale};
+ghost use Rattle.words.specs.Refusal.{number_told};
 ghost use Rattle.calls.specs.Reply.{replied};
 ghost use Rattle.calls.specs.Open.{open_of};
 ghost use Rattle.calls.specs.Submit.{submit_of};
 ghost use Rattle.calls.specs.Step.{step_of};
 ghost use Rattle.calls.specs.Run.{run_of};
-ghost use Rattle.calls.specs.Take.{number_of, take_of, take_words};
+ghost use Rattle.calls.specs.Take.{take_of, take_words};
 ghost use Rattle.calls.specs.Withdraw.{withdraw_of};
-ghost use Rattle.calls.specs.Report.{report_of};
-ghost use Rattle.calls.specs.Audit.{verdict_of};
+ghost use Rattle.calls.specs.Report.{places_told, report_of};
+ghost use Rattle.calls.specs.Audit.{verdict_of, yes_told};
 
 use audits::audit::audit;
 use openings::open::open;
@@ -24,14 +25,15 @@ use runs::run::run;
 use steps::step::step;
 use steps::withdraw::withdraw;
 use submissions::submit::submit;
-use takings::take::{number_of, take};
+use takings::take::take;
+use words::refusal::number_told;
 
 // Opening under rule 1, with factors of one.
 #[unsafe(no_mangle)]
 pub extern "C" fn index_open(words: &mut [u32], places: u32, limit: u32) -> u32
     ensures { replied result words.new ≡ open_of words.old places limit plain_scale }
 {
-    open(words, places, limit, plain_scale())
+    number_told(open(words, places, limit, plain_scale()))
 }
 
 // Opening under rule 1, with a factor for each of the axes 2 to 5.
@@ -49,12 +51,12 @@ pub extern "C" fn index_open_scaled(
 {
     let scale = Scale {
         rule: PLAIN_RULE,
-        weight: weight,
-        moisture: moisture,
-        speed: speed,
-        draw: draw,
+        weight,
+        moisture,
+        speed,
+        draw,
     };
-    open(words, places, limit, scale)
+    number_told(open(words, places, limit, scale))
 }
 
 // Opening, with a factor for each of the axes 2 to 5 and a rule.
@@ -72,13 +74,13 @@ pub extern "C" fn index_open_ruled(
     ensures { replied result words.new ≡ open_of words.old places limit (record { rule = rule; weight = weight; moisture = moisture; speed = speed; draw = draw }) }
 {
     let scale = Scale {
-        rule: rule,
-        weight: weight,
-        moisture: moisture,
-        speed: speed,
-        draw: draw,
+        rule,
+        weight,
+        moisture,
+        speed,
+        draw,
     };
-    open(words, places, limit, scale)
+    number_told(open(words, places, limit, scale))
 }
 
 // A submission of station s, with the coordinates of its point.
@@ -97,13 +99,13 @@ pub extern "C" fn index_submit(
     ensures { replied result words.new ≡ submit_of words.old s kind (record { grade = grade; weight = weight; moisture = moisture; speed = speed; draw = draw }) curve }
 {
     let point = Point {
-        grade: grade,
-        weight: weight,
-        moisture: moisture,
-        speed: speed,
-        draw: draw,
+        grade,
+        weight,
+        moisture,
+        speed,
+        draw,
     };
-    submit(words, s, kind, point, curve)
+    number_told(submit(words, s, kind, point, curve))
 }
 
 // One step of station s.
@@ -111,7 +113,7 @@ pub extern "C" fn index_submit(
 pub extern "C" fn index_step(words: &mut [u32], s: u32) -> u32
     ensures { replied result words.new ≡ step_of words.old s }
 {
-    step(words, s)
+    number_told(step(words, s))
 }
 
 // Steps of station s until it is answered.
@@ -119,15 +121,15 @@ pub extern "C" fn index_step(words: &mut [u32], s: u32) -> u32
 pub extern "C" fn index_run(words: &mut [u32], s: u32) -> u32
     ensures { replied result words.new ≡ run_of words.old s }
 {
-    run(words, s)
+    number_told(run(words, s))
 }
 
 // A taking by station s. Its answer stays in the words of the station's record.
 #[unsafe(no_mangle)]
 pub extern "C" fn index_take(words: &mut [u32], s: u32) -> u32
-    ensures { (result ≡ number_of (take_of words.old s)) × (words.new ≡ take_words words.old s) }
+    ensures { (result ≡ number_told (take_of words.old s)) × (words.new ≡ take_words words.old s) }
 {
-    number_of(take(words, s))
+    number_told(take(words, s))
 }
 
 // Takes back the unfinished call of station s.
@@ -135,41 +137,37 @@ pub extern "C" fn index_take(words: &mut [u32], s: u32) -> u32
 pub extern "C" fn index_withdraw(words: &mut [u32], s: u32) -> u32
     ensures { replied result words.new ≡ withdraw_of words.old s }
 {
-    withdraw(words, s)
+    number_told(withdraw(words, s))
 }
 
 // The number of a report.
 #[unsafe(no_mangle)]
 pub extern "C" fn index_report_number(words: &[u32]) -> u32
-    ensures { result ≡ (report_of words.now).number }
+    ensures { result ≡ number_told (report_of words.now) }
 {
-    let report = read_report(words);
-    report.number
+    number_told(read_report(words))
 }
 
 // The places taken, 0 with a refusal.
 #[unsafe(no_mangle)]
 pub extern "C" fn index_report(words: &[u32]) -> u64
-    ensures { result ≡ (report_of words.now).taken }
+    ensures { result ≡ places_told (report_of words.now) }
 {
-    let report = read_report(words);
-    report.taken
+    read_report(words).unwrap_or(0)
 }
 
 // The number of an audit.
 #[unsafe(no_mangle)]
 pub extern "C" fn index_audit_number(words: &[u32]) -> u32
-    ensures { result ≡ (verdict_of words.now).number }
+    ensures { result ≡ number_told (verdict_of words.now) }
 {
-    let verdict = audit(words);
-    verdict.number
+    number_told(audit(words))
 }
 
 // Whether the audit says yes; not with a refusal.
 #[unsafe(no_mangle)]
 pub extern "C" fn index_audit(words: &[u32]) -> bool
-    ensures { result ≡ (verdict_of words.now).sound }
+    ensures { result ≡ yes_told (verdict_of words.now) }
 {
-    let verdict = audit(words);
-    verdict.sound
+    audit(words).unwrap_or(false)
 }

@@ -1,18 +1,20 @@
-// The calls of c_calls for programs in C, under the names that bench/index.h declares: a slice is lent as its first word and its length.
+// The calls of c_calls for programs in C, under the names that bench/index.h declares: a slice is lent as its first word and its length. Each stands in both
+// crates, since a crate is a library or a static library.
 #![tactic(auto)]
 
 ghost use Rattle.std.specs.Prelude.{◌≡◌};
 ghost use Rattle.points.specs.Rule.{plain_rule};
 ghost use Rattle.points.specs.Scale.{plain_scale};
+ghost use Rattle.words.specs.Refusal.{number_told};
 ghost use Rattle.calls.specs.Reply.{replied};
 ghost use Rattle.calls.specs.Open.{open_of};
 ghost use Rattle.calls.specs.Submit.{submit_of};
 ghost use Rattle.calls.specs.Step.{step_of};
 ghost use Rattle.calls.specs.Run.{run_of};
-ghost use Rattle.calls.specs.Take.{number_of, take_of, take_words};
+ghost use Rattle.calls.specs.Take.{take_of, take_words};
 ghost use Rattle.calls.specs.Withdraw.{withdraw_of};
-ghost use Rattle.calls.specs.Report.{report_of};
-ghost use Rattle.calls.specs.Audit.{verdict_of};
+ghost use Rattle.calls.specs.Report.{places_told, report_of};
+ghost use Rattle.calls.specs.Audit.{verdict_of, yes_told};
 
 // Opening under rule 1, with factors of one.
 #[unsafe(no_mangle)]
@@ -92,7 +94,7 @@ pub extern "C" fn index_run(words: &mut [u32], s: u32) -> u32
 // A taking by station s. Its answer stays in the words of the station's record.
 #[unsafe(no_mangle)]
 pub extern "C" fn index_take(words: &mut [u32], s: u32) -> u32
-    ensures { (result ≡ number_of (take_of words.old s)) × (words.new ≡ take_words words.old s) }
+    ensures { (result ≡ number_told (take_of words.old s)) × (words.new ≡ take_words words.old s) }
 {
     c_calls::index_take(words, s)
 }
@@ -108,7 +110,7 @@ pub extern "C" fn index_withdraw(words: &mut [u32], s: u32) -> u32
 // The number of a report.
 #[unsafe(no_mangle)]
 pub extern "C" fn index_report_number(words: &[u32]) -> u32
-    ensures { result ≡ (report_of words.now).number }
+    ensures { result ≡ number_told (report_of words.now) }
 {
     c_calls::index_report_number(words)
 }
@@ -116,7 +118,7 @@ pub extern "C" fn index_report_number(words: &[u32]) -> u32
 // The places taken, 0 with a refusal.
 #[unsafe(no_mangle)]
 pub extern "C" fn index_report(words: &[u32]) -> u64
-    ensures { result ≡ (report_of words.now).taken }
+    ensures { result ≡ places_told (report_of words.now) }
 {
     c_calls::index_report(words)
 }
@@ -124,7 +126,7 @@ pub extern "C" fn index_report(words: &[u32]) -> u64
 // The number of an audit.
 #[unsafe(no_mangle)]
 pub extern "C" fn index_audit_number(words: &[u32]) -> u32
-    ensures { result ≡ (verdict_of words.now).number }
+    ensures { result ≡ number_told (verdict_of words.now) }
 {
     c_calls::index_audit_number(words)
 }
@@ -132,7 +134,7 @@ pub extern "C" fn index_audit_number(words: &[u32]) -> u32
 // Whether the audit says yes; not with a refusal.
 #[unsafe(no_mangle)]
 pub extern "C" fn index_audit(words: &[u32]) -> bool
-    ensures { result ≡ (verdict_of words.now).sound }
+    ensures { result ≡ yes_told (verdict_of words.now) }
 {
     c_calls::index_audit(words)
 }

@@ -23,5 +23,5 @@ pub mod Run
 pub mod Held
 pub mod Audit
 pub mod Withdraw
-pub mod Advance
+pub mod Turn
 pub mod Needs

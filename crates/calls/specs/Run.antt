@@ -1,17 +1,15 @@
 -- A run (Rules 8.2): steps of the station until it is answered, at most 16 × places + 64; "a refused step ends the run, its number is the run's result,
 -- and the steps before it stand".
-use Rattle.std.specs.Prelude.{ℕ, zero, suc, ◌+◌, ◌*◌, Bool, true, false, cond, ◌&&◌, not, List, eqb}
-use Rattle.stations.specs.declared.answer.Waiting.{Waiting}
-use Rattle.stations.specs.declared.answer.Waiting.TheVariants.{Nothing, Given}
+use Rattle.std.specs.Prelude.{ℕ, zero, suc, ◌+◌, ◌*◌, Bool, true, false, cond, ◌&&◌, not, List, eqb, Option, is_some}
 use Rattle.stations.specs.Common.{opened_in, is_opened, places_at}
 use Rattle.stations.specs.Answer.{waiting_at}
 use Rattle.calls.specs.Reply.{Reply, done}
 use Rattle.calls.specs.Step.{step_of}
+use Rattle.stations.specs.declared.answer.Answer.{Answer}
 
 -- an answer waits
-abbrev pub is_given : Waiting → Bool
-is_given Nothing = false
-is_given (Given a) = true
+abbrev pub is_given : Option Answer → Bool
+is_given = is_some
 
 -- after a step the run goes on where the step was accepted and did not answer
 abbrev pub goes_on : ℕ → Reply → Bool

@@ -29,13 +29,13 @@ ask_unfinished words s reply =
 unfoldable pub step_of : List ℕ → ℕ → Reply
 step_of words s = ask_unfinished words s (work_of words (rows_in words) s (call_at words s))
 
--- ---- for the code: the questions as one number, with the rows and the call given (`passes`, `refuses` of `proofs/Questions` say that it is the same)
+-- ---- for the code: what `Turn` asks, with the rows and the call given
 
 -- the fields of the two records are in range, with the rows and the call given
 unfoldable pub fields_sound : List ℕ → ℕ → Call → Bool
 fields_sound words rows call = common_sound words rows && call_sound (rule_at words) call (counts_at words).changes
 
--- the number of the first question that fails, or 0, with the rows and the call given
+-- the number of the first question that fails, or 0, with the rows and the call given (`first_told` of `proofs/Questions` says that it is what `Turn` tells)
 unfoldable pub first_failed : List ℕ → ℕ → ℕ → Call → ℕ
 first_failed words rows s call =
     cond (is_opened (opened_in words))

@@ -1,14 +1,8 @@
 // The cases, each a part of a text: its name, what it counts, and its items. `raw` says what the capital letters mean, `script` and `play` the small
 // ones, and `parts` how the cases of a text and the remarks between them are told apart.
 // Kinds of calls (Rules 2.2): 1 add, 2 remove, 3 contains, 4 nearest.
-use crate::input::append;
-
 // Calls at the ends of their ranges.
-pub fn calls(to: &mut [u8], at: usize) -> usize {
-    append(
-        to,
-        at,
-        b"
+pub const CALLS: &str = "
         # Openings at the ends of their ranges.
         =0, 1, 4,096 and 4,097 places|openings|
         O 131680 0 10 0 0 1; O 131680 1 10 0 0 0; O 131680 4096 10 0 0 0; O 131680 4097 10 0 0 1;
@@ -19,16 +13,10 @@ pub fn calls(to: &mut [u8], at: usize) -> usize {
         # Submissions at the ends of their ranges.
         =every axis at its ends, draw -2,001 refused|submissions|y;
         =curves 0, 1, 999,999 and 1,000,000|calls|
-        O 672 2 10 0 0 0; S 672 0 1 8000 0 9; S 672 0 1 8000 1 0; S 672 1 1 8000 999999 0; S 672 2 1 8000 1000000 9;",
-    )
-}
+        O 672 2 10 0 0 0; S 672 0 1 8000 0 9; S 672 0 1 8000 1 0; S 672 1 1 8000 999999 0; S 672 2 1 8000 1000000 9;";
 
 // Refusals of openings and submissions, and those of any call.
-pub fn refusals(to: &mut [u8], at: usize) -> usize {
-    append(
-        to,
-        at,
-        b"
+pub const REFUSALS: &str = "
         # Each with the later questions failing as well.
         =refusals 1, 2 and 3|calls|
         O 0 0 0 0 0 1; O 672 5000 0 0 0 1; O 672 3 0 0 0 2; O 672 3 10 0 0 3;
@@ -54,16 +42,10 @@ pub fn refusals(to: &mut [u8], at: usize) -> usize {
         # Kind, point and curve, the later ones wrong as well. A contains disregards the curve.
         =refusals 7, 8 and 9|calls|
         O 672 2 10 0 0 0; S 672 0 0 200000 0 7; S 672 0 5 8000 41 7; S 672 0 1 100001 0 8; S 672 0 4 100001 41 8;
-        S 672 0 1 8000 0 9; S 672 0 1 8000 1000000 9; S 672 0 3 8000 1000000 0;",
-    )
-}
+        S 672 0 1 8000 0 9; S 672 0 1 8000 1000000 9; S 672 0 3 8000 1000000 0;";
 
 // Refusals of steps and takings, and the audit.
-pub fn step_refusals(to: &mut [u8], at: usize) -> usize {
-    append(
-        to,
-        at,
-        b"
+pub const STEP_REFUSALS: &str = "
         # The station is idle, and an answer is waiting.
         =refusal 10|calls|
         O 672 2 10 0 0 0; T 672 0 0 0 0 10; R 672 0 0 0 0 10; S 672 0 4 8000 0 0; R 672 0 0 0 0 0; T 672 0 0 0 0 10;
@@ -92,31 +74,19 @@ pub fn step_refusals(to: &mut [u8], at: usize) -> usize {
         W 672 617 0 0 0 0; A 672 0 0 0 0 1; W 672 617 41 0 0 0;
         W 672 658 1 0 0 0; A 672 0 0 0 0 1; W 672 658 0 0 0 0;
         W 672 5 0 0 0 0; W 672 609 4294967295 0 0 0; W 672 641 2 0 0 0; W 672 646 2 0 0 0; A 672 0 0 0 0 1;
-        W 672 5 2 0 0 0; W 672 609 2 0 0 0; W 672 641 4294967295 0 0 0; W 672 646 0 0 0 0; A 672 0 0 0 0 0;",
-    )
-}
+        W 672 5 2 0 0 0; W 672 609 2 0 0 0; W 672 641 4294967295 0 0 0; W 672 646 0 0 0 0; A 672 0 0 0 0 0;";
 
 // Refusals of frames.
-pub fn frame_refusals(to: &mut [u8], at: usize) -> usize {
-    append(
-        to,
-        at,
-        b"
+pub const FRAME_REFUSALS: &str = "
         # A length byte and a byte that it counts not there; no kind, and kinds 0, 9, 10 and 65,535; another kind's length; the later questions
           failing as well. The last four frames are whole, and their calls are refused.
         =refusals 13, 14 and 15|frames|
         O 672 2 10 0 0 0; F 672 1 3 3 0 13; F 672 4 3 3 0 13; F 672 5 4 9 0 13; F 672 2 0 0 0 14; F 672 3 1 3 0 14; F 672 4 2 0 0 14;
         F 672 4 2 9 0 14; F 672 5 3 9 0 14; F 672 5 3 10 0 14; F 672 4 2 65535 0 14; F 672 4 2 1 0 15; F 672 10 8 2 0 15;
-        F 672 6 4 3 0 15; F 672 4 2 8 0 15; F 672 5 3 3 0 10; F 672 5 3 4 0 12; F 672 5 3 8 0 10; F 672 10 8 1 0 1;",
-    )
-}
+        F 672 6 4 3 0 15; F 672 4 2 8 0 15; F 672 5 3 3 0 10; F 672 5 3 4 0 12; F 672 5 3 8 0 10; F 672 10 8 1 0 1;";
 
 // Several stations.
-pub fn stations(to: &mut [u8], at: usize) -> usize {
-    append(
-        to,
-        at,
-        b"
+pub const STATIONS: &str = "
         # Case N: m, at 20 g/m2, and the nearer p, at 80, are held; a nearest at 120 is submitted by station 0; station 5 removes m, then p. In the
           second case two records of another grade part m from p in the tree.
         =case N, m and p siblings: p or none, never m|orders|
@@ -145,16 +115,10 @@ pub fn stations(to: &mut [u8], at: usize) -> usize {
         =a tie while the heavier is removed and added again|orders|
         o 4 100; c 1 1 12 8990 41 41; c 1 1 12 9030 43 43; c 1 1 12 9010 42 42;|
         c 0 4 12 9000; c 0 4 12 9000;|
-        c 5 2 12 9010 0 42; c 5 1 12 9010 44 44;",
-    )
-}
+        c 5 2 12 9010 0 42; c 5 1 12 9010 44 44;";
 
 // What two stations met at one point.
-pub fn one_point(to: &mut [u8], at: usize) -> usize {
-    append(
-        to,
-        at,
-        b"
+pub const ONE_POINT: &str = "
         # Station 2 removes the point again and again, station 1 adds it again and again, with another record beside it.
         =an add while another station removes the point|orders|
         o 3 100; c 0 1 12 9000 40 40; c 0 1 12 8000 41 41;|
@@ -164,16 +128,10 @@ pub fn one_point(to: &mut [u8], at: usize) -> usize {
         =removed and added again under a search: two places|events|
         o 4 100; c 0 1 12 7000 41 41; c 0 1 12 8000 42 42; c 0 1 12 9000 43 43; s 3 4 12 8900; t 3; n 3;
         c 0 2 12 8000 0 42; n 3; c 0 1 12 8000 44 44; n 4; c 0 1 12 9500 45; n 4; r 3; n 3; k 3 0 0 0 0 43;
-        c 0 1 12 9500 45 45; n 4;",
-    )
-}
+        c 0 1 12 9500 45 45; n 4;";
 
 // Random histories, the busy case and the deepest trees.
-pub fn histories(to: &mut [u8], at: usize) -> usize {
-    append(
-        to,
-        at,
-        b"
+pub const HISTORIES: &str = "
         # The busy case: eight searches of a grade that has no record exclude no side of a cut, and go through a whole stair in step. Grade 139 shares
           its slot with the stair's grade 12, so that every side admits it.
         =eight searches in turn on a stair of 4,096 records|steps without an answer, of 65536 at most|
@@ -199,6 +157,4 @@ pub fn histories(to: &mut [u8], at: usize) -> usize {
         c 5 2 12 40021; n 4095; c 6 1 12 100000 8; c 7 3 12 40021; n 4096; b 4096 500000000 81920 3 1 6000 0 250;
         =a stair of 4,096 records under rule 2, lightest first|events|
         x 0 2; n 4096; c 0 4 12 1; c 1 4 12 100000; c 2 4 12 40011; c 3 4 13 40011; c 4 1 12 100000 7; n 4096;
-        c 5 2 12 40021; n 4095; c 6 1 12 100000 8; c 7 3 12 40021; n 4096; b 4096 500000000 81920 3 1 6000 0 250;",
-    )
-}
+        c 5 2 12 40021; n 4095; c 6 1 12 100000 8; c 7 3 12 40021; n 4096; b 4096 500000000 81920 3 1 6000 0 250;";

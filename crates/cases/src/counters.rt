@@ -1,13 +1,7 @@
 // The cases of changes that are counted by station, in a text as in `cases`. The seventh number of a call is the code that its answer may have, and so
 // is the third of a taking on the index alone.
-use crate::input::append;
-
 // Each station makes as many changes as the limit says.
-pub fn counted(to: &mut [u8], at: usize) -> usize {
-    append(
-        to,
-        at,
-        b"
+pub const COUNTED: &str = "
         # Changes counted by station.
         # Station 0 has made its one change: its adds and removes get 4 but where the point is held, or not; contains and nearest are no changes. Each
           other station still has one.
@@ -49,16 +43,10 @@ pub fn counted(to: &mut [u8], at: usize) -> usize {
         =limit 1: an add of a station that is spent, and one that needs the place|orders|
         o 1 1; c 0 1 12 8000 41 41 1;|
         c 0 1 12 9000 42 0 4; c 1 1 12 9000 43; c 1 1 12 9000 44;|
-        c 5 2 12 8000 0 41 5; c 5 1 12 8000 45;",
-    )
-}
+        c 5 2 12 8000 0 41 5; c 5 1 12 8000 45;";
 
 // The words of limit, changes and counters at the ends of their ranges.
-pub fn stored(to: &mut [u8], at: usize) -> usize {
-    append(
-        to,
-        at,
-        b"
+pub const STORED: &str = "
         # Every call fails, with the limit above its range and with the marks of the layouts before, of which the first had no counters, the first two no
           factors and all three no rule. With the words mended calls go on.
         =stored limit 500,000,000, and refusal 4 for one more and for the marks before|calls|
@@ -107,6 +95,4 @@ pub fn stored(to: &mut [u8], at: usize) -> usize {
         S 864 6 1 8650 47 0; R 864 6 0 0 0 0; K 864 6 4 0 0 0;
         W 864 63 10 0 0 0; S 864 7 1 8700 48 0; R 864 7 0 0 0 0; K 864 7 4 0 0 0; W 864 63 9 0 0 0; S 864 7 1 8700 48 0; R 864 7 0 0 0 0; K 864 7 1 0 0 0;
         S 864 7 1 8750 48 0; R 864 7 0 0 0 0; K 864 7 4 0 0 0;
-        A 864 0 0 0 0 0;",
-    )
-}
+        A 864 0 0 0 0 0;";

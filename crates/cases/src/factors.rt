@@ -1,12 +1,6 @@
 // The cases of openings with factors, in a text as in `cases`. The items f and g of `script` have whole points, and X, G, J and V are told in `raw`.
-use crate::input::append;
-
 // Openings with factors, in range and out of it.
-pub fn opened(to: &mut [u8], at: usize) -> usize {
-    append(
-        to,
-        at,
-        b"
+pub const OPENED: &str = "
         # Of each axis in turn, the other factors being 1; then numbers that a factor of 16 bits cannot have, and four at their greatest.
         =factors 0, 1, 1,000 and 1,001 of each axis|openings|
         X 672 2 10 0 1 1 1 17; X 672 2 10 1 1 1 1 0; X 672 2 10 1000 1 1 1 0; X 672 2 10 1001 1 1 1 17;
@@ -22,16 +16,10 @@ pub fn opened(to: &mut [u8], at: usize) -> usize {
         =the factors are stored, and an opening without any means four ones|calls|
         X 672 2 10 2 3 5 7 0; V 672 48 2 0 0 0; V 672 49 3 0 0 0; V 672 50 5 0 0 0; V 672 51 7 0 0 0; A 672 0 0 0 0 0;
         X 672 2 10 2 3 5 0 17; X 672 3 10 1 1 1 1 3; O 672 0 10 0 0 1; V 672 48 2 0 0 0; V 672 49 3 0 0 0; V 672 50 5 0 0 0; V 672 51 7 0 0 0;
-        O 672 2 10 0 0 0; V 672 48 1 0 0 0; V 672 49 1 0 0 0; V 672 50 1 0 0 0; V 672 51 1 0 0 0; A 672 0 0 0 0 0;",
-    )
-}
+        O 672 2 10 0 0 0; V 672 48 1 0 0 0; V 672 49 1 0 0 0; V 672 50 1 0 0 0; V 672 51 1 0 0 0; A 672 0 0 0 0 0;";
 
 // The words of the factors and of an answer's square at the ends of their ranges.
-pub fn stored(to: &mut [u8], at: usize) -> usize {
-    append(
-        to,
-        at,
-        b"
+pub const STORED: &str = "
         # Station 0 has a call unfinished, station 1 is idle, and an answer waits at station 2. In each of the four words stand 0, 1,001 and the greatest number in
           turn, and every call fails; with the word mended calls go on.
         =a stored factor out of range: refusal 4 of every call|calls|
@@ -60,16 +48,10 @@ pub fn stored(to: &mut [u8], at: usize) -> usize {
         # Words 251 and 252 hold the square of station 2's answer.
         =a stored square 11,015,800,001,000, and refusal 12 for one more|calls|
         O 672 2 10 0 0 0; S 672 2 3 8000 0 0; R 672 2 0 0 0 0; W 672 252 2564 0 0 0; W 672 251 3503854057 0 0 0; K 672 2 0 0 0 12; W 672 251 3503854056 0 0 0; K 672 2 6 0 0 0;
-        S 672 2 3 8000 0 0; R 672 2 0 0 0 0; W 672 252 2565 0 0 0; K 672 2 0 0 0 12; W 672 252 4294967295 0 0 0; K 672 2 0 0 0 12; W 672 252 0 0 0 0; K 672 2 6 0 0 0;",
-    )
-}
+        S 672 2 3 8000 0 0; R 672 2 0 0 0 0; W 672 252 2565 0 0 0; K 672 2 0 0 0 12; W 672 252 4294967295 0 0 0; K 672 2 0 0 0 12; W 672 252 0 0 0 0; K 672 2 6 0 0 0;";
 
 // Frames of kind 6.
-pub fn framed(to: &mut [u8], at: usize) -> usize {
-    append(
-        to,
-        at,
-        b"
+pub const FRAMED: &str = "
         # Each frame is read and written back as it was, also with four ones, and opens as its fields say; the words tell which byte of a factor comes first.
         =frames that open with factors|frames|
         G 672 2 10 1 1 1 1 0; V 672 1 2 0 0 0; V 672 2 10 0 0 0; V 672 48 1 0 0 0; V 672 49 1 0 0 0; V 672 50 1 0 0 0; V 672 51 1 0 0 0;
@@ -84,16 +66,10 @@ pub fn framed(to: &mut [u8], at: usize) -> usize {
         # A byte of the last factor not there; lengths 15 and 17, and that of kind 1; the length of kind 6 with kinds 1, 7 and 9; a whole frame, whose places are 0.
         =refusals 13, 14 and 15 beside kind 6|frames|
         O 672 2 10 0 0 0; F 672 17 16 6 0 13; F 672 17 15 6 0 15; F 672 19 17 6 0 15; F 672 10 8 6 0 15; F 672 4 2 6 0 15; F 672 18 16 1 0 15; F 672 18 16 7 0 15;
-        F 672 18 16 9 0 14; F 672 18 16 6 0 1;",
-    )
-}
+        F 672 18 16 9 0 14; F 672 18 16 6 0 1;";
 
 // Nearest by the factors.
-pub fn nearest(to: &mut [u8], at: usize) -> usize {
-    append(
-        to,
-        at,
-        b"
+pub const NEAREST: &str = "
         # Curves 41 to 44 lie 10, 5, 6 and 7 off the target, each on its own axis: 100, 25, 36 and 49 with four ones. At last the heavier of two with 100.
         =four records, each off on one axis: the nearest by the factors|events|
         o 4 100; f 0 1 12 8010 550 9000 2000 41 41; f 0 1 12 8000 555 9000 2000 42 42; f 0 1 12 8000 550 9006 2000 43 43; f 0 1 12 8000 550 9000 2007 44 44;
@@ -148,16 +124,10 @@ pub fn nearest(to: &mut [u8], at: usize) -> usize {
         =the greatest square, 11,015,800,001,000|events|
         o 1 100 1000 1000 1000 1000; f 0 1 9999 1 0 0 0 999999 999999; g 7 4 9999 100000 10000 30000 4000; r 7; z 7 11 15800 1000; k 7 0 0 0 0 999999 8;
         g 7 4 9999 1 0 0 0; r 7; z 7; k 7 0 0 0 0 999999 8;
-        o 1 100 1000 1000 1000 1000; f 0 1 1 100000 10000 30000 4000 1 1; g 7 4 1 1 0 0 0; r 7; z 7 11 15800 1000; k 7 0 0 0 0 1 8;",
-    )
-}
+        o 1 100 1000 1000 1000 1000; f 0 1 1 100000 10000 30000 4000 1 1; g 7 4 1 1 0 0 0; r 7; z 7 11 15800 1000; k 7 0 0 0 0 1 8;";
 
 // Ties by the factors, and openings beside a search.
-pub fn tied(to: &mut [u8], at: usize) -> usize {
-    append(
-        to,
-        at,
-        b"
+pub const TIED: &str = "
         # 10 off in weight with factor 4 and 20 off in moisture with factor 1: 400 each. Of two with one weight the drier. With four ones they are 100 and 400.
         =a tie by the factors: the heavier|events|
         o 4 100 4 1 1 1; f 0 1 12 9000 120 0 2000 41 41; f 0 1 12 9010 100 0 2000 42 42; f 1 4 12 9000 100 0 2000 0 42; f 0 1 12 9000 80 0 2000 43 43;
@@ -177,16 +147,10 @@ pub fn tied(to: &mut [u8], at: usize) -> usize {
         =opened again with other factors, and with none|events|
         o 4 100 1 1000 1 1; f 0 1 12 8100 550 9000 2000 41 41; f 0 1 12 8000 560 9000 2000 42 42; f 3 4 12 8000 550 9000 2000 0 41; g 3 4 12 8000 550 9000 2000;
         o 4 100; n; t 3; f 0 1 12 8100 550 9000 2000 41 41; f 0 1 12 8000 560 9000 2000 42 42; f 3 4 12 8000 550 9000 2000 0 42; g 3 4 12 8000 550 9000 2000;
-        o 4 100 1 101 1 1; n; f 0 1 12 8100 550 9000 2000 41 41; f 0 1 12 8000 560 9000 2000 42 42; f 3 4 12 8000 550 9000 2000 0 41;",
-    )
-}
+        o 4 100 1 101 1 1; n; f 0 1 12 8100 550 9000 2000 41 41; f 0 1 12 8000 560 9000 2000 42 42; f 3 4 12 8000 550 9000 2000 0 41;";
 
 // Searches by unequal factors beside other stations, in every order.
-pub fn beside(to: &mut [u8], at: usize) -> usize {
-    append(
-        to,
-        at,
-        b"
+pub const BESIDE: &str = "
         # Moisture counts a thousand times: 42 and 43 are nearer than 41 with four ones, 43 alone by the factors, and 44 while it is held.
         =a search by unequal factors beside an add and a removal|orders|
         o 5 100 1 1000 1 1; f 1 1 12 8100 550 9000 2000 41 41; f 1 1 12 8000 560 9000 2000 42 42; f 1 1 12 8000 553 9000 2000 43 43;|
@@ -201,6 +165,4 @@ pub fn beside(to: &mut [u8], at: usize) -> usize {
         =a search by unequal factors while the two nearest are removed|orders|
         o 4 100 2 1 1000 30; f 1 1 12 8100 550 9000 2000 41 41; f 1 1 12 8000 550 9005 2000 42 42; f 1 1 12 8000 550 9000 2025 43 43; g 3 4 12 8000 550 9000 2000;|
         f 0 4 12 8000 550 9000 2000; r 3; k 3 0 0 0 0 43 8;|
-        f 5 2 12 8000 550 9000 2025 0 43; f 5 2 12 8100 550 9000 2000 0 41;",
-    )
-}
+        f 5 2 12 8000 550 9000 2025 0 43; f 5 2 12 8100 550 9000 2000 0 41;";

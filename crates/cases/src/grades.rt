@@ -1,12 +1,6 @@
 // Grades and their slots: grades 12, 139 and 266 share one, 13 has another.
-use crate::input::append;
-
 // Grades that share a slot, and the marks of adds.
-pub fn shared(to: &mut [u8], at: usize) -> usize {
-    append(
-        to,
-        at,
-        b"
+pub const SHARED: &str = "
         # Of grades that share a slot each has its own records; a grade that has none gets none, also where its slot is marked.
         =grades that share a slot: each its own record, or none|events|
         o 8 100; c 0 1 12 8000 41 41; c 0 1 139 8100 42 42; c 0 1 13 8200 43 43; c 0 1 12 8300 44 44; c 0 1 13 8400 45 45; c 1 4 139 8000 0 42;
@@ -25,6 +19,4 @@ pub fn shared(to: &mut [u8], at: usize) -> usize {
         =an add while the records beside its way are removed|orders|
         o 8 100; c 1 1 13 1000 41 41; c 1 1 13 5000 42 42; c 1 1 13 9000 43 43;|
         c 2 1 12 8900 51 51; c 2 4 12 8900 0 51;|
-        c 3 2 13 9000 0 43; c 3 2 13 5000 0 42; c 3 2 13 1000 0 41;",
-    )
-}
+        c 3 2 13 9000 0 43; c 3 2 13 5000 0 42; c 3 2 13 1000 0 41;";

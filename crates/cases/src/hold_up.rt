@@ -1,12 +1,6 @@
 // Searches that other stations try to hold up, in a text as in `cases`.
-use crate::input::append;
-
 // Searches that the other stations try to hold up.
-pub fn held_up(to: &mut [u8], at: usize) -> usize {
-    append(
-        to,
-        at,
-        b"
+pub const HELD_UP: &str = "
         # A stair whose deep end is near the target: a search of a grade that no record has, but that shares the slot of the stair's grade, excludes
           no side of a cut, and on its way up comes by one leaf after the other. It stands on a leaf after two of three moves, and a step makes five,
           so that it stops on one of the last three leaves.
@@ -25,6 +19,4 @@ pub fn held_up(to: &mut [u8], at: usize) -> usize {
         =searches by factors beside stations that remove and add around them, 2 to 32 places|thousandths of the own steps allowed, at most|
         v 2 31 1000 250 1; p;
         =searches by dry weight beside stations that remove and add around them, 2 to 32 places|thousandths of the own steps allowed, at most|
-        v 2 31 1000 250 2; p;",
-    )
-}
+        v 2 31 1000 250 2; p;";

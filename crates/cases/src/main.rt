@@ -13,30 +13,16 @@ mod rules;
 mod tally;
 mod withdrawals;
 
-use std::io::Print;
-use trial::cells::fill;
+use plain_list::book::{Book, MOST_WORDS};
+use std::alloc::AllocError;
 
-// The cases of the first bytes of a text.
-fn run(
-    rt: &impl Print,
-    words: &mut [u32],
-    copied: &mut [u32],
-    book: &mut [u64],
-    text: &[u8],
-    end: usize,
-) {
-    if end <= text.len() {
-        play::run_cases(rt, words, copied, book, &text[0..end]);
-    }
-}
-
-fn main(rt: HostRuntime) {
-    let mut words = [0u32; 131680];
-    let mut copied = [0u32; 131680];
-    let mut book = [0u64; 29000];
-    let mut text = [0u8; 131072];
-    fill(&mut words, 1515870811);
-    let end = input::ready(&rt, &mut rt.stdin(), &mut text, &mut book);
-    run(&rt, &mut words, &mut copied, &mut book, &text, end);
+fn main(rt: HostRuntime) -> Result<(), AllocError> {
+    let alloc = rt.alloc();
+    let mut words = vec![in alloc; 1515870811u32; MOST_WORDS]?;
+    let mut book = Book::new(alloc)?;
+    let read = input::read(alloc, &mut rt.stdin())?;
+    let text = input::ready(&rt, alloc, &mut book, read)?;
+    play::run_cases(&rt, alloc, &mut words, &mut book, &text)?;
     tally::end(&rt, &book);
+    Ok(())
 }

@@ -4,76 +4,77 @@ use contests::contest::contests;
 use contests::hindered;
 use lone_calls::ends::ends;
 use lone_calls::raw;
-use paired::history::{busy, histories, plan_of};
+use paired::history::{Plan, busy, histories};
 use paired::orders::every_order;
 use paired::script::rule_given;
 use paired::stairs::build;
-use plain_list::parts::{end_from, start_from};
-use plain_list::text::{Item, bars, item_of};
-use plain_list::verdict::{begin_case, judge};
-use plain_list::{own, stretch};
+use plain_list::book::Book;
+use plain_list::parts::{before, begun};
+use plain_list::text::{Item, items_of, sections_of};
+use std::alloc::{AllocError, Global};
 use std::io::Print;
 
 // What an item asks for: h random histories of a plan, b one on the index as it is, x a stair and y every axis at its ends, both under a rule, v
 // contests; l, m and p what the line tells: the longest stretch, the most own steps of a search, their greatest share; a capital letter for a call on the
 // index alone, and any other for an event on the index and on the plain table, which is wrong where there is no such event.
-fn perform(words: &mut [u32], copied: &mut [u32], book: &mut [u64], item: Item) {
+fn perform(words: &mut [u32], book: &mut Book, item: Item) {
     let n = item.n;
-    let letter = item.letter;
-    match letter {
-        b'h' => histories(words, copied, book, plan_of(n)),
-        b'b' => busy(words, copied, book, n),
+    match item.letter {
+        b'h' => histories(words, book, Plan::of(n)),
+        b'b' => busy(words, book, Plan::of(n)),
         b'x' => build(words, book, n[0] == 1, rule_given(n[1])),
-        b'y' => ends(words, copied, book, rule_given(n[0])),
+        b'y' => ends(words, book, rule_given(n[0])),
         b'v' => contests(words, book, n),
-        b'l' => stretch::tell(book),
-        b'm' => own::tell(book),
-        b'p' => own::tell_share(book),
-        b'A'..=b'Z' => raw::judged(words, copied, book, item),
+        b'l' => book.tell_stretch(),
+        b'm' => book.tell_own(),
+        b'p' => book.tell_share(),
+        b'A'..=b'Z' => raw::judged(words, book, item),
         _ => hindered::event(words, book, item),
     }
 }
 
-// Every item of a case.
-fn items(words: &mut [u32], copied: &mut [u32], book: &mut [u64], text: &[u8]) {
-    for k in 0..100000u32 {
-        let item = item_of(text, 2, k);
-        if item.letter == 0 {
-            return;
-        }
-        perform(words, copied, book, item);
+// Every item of a section.
+fn perform_all(
+    alloc: Global,
+    words: &mut [u32],
+    book: &mut Book,
+    section: &[u8],
+) -> Result<(), AllocError> {
+    for item in items_of(alloc, section)?.iter() {
+        perform(words, book, *item);
     }
+    Ok(())
+}
+
+// Two parties in every order, from the sections with the opening and with the items of each.
+fn play_orders(
+    alloc: Global,
+    words: &mut [u32],
+    book: &mut Book,
+    sections: [&[u8]; 3],
+) -> Result<(), AllocError> {
+    let [setup, one, other] = sections;
+    let setup = items_of(alloc, setup)?;
+    let one = items_of(alloc, one)?;
+    let other = items_of(alloc, other)?;
+    every_order(words, book, &setup, &one, &other);
+    Ok(())
 }
 
 // The items of a case in turn, or, where it has two parties, in every order. With another number of sections it is no case.
-fn run_items(words: &mut [u32], copied: &mut [u32], book: &mut [u64], text: &[u8]) {
-    match bars(text) {
-        2 => items(words, copied, book, text),
-        4 => every_order(words, book, text),
-        _ => judge(book, false),
-    }
-}
-
-// A case, from its text.
-fn run_case(rt: &impl Print, words: &mut [u32], copied: &mut [u32], book: &mut [u64], text: &[u8]) {
-    begin_case(book);
-    run_items(words, copied, book, text);
-    end_case(rt, book, text);
-}
-
-// The case from one offset to another.
-fn run_part(
-    rt: &impl Print,
+fn run_items(
+    alloc: Global,
     words: &mut [u32],
-    copied: &mut [u32],
-    book: &mut [u64],
+    book: &mut Book,
     text: &[u8],
-    start: usize,
-    end: usize,
-) {
-    if start <= end {
-        if end <= text.len() {
-            run_case(rt, words, copied, book, &text[start..end]);
+) -> Result<(), AllocError> {
+    let sections = sections_of(alloc, text)?;
+    match sections.as_slice() {
+        [_, _, items] => perform_all(alloc, words, book, items),
+        [_, _, setup, one, other] => play_orders(alloc, words, book, [setup, one, other]),
+        _ => {
+            book.judge(false);
+            Ok(())
         }
     }
 }
@@ -81,18 +82,16 @@ fn run_part(
 // Every case of a text.
 pub fn run_cases(
     rt: &impl Print,
+    alloc: Global,
     words: &mut [u32],
-    copied: &mut [u32],
-    book: &mut [u64],
+    book: &mut Book,
     text: &[u8],
-) {
-    let mut from = 0;
-    for k in 0..100000u32 {
-        let start = start_from(text, from);
-        if text.len() <= start {
-            return;
-        }
-        from = end_from(text, start);
-        run_part(rt, words, copied, book, text, start, from);
+) -> Result<(), AllocError> {
+    for part in begun(text).split(|byte| *byte == b'=').skip(1) {
+        let case = before(part, b'#');
+        book.begin_case();
+        run_items(alloc, words, book, case)?;
+        end_case(rt, book, case);
     }
+    Ok(())
 }

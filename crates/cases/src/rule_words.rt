@@ -1,12 +1,6 @@
 // The cases of words that are judged by the rule, in a text as in `cases`. `raw` says what Y, M, V and W are.
-use crate::input::append;
-
 // The word of the rule, and what it says of the factors and the rows.
-pub fn stored(to: &mut [u8], at: usize) -> usize {
-    append(
-        to,
-        at,
-        b"
+pub const STORED: &str = "
         # Station 0 has a call unfinished, station 1 is idle, and an answer waits at station 2. With the word mended calls go on.
         =a stored rule that is none: refusal 4 of every call|calls|
         Y 672 2 10 2 3 5 7 2 0; M 672 0 1 8000 9999 0; S 672 2 3 8000 0 0; R 672 2 0 0 0 0;
@@ -29,16 +23,10 @@ pub fn stored(to: &mut [u8], at: usize) -> usize {
         W 672 52 1 0 0 0; S 672 1 1 9000 42 0; R 672 1 0 0 0 0; K 672 1 1 0 0 0; A 672 0 0 0 0 0; W 672 52 2 0 0 0; P 672 0 0 0 0 0; A 672 0 0 0 0 1; S 672 2 3 8000 0 0;
         T 672 2 0 0 0 11; R 672 2 0 0 0 11; D 672 2 0 0 0 0; K 672 2 11 0 0 0; S 672 2 4 8000 0 0; T 672 2 0 0 0 11; W 672 52 1 0 0 0; A 672 0 0 0 0 0; R 672 2 0 0 0 0; K 672 2 8 0 0 0;
         Y 672 2 10 1 1 1 1 2 0; S 672 0 1 8000 41 0; R 672 0 0 0 0 0; S 672 1 1 9000 42 0; R 672 1 0 0 0 0; A 672 0 0 0 0 0; W 672 52 1 0 0 0; P 672 0 0 0 0 0; A 672 0 0 0 0 1;
-        S 672 2 2 8000 0 0; T 672 2 0 0 0 11; W 672 52 2 0 0 0; R 672 2 0 0 0 0; K 672 2 5 0 0 0; A 672 0 0 0 0 0;",
-    )
-}
+        S 672 2 2 8000 0 0; T 672 2 0 0 0 11; W 672 52 2 0 0 0; R 672 2 0 0 0 0; K 672 2 5 0 0 0; A 672 0 0 0 0 0;";
 
 // Rows that are out of range under the rule.
-pub fn rows(to: &mut [u8], at: usize) -> usize {
-    append(
-        to,
-        at,
-        b"
+pub const ROWS: &str = "
         # Word 614 is the moisture of the first leaf. Add, remove, contains and nearest are refused by it, but no withdrawal.
         =a stored leaf of moisture 10,000 under rule 2: refusal 11, and the audit says no|calls|
         Y 672 2 10 1 1 1 1 2 0; M 672 0 1 8000 9999 0; R 672 0 0 0 0 0; K 672 0 1 0 0 0; A 672 0 0 0 0 0; M 672 1 1 8000 9998 0; M 672 2 2 8000 9999 0; M 672 3 3 8000 9999 0;
@@ -74,16 +62,10 @@ pub fn rows(to: &mut [u8], at: usize) -> usize {
         W 672 644 7 0 0 0; T 672 2 0 0 0 11; T 672 3 0 0 0 11; A 672 0 0 0 0 1;
         W 672 644 8 0 0 0; T 672 2 0 0 0 11; T 672 3 0 0 0 11; A 672 0 0 0 0 1;
         W 672 644 9 0 0 0; T 672 2 0 0 0 11; T 672 3 0 0 0 11; A 672 0 0 0 0 1;
-        W 672 644 1 0 0 0; A 672 0 0 0 0 0; R 672 2 0 0 0 0; K 672 2 7 0 0 0; R 672 3 0 0 0 0; K 672 3 8 0 0 0;",
-    )
-}
+        W 672 644 1 0 0 0; A 672 0 0 0 0 0; R 672 2 0 0 0 0; K 672 2 7 0 0 0; R 672 3 0 0 0 0; K 672 3 8 0 0 0;";
 
 // Records of stations that are out of range under the rule.
-pub fn records(to: &mut [u8], at: usize) -> usize {
-    append(
-        to,
-        at,
-        b"
+pub const RECORDS: &str = "
         # Of each axis of rule 2, with the sheets of the case before; what a contains answers then is not asked.
         =the greatest sum on each axis under rule 2, and refusal 11 for one more|calls|
         Y 672 2 10 1 1 1 1 2 0; M 672 0 1 8000 550 0; R 672 0 0 0 0 0; M 672 1 1 9000 550 0; R 672 1 0 0 0 0;
@@ -112,6 +94,4 @@ pub fn records(to: &mut [u8], at: usize) -> usize {
         S 672 2 3 8000 0 0; R 672 2 0 0 0 0; W 672 252 4103772336 0 0 0; K 672 2 0 0 0 12; W 672 252 4294967295 0 0 0; W 672 251 4294967295 0 0 0; K 672 2 0 0 0 12;
         W 672 252 2564 0 0 0; W 672 251 3503854057 0 0 0; K 672 2 6 0 0 0;
         Y 672 2 10 1 1 1 1 1 0; S 672 2 3 8000 0 0; R 672 2 0 0 0 0; W 672 252 4103772335 0 0 0; W 672 251 545443856 0 0 0; K 672 2 0 0 0 12; W 672 252 2564 0 0 0; W 672 251 3503854057 0 0 0;
-        K 672 2 0 0 0 12; W 672 251 3503854056 0 0 0; K 672 2 6 0 0 0;",
-    )
-}
+        K 672 2 0 0 0 12; W 672 251 3503854056 0 0 0; K 672 2 6 0 0 0;";

@@ -1,12 +1,6 @@
 // The cases of openings with a rule, in a text as in `cases`. `raw` says what Y, H and M are, and `script` how an opening has a rule.
-use crate::input::append;
-
 // Openings with a rule, and those that are refused for it.
-pub fn opened(to: &mut [u8], at: usize) -> usize {
-    append(
-        to,
-        at,
-        b"
+pub const OPENED: &str = "
         # With factors that are in range under both rules.
         =rules 0, 1, 2 and 3|openings|
         Y 672 2 10 1 1 1 1 0 20; Y 672 2 10 1 1 1 1 1 0; Y 672 2 10 1 1 1 1 2 0; Y 672 2 10 1 1 1 1 3 20; Y 672 2 10 16 16 16 16 2 0; Y 672 2 10 16 16 16 16 4 20;
@@ -29,16 +23,10 @@ pub fn opened(to: &mut [u8], at: usize) -> usize {
         Y 672 2 10 2 3 5 7 2 0; V 672 0 1279683401 0 0 0; V 672 48 2 0 0 0; V 672 49 3 0 0 0; V 672 50 5 0 0 0; V 672 51 7 0 0 0; V 672 52 2 0 0 0; A 672 0 0 0 0 0;
         Y 672 2 10 1 1 1 1 3 20; Y 672 2 10 1 1 1 17 2 17; Y 672 3 10 1 1 1 1 1 3; X 672 2 10 1 1 1 1001 17; O 672 0 10 0 0 1; V 672 48 2 0 0 0; V 672 52 2 0 0 0;
         O 672 2 10 0 0 0; V 672 52 1 0 0 0; Y 672 2 10 1 1 1 1 2 0; V 672 52 2 0 0 0; X 672 2 10 2 3 5 7 0; V 672 52 1 0 0 0; Y 672 2 10 17 1 1 1 1 0; V 672 52 1 0 0 0;
-        A 672 0 0 0 0 0;",
-    )
-}
+        A 672 0 0 0 0 0;";
 
 // Moistures at the end of their range under each rule, and the cuts of rule 2.
-pub fn moist(to: &mut [u8], at: usize) -> usize {
-    append(
-        to,
-        at,
-        b"
+pub const MOIST: &str = "
         # Add, remove, contains and nearest, first under rule 1, then under rule 2. A kind that there is not, a station that is not idle and one that there is not come
           before.
         =moisture 9,999 and 10,000 under each rule, of all four kinds|calls|
@@ -64,16 +52,10 @@ pub fn moist(to: &mut [u8], at: usize) -> usize {
         V 672 644 5 0 0 0; V 672 645 1999989998 0 0 0; A 672 0 0 0 0 0; W 672 645 1999999998 0 0 0; A 672 0 0 0 0 0; M 672 2 3 100000 0 0; R 672 2 0 0 0 0; K 672 2 7 0 0 0;
         M 672 2 3 99999 0 0; R 672 2 0 0 0 0; K 672 2 7 0 0 0; M 672 3 4 100000 0 0; R 672 3 0 0 0 0; K 672 3 8 0 0 0; M 672 3 4 100000 0 0; M 672 2 3 99999 0 0;
         W 672 645 1999999999 0 0 0; T 672 2 0 0 0 11; T 672 3 0 0 0 11; A 672 0 0 0 0 1; W 672 645 4294967295 0 0 0; T 672 2 0 0 0 11; T 672 3 0 0 0 11;
-        W 672 645 1999989998 0 0 0; A 672 0 0 0 0 0; R 672 2 0 0 0 0; K 672 2 7 0 0 0; R 672 3 0 0 0 0; K 672 3 8 0 0 0;",
-    )
-}
+        W 672 645 1999989998 0 0 0; A 672 0 0 0 0 0; R 672 2 0 0 0 0; K 672 2 7 0 0 0; R 672 3 0 0 0 0; K 672 3 8 0 0 0;";
 
 // Frames of kind 7.
-pub fn framed(to: &mut [u8], at: usize) -> usize {
-    append(
-        to,
-        at,
-        b"
+pub const FRAMED: &str = "
         # Each frame is read and written back as it was, and opens as its fields say; the words tell which byte of a factor comes first.
         =frames that open with a rule|frames|
         H 672 2 10 1 1 1 1 1 0; V 672 1 2 0 0 0; V 672 2 10 0 0 0; V 672 48 1 0 0 0; V 672 51 1 0 0 0; V 672 52 1 0 0 0;
@@ -88,16 +70,10 @@ pub fn framed(to: &mut [u8], at: usize) -> usize {
         # The byte of the rule not there; lengths 16 and 18, and that of kind 1; the length of kind 7 with kinds 1 and 6, and with 9; a whole frame, whose places are 0.
         =refusals 13, 14 and 15 beside kind 7|frames|
         O 672 2 10 0 0 0; F 672 18 17 7 0 13; F 672 18 16 7 0 15; F 672 20 18 7 0 15; F 672 10 8 7 0 15; F 672 4 2 7 0 15; F 672 5 3 7 0 15; F 672 19 17 1 0 15; F 672 19 17 6 0 15;
-        F 672 19 17 9 0 14; F 672 19 17 7 0 1;",
-    )
-}
+        F 672 19 17 9 0 14; F 672 19 17 7 0 1;";
 
 // Searches by dry weight.
-pub fn nearest(to: &mut [u8], at: usize) -> usize {
-    append(
-        to,
-        at,
-        b"
+pub const NEAREST: &str = "
         # Six sheets of dry weight 60,000,000, whose moistures differ: each is held for itself, and each is the nearest to itself.
         =sheets of one dry weight and different moisture: parted, and each is found|events|
         o 8 100 1 1 1 1 2; f 0 1 12 6000 0 9000 2000 41 41; f 0 1 12 7500 2000 9000 2000 42 42; f 0 1 12 8000 2500 9000 2000 43 43; f 0 1 12 12000 5000 9000 2000 44 44;
@@ -123,16 +99,10 @@ pub fn nearest(to: &mut [u8], at: usize) -> usize {
         g 7 4 9999 100000 0 0 0; r 7; z 7; k 7 0 0 0 0 999999 8;
         o 4 100 16 16 16 16 2; f 0 1 1 1 9999 30000 4000 1 1; g 7 4 1 100000 0 0 0; r 7; z 7 17625567 969600 16; k 7 0 0 0 0 1 8; f 0 1 1 1 9999 30000 3999 2 2;
         f 7 4 1 100000 0 0 0 0 2; f 0 1 1 2 9999 29999 4000 3 3; f 7 4 1 100000 0 0 0 0 3; f 0 1 2 100000 0 0 0 4 4; f 7 4 1 100000 0 0 0 0 3; f 0 2 1 2 9999 29999 4000 0 3;
-        f 7 4 1 100000 0 0 0 0 2;",
-    )
-}
+        f 7 4 1 100000 0 0 0 0 2;";
 
 // Sheets at the ends of their ranges under rule 2.
-pub fn tops(to: &mut [u8], at: usize) -> usize {
-    append(
-        to,
-        at,
-        b"
+pub const TOPS: &str = "
         # Seven sheets, six of which have the greatest dry weight, 1,000,000,000: they differ in grade, in speed or in draw; the seventh is the next in dry weight.
         =sheets of the greatest dry weight, that differ on another axis|events|
         o 8 100 1 1 1 1 2; f 0 1 12 100000 0 0 2000 41 41; f 0 1 13 100000 0 0 2000 42 42; f 0 1 12 100000 0 30000 2000 43 43; f 0 1 12 100000 0 0 4000 44 44;
@@ -144,16 +114,10 @@ pub fn tops(to: &mut [u8], at: usize) -> usize {
         =sheets that are nearly all water|events|
         o 4 100 1 1 1 1 2; f 0 1 12 1 9999 0 2000 41 41; f 0 1 12 10001 9999 0 2000 42 42; f 0 1 12 1 9998 0 2000 43 43; g 0 1 12 1 10000 0 2000 44; g 1 2 12 1 10000 0 2000;
         g 2 3 12 1 10000 0 2000; g 3 4 12 1 10000 0 2000; n 3; g 1 4 12 2 9999 0 2000; r 1; z 1 0 0 1; k 1 0 0 0 0 41 8; f 1 4 12 5002 9999 0 2000 0 42; f 1 4 12 5001 9999 0 2000 0 42;
-        f 1 4 12 5000 9999 0 2000 0 41; f 0 2 12 1 9999 0 2000 0 41; g 1 4 12 1 9999 0 2000; r 1; z 1 0 100 0; k 1 0 0 0 0 42 8; g 1 4 12 2 9998 0 2000; r 1; z 1 0 0 4; k 1 0 0 0 0 43 8;",
-    )
-}
+        f 1 4 12 5000 9999 0 2000 0 41; f 0 2 12 1 9999 0 2000 0 41; g 1 4 12 1 9999 0 2000; r 1; z 1 0 100 0; k 1 0 0 0 0 42 8; g 1 4 12 2 9998 0 2000; r 1; z 1 0 0 4; k 1 0 0 0 0 43 8;";
 
 // The nearest beyond a cut under rule 2.
-pub fn beyond(to: &mut [u8], at: usize) -> usize {
-    append(
-        to,
-        at,
-        b"
+pub const BEYOND: &str = "
         # On one axis a record 20 below the target and one 40 above it, whose cut lies 10 above, and one 11 above, beyond the cut; the other axes count more, or this one does.
         =the nearest beyond a cut under rule 2, on each axis|events|
         o 4 100 1 16 16 16 2; f 0 1 12 7980 0 9000 2000 41 41; f 0 1 12 8040 0 9000 2000 42 42; f 0 1 12 8011 0 9000 2000 43 43;
@@ -179,16 +143,10 @@ pub fn beyond(to: &mut [u8], at: usize) -> usize {
         o 4 100 11 11 11 7 2; f 0 1 12 8000 550 9000 1980 41 41; f 0 1 12 8000 550 9000 2040 42 42; f 0 1 12 8000 550 9000 2011 43 43;
         g 1 4 12 8000 550 9000 2000; r 1; z 1 0 84700 0; k 1 0 0 0 0 43 8;
         o 4 100 1 1 1 16 2; f 0 1 12 8000 550 9000 1980 41 41; f 0 1 12 8000 550 9000 2040 42 42; f 0 1 12 8000 550 9000 2011 43 43;
-        g 1 4 12 8000 550 9000 2000; r 1; z 1 0 193600 0; k 1 0 0 0 0 43 8;",
-    )
-}
+        g 1 4 12 8000 550 9000 2000; r 1; z 1 0 193600 0; k 1 0 0 0 0 43 8;";
 
 // Ties under rule 2, and openings beside a search.
-pub fn tied(to: &mut [u8], at: usize) -> usize {
-    append(
-        to,
-        at,
-        b"
+pub const TIED: &str = "
         # Curve 42 is heavier and 41 has more dry weight; both are 410,000 off in dry weight, and 1,000,000 in moisture. Of two with one weight the drier is chosen.
         =a tie under rule 2: the heavier by basis weight|events|
         o 4 100 1 1 1 1 2; f 0 1 12 8951 0 9000 2000 41 41; f 0 1 12 9050 200 9000 2000 42 42; g 1 4 12 9000 100 9000 2000; r 1; z 1 1 168100 0; k 1 0 0 0 0 42 8;
@@ -211,16 +169,10 @@ pub fn tied(to: &mut [u8], at: usize) -> usize {
         o 4 100 1 1 1 1 2; n; t 3; g 0 1 12 8000 10000 9000 2000 41; f 0 1 12 10070 500 9000 2000 42 42; f 0 1 12 10054 550 9000 2000 43 43; f 3 4 12 10000 500 9000 2000 0 43;
         g 3 3 12 8000 10000 9000 2000; g 3 4 12 8000 10000 9000 2000; f 3 4 12 8000 9999 9000 2000 0 43; g 3 4 12 10000 500 9000 2000;
         o 4 100; n; t 3; f 0 1 12 8000 10000 9000 2000 44 44; f 0 1 12 10070 500 9000 2000 42 42; f 0 1 12 10054 550 9000 2000 43 43; f 3 4 12 10000 500 9000 2000 0 42;
-        f 3 4 12 8000 9999 9000 2000 0 44; f 0 2 12 8000 10000 9000 2000 0 44; f 3 3 12 8000 10000 9000 2000; n 2;",
-    )
-}
+        f 3 4 12 8000 9999 9000 2000 0 44; f 0 2 12 8000 10000 9000 2000 0 44; f 3 3 12 8000 10000 9000 2000; n 2;";
 
 // Searches by dry weight beside other stations, in every order.
-pub fn beside(to: &mut [u8], at: usize) -> usize {
-    append(
-        to,
-        at,
-        b"
+pub const BESIDE: &str = "
         # 42 and 43 are nearer than 41 by dry weight, 41 is the nearest by weight, and 44 is the nearest while it is held.
         =a search by dry weight beside an add and a removal|orders|
         o 5 100 1 1 1 1 2; f 1 1 12 10070 500 9000 2000 41 41; f 1 1 12 10054 550 9000 2000 42 42; f 1 1 12 10080 555 9000 2000 43 43;|
@@ -234,6 +186,4 @@ pub fn beside(to: &mut [u8], at: usize) -> usize {
         =sheets of one dry weight, added and removed by two stations|orders|
         o 4 100 1 1 1 1 2; f 1 1 12 6000 0 9000 2000 41 41;|
         f 2 1 12 7500 2000 9000 2000 51 51; f 2 2 12 7500 2000 9000 2000 0 51;|
-        f 3 1 12 12000 5000 9000 2000 52 52; f 3 4 12 7500 2000 9000 2000;",
-    )
-}
+        f 3 1 12 12000 5000 9000 2000 52 52; f 3 4 12 7500 2000 9000 2000;";

@@ -1,12 +1,6 @@
 // The cases of calls that are withdrawn, in a text as in `cases`.
-use crate::input::append;
-
 // Calls that are withdrawn.
-pub fn withdrawn(to: &mut [u8], at: usize) -> usize {
-    append(
-        to,
-        at,
-        b"
+pub const WITHDRAWN: &str = "
         # Refusals of withdrawals.
         # The mark gone, a slice one word too short, no words; a station that there is not; an idle one, and one with an answer waiting.
         =withdrawals refused by 4, 5 and 10|calls|
@@ -36,6 +30,4 @@ pub fn withdrawn(to: &mut [u8], at: usize) -> usize {
         =the same beside a search that goes on|orders|
         o 2 100; c 1 1 12 2000 41 41; c 1 1 12 8000 42 42; s 3 4 12 8900;|
         s 0 4 12 12000; t 0; w 0; k 0; r 3; k 3 0 0 0 0 42;|
-        c 5 2 12 2000 0 41; c 5 1 12 5000 44;",
-    )
-}
+        c 5 2 12 2000 0 41; c 5 1 12 5000 44;";

@@ -24,9 +24,9 @@ use Rattle.frames.specs.contracts.read.read_frame
 use Rattle.frames.specs.contracts.read.position_after
 use Rattle.frames.specs.contracts.write.write_frame
 use Rattle.frames.specs.contracts.write.write_fields
-use Rattle.readers.specs.contracts.reader.new
-use Rattle.readers.specs.contracts.reader.at
-use Rattle.readers.specs.contracts.reader.next
+use Rattle.readers.specs.contracts.reader.Reader.new
+use Rattle.readers.specs.contracts.reader.Reader.at
+use Rattle.readers.specs.contracts.reader.Reader.next
 use Rattle.readers.specs.contracts.reader.frame_at
 use Rattle.lines.specs.contracts.apply.apply_frame
 use Rattle.lines.specs.contracts.line.next_line
@@ -40,9 +40,9 @@ use Rattle.window.specs.contracts.steady.is_steady
 use Rattle.window.specs.contracts.lent.window_begin
 use Rattle.window.specs.contracts.lent.window_update
 use Rattle.readers.specs.Reader.{read_by, moved_past}
-use Rattle.claims.specs.Definitions.{replied, open_of, submit_of, take_of, take_words, step_of, withdraw_of, run_of, report_of, verdict_of}
-use Rattle.claims.specs.Definitions.{read_of, position_after, written_of, write_of, apply_of, apply_words, line_of, line_words}
-use Rattle.claims.specs.Definitions.{text_with, header_bytes, line_bytes, begun, next_of, next_words, begin_of, update_of, is_steady}
+use Rattle.claims.specs.Definitions.{number_told, replied, open_of, submit_of, take_of, take_words, step_of, withdraw_of, run_of, report_of, verdict_of}
+use Rattle.claims.specs.Definitions.{read_of, position_after, written_of, write_of, apply_of, apply_words, numbered, line_of, line_words, told}
+use Rattle.claims.specs.Definitions.{text_with, header_bytes, line_bytes, begun, next_of, next_words, begin_of, begun_told, update_of, updated_told, is_steady}
 -- ---- the functions meet their contracts
 
 pub use Rattle.openings.proofs.open.open.Met.{met as open_meets}
@@ -57,9 +57,9 @@ pub use Rattle.frames.proofs.read.read_frame.Met.{met as read_frame_meets}
 pub use Rattle.frames.proofs.read.position_after.Met.{met as position_after_meets}
 pub use Rattle.frames.proofs.write.write_frame.Met.{met as write_frame_meets}
 pub use Rattle.frames.proofs.write.write_fields.Met.{met as write_fields_meets}
-pub use Rattle.readers.proofs.reader.new.Met.{met as new_reader_meets}
-pub use Rattle.readers.proofs.reader.at.Met.{met as reader_at_meets}
-pub use Rattle.readers.proofs.reader.next.Met.{met as reader_next_meets}
+pub use Rattle.readers.proofs.reader.Reader.new.Met.{met as new_reader_meets}
+pub use Rattle.readers.proofs.reader.Reader.at.Met.{met as reader_at_meets}
+pub use Rattle.readers.proofs.reader.Reader.next.Met.{met as reader_next_meets}
 pub use Rattle.readers.proofs.reader.frame_at.Met.{met as frame_at_meets}
 pub use Rattle.lines.proofs.apply.apply_frame.Met.{met as apply_frame_meets}
 pub use Rattle.lines.proofs.line.next_line.Met.{met as next_line_meets}
@@ -88,13 +88,13 @@ module _ {M : Type 1} {𝓤 : Ura M} (𝓛 : Logic 𝓤) (mem : Memory → SProp
 
   -- opening: words, places, limit, factors
   pub open_contract : (κs : _) (args : _)
-      → open.clauses 𝓛 mem does κs args ≡ Promise (λ r end. replied r end.0.now ≡ open_of args.0.now args.1.0 args.1.1.0 args.1.1.1.0)
+      → open.clauses 𝓛 mem does κs args ≡ Promise (λ r end. replied (number_told r) end.0.now ≡ open_of args.0.now args.1.0 args.1.1.0 args.1.1.1.0)
   open_contract κs args = refl
 
   -- submission: words, station, kind, point, curve
   pub submit_contract : (κs : _) (args : _)
       → submit.clauses 𝓛 mem does κs args
-      ≡ Promise (λ r end. replied r end.0.now ≡ submit_of args.0.now args.1.0 args.1.1.0 args.1.1.1.0 args.1.1.1.1.0)
+      ≡ Promise (λ r end. replied (number_told r) end.0.now ≡ submit_of args.0.now args.1.0 args.1.1.0 args.1.1.1.0 args.1.1.1.1.0)
   submit_contract κs args = refl
 
   -- taking: words, station
@@ -103,14 +103,14 @@ module _ {M : Type 1} {𝓤 : Ura M} (𝓛 : Logic 𝓤) (mem : Memory → SProp
   take_contract κs args = refl
 
   -- step, withdrawal and run: words, station
-  pub step_contract : (κs : _) (args : _) → step.clauses 𝓛 mem does κs args ≡ Promise (λ r end. replied r end.0.now ≡ step_of args.0.now args.1.0)
+  pub step_contract : (κs : _) (args : _) → step.clauses 𝓛 mem does κs args ≡ Promise (λ r end. replied (number_told r) end.0.now ≡ step_of args.0.now args.1.0)
   step_contract κs args = refl
 
   pub withdraw_contract : (κs : _) (args : _)
-      → withdraw.clauses 𝓛 mem does κs args ≡ Promise (λ r end. replied r end.0.now ≡ withdraw_of args.0.now args.1.0)
+      → withdraw.clauses 𝓛 mem does κs args ≡ Promise (λ r end. replied (number_told r) end.0.now ≡ withdraw_of args.0.now args.1.0)
   withdraw_contract κs args = refl
 
-  pub run_contract : (κs : _) (args : _) → run.clauses 𝓛 mem does κs args ≡ Promise (λ r end. replied r end.0.now ≡ run_of args.0.now args.1.0)
+  pub run_contract : (κs : _) (args : _) → run.clauses 𝓛 mem does κs args ≡ Promise (λ r end. replied (number_told r) end.0.now ≡ run_of args.0.now args.1.0)
   run_contract κs args = refl
 
   -- report and audit: words, which are lent for reading alone
@@ -150,13 +150,13 @@ module _ {M : Type 1} {𝓤 : Ura M} (𝓛 : Logic 𝓤) (mem : Memory → SProp
 
   -- a frame on the words; the line of the frame at a position of the bytes
   pub apply_frame_contract : (κs : _) (args : _)
-      → apply_frame.clauses 𝓛 mem does κs args ≡ Promise (λ r end. (r ≡ apply_of args.0.now args.1.0) × (end.0.now ≡ apply_words args.0.now args.1.0))
+      → apply_frame.clauses 𝓛 mem does κs args ≡ Promise (λ r end. (numbered r ≡ apply_of args.0.now args.1.0) × (end.0.now ≡ apply_words args.0.now args.1.0))
   apply_frame_contract κs args = refl
 
   pub next_line_contract : (κs : _) (args : _)
       → next_line.clauses 𝓛 mem does κs args
       ≡ Promise
-      (λ r end. (r ≡ line_of args.0.now (read_of args.1.0.now args.1.1.0))
+      (λ r end. (told r ≡ line_of args.0.now (read_of args.1.0.now args.1.1.0))
       × (end.0.now ≡ line_words args.0.now (read_of args.1.0.now args.1.1.0)))
   next_line_contract κs args = refl
 
@@ -164,7 +164,7 @@ module _ {M : Type 1} {𝓤 : Ura M} (𝓛 : Logic 𝓤) (mem : Memory → SProp
   pub header_contract : (κs : _) (args : _) → header.clauses 𝓛 mem does κs args ≡ Promise (λ r end. r ≡ text_with header_bytes)
   header_contract κs args = refl
 
-  pub line_text_contract : (κs : _) (args : _) → line_text.clauses 𝓛 mem does κs args ≡ Promise (λ r end. r ≡ text_with (line_bytes args.0 args.1.0))
+  pub line_text_contract : (κs : _) (args : _) → line_text.clauses 𝓛 mem does κs args ≡ Promise (λ r end. r ≡ text_with (line_bytes args.0 (told args.1.0)))
   line_text_contract κs args = refl
 
   pub begin_contract : (κs : _) (args : _) → begin.clauses 𝓛 mem does κs args ≡ Promise (λ r end. r ≡ begun)
@@ -176,10 +176,10 @@ module _ {M : Type 1} {𝓤 : Ura M} (𝓛 : Logic 𝓤) (mem : Memory → SProp
   next_text_contract κs args = refl
 
   -- a window: begun at a length, brought up to date with a reading, and steady within a spread; the same where it is lent
-  pub window_begin_contract : (κs : _) (args : _) → begin_window.clauses 𝓛 mem does κs args ≡ Promise (λ r end. r ≡ begin_of args.0 args.1.0)
+  pub window_begin_contract : (κs : _) (args : _) → begin_window.clauses 𝓛 mem does κs args ≡ Promise (λ r end. begun_told args.0 r ≡ begin_of args.0 args.1.0)
   window_begin_contract κs args = refl
 
-  pub window_update_contract : (κs : _) (args : _) → update.clauses 𝓛 mem does κs args ≡ Promise (λ r end. r ≡ update_of args.0 args.1.0)
+  pub window_update_contract : (κs : _) (args : _) → update.clauses 𝓛 mem does κs args ≡ Promise (λ r end. updated_told args.0 r ≡ update_of args.0 args.1.0)
   window_update_contract κs args = refl
 
   pub is_steady_contract : (κs : _) (args : _) → is_steady.clauses 𝓛 mem does κs args ≡ Promise (λ r end. r ≡ is_steady args.0 args.1.0)

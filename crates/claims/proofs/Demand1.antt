@@ -10,11 +10,11 @@ use mathlib.Core.Bool.{Bool, true, false, cond, ◌&&◌}
 use mathlib.Core.List.{List, [], ◌∷◌, Memᴰ}
 use lib.Dec.{leb, ltb}
 use lib.ListN.{length, drop, replicate}
-use Rattle.claims.specs.Definitions.{Scale, plain_rule, rule_in, factors_in, plain_scale, Point, in_range_by, rule_at, words_for, places_in, limit_in, opened_in, is_idle, is_unfinished, state_at, waiting_at}
-use Rattle.claims.specs.Definitions.{is_opened, rows_in, open_of, kind_in, curve_fits, submit_of, records_sound, step_of, is_given, take_of, number_of, take_words, withdraw_of}
+use Rattle.claims.specs.Definitions.{Scale, plain_rule, rule_in, factors_in, plain_scale, Point, in_range_by, rule_at, words_for, places_in, limit_in, opened_in, is_idle, is_unfinished, state_at, waiting_at, number_told, yes_told}
+use Rattle.claims.specs.Definitions.{is_opened, rows_in, open_of, kind_in, curve_fits, submit_of, records_sound, step_of, is_given, take_of, take_words, withdraw_of}
 use Rattle.claims.specs.Definitions.{part, at_row, row_of, in_rows, Need, rows_of, step_needs, rows_sound, report_of, verdict_of, asked, first_no}
-use Rattle.claims.specs.Definitions.{Frame, Open, Submit, Step, Take, Run, OpenScaled, OpenRuled, Withdraw, Refused as Unread, is_kind, is_whole, has_kind, own_length, frame_question, read_of, reading_number}
-use Rattle.claims.specs.Definitions.{position_after, Fields, padded, written_bytes, write_of, point_of, scale_of, submission_reply, apply_of, applied_number, apply_words, line_words}
+use Rattle.claims.specs.Definitions.{Frame, Open, Submit, Step, Take, Run, OpenScaled, OpenRuled, Withdraw, Some, Err, FrameRefusal, frame_number_told, is_kind, is_whole, has_kind, own_length, frame_question, read_of, reading_number}
+use Rattle.claims.specs.Definitions.{position_after, Fields, padded, written_bytes, write_of, written_told, point_of, scale_of, submission_reply, apply_of, applied_number, apply_words, line_words}
 use borrow.Author.Tests.{lt-ltb}
 use Rattle.rows.proofs.RowLaws.{row_exact}
 use Rattle.calls.proofs.Conjunctions.{and_false}
@@ -68,15 +68,15 @@ withdrawal_number = Refused.withdraw_number
 
 -- taking: question 12 (Rules 7.17)
 pub take_number : (words : List ℕ) (s : ℕ)
-    → number_of (take_of words s) ≡ first_no (asked (is_opened (opened_in words)) 4 ∷ asked (ltb s 8) 5 ∷ asked (is_given (waiting_at words s)) 12 ∷ [])
+    → number_told (take_of words s) ≡ first_no (asked (is_opened (opened_in words)) 4 ∷ asked (ltb s 8) 5 ∷ asked (is_given (waiting_at words s)) 12 ∷ [])
 take_number = Refused.take_number
 
 -- A report names no station: question 4 alone (Rules 7.5).
-pub report_number : (words : List ℕ) → (report_of words).number ≡ first_no (asked (is_opened (opened_in words)) 4 ∷ [])
+pub report_number : (words : List ℕ) → number_told (report_of words) ≡ first_no (asked (is_opened (opened_in words)) 4 ∷ [])
 report_number = Refused.report_number
 
 -- An audit names none either.
-pub audit_number : (words : List ℕ) → (verdict_of words).number ≡ first_no (asked (is_opened (opened_in words)) 4 ∷ [])
+pub audit_number : (words : List ℕ) → number_told (verdict_of words) ≡ first_no (asked (is_opened (opened_in words)) 4 ∷ [])
 audit_number = Refused.audit_number
 
 -- ---- "a refused call changes no word"
@@ -98,11 +98,11 @@ pub withdrawal_refused : (words : List ℕ) (s : ℕ) → ¬ ((withdraw_of words
 withdrawal_refused = Refused.withdraw_refused
 
 -- a refused taking
-pub take_refused : (words : List ℕ) (s : ℕ) → ¬ (number_of (take_of words s) ≡ 0) → take_words words s ≡ words
+pub take_refused : (words : List ℕ) (s : ℕ) → ¬ (number_told (take_of words s) ≡ 0) → take_words words s ≡ words
 take_refused = Refused.take_refused
 
 -- A report and an audit write nothing at all; a refused audit does not say yes.
-pub audit_refused : (words : List ℕ) → ¬ ((verdict_of words).number ≡ 0) → (verdict_of words).sound ≡ false
+pub audit_refused : (words : List ℕ) → ¬ (number_told (verdict_of words) ≡ 0) → yes_told (verdict_of words) ≡ false
 audit_refused = Refused.audit_refused
 
 -- ---- frames
@@ -120,27 +120,27 @@ frame_number bytes at l = OutcomeLaws.reading_number_lem bytes at l ∙ same (is
     same false b c = refl
 
 -- "A refusal is its number alone, with nothing written anywhere" (Rules 7.2): a frame that is not read changes no word, and does not move the position (Rules 9.5).
-pub frame_refused : (words bytes : List ℕ) (at number : ℕ) → read_of bytes at ≡ Unread number
+pub frame_refused : (words bytes : List ℕ) (at : ℕ) (refusal : FrameRefusal) → read_of bytes at ≡ Some (Err refusal)
     → (line_words words (read_of bytes at) ≡ words) × (position_after (read_of bytes at) at ≡ at)
 unfolding line_words
-frame_refused words bytes at number e = rw e (refl, refl)
+frame_refused words bytes at refusal e = rw e (refl, refl)
 
 -- "The writer takes a kind (question 14)" (Rules 9.6).
-pub writer_number : (kind : ℕ) (fields : Fields) → (write_of kind fields).number ≡ first_no (asked (is_kind kind) 14 ∷ [])
+pub writer_number : (kind : ℕ) (fields : Fields) → frame_number_told (write_of kind fields) ≡ first_no (asked (is_kind kind) 14 ∷ [])
 unfolding write_of first_no
 writer_number kind fields = go (is_kind kind) refl
   where
-    go : (b : Bool) → is_kind kind ≡ b → (write_of kind fields).number ≡ first_no (asked b 14 ∷ [])
+    go : (b : Bool) → is_kind kind ≡ b → frame_number_told (write_of kind fields) ≡ first_no (asked b 14 ∷ [])
     go true e = rw (e, write_of)
     go false e = rw (e, write_of)
 
 -- A refused writing has no byte of a frame: "all are zero and the count is 0" (Rules 9.6).
-pub writer_refused : (kind : ℕ) (fields : Fields) → ¬ ((write_of kind fields).number ≡ 0)
-    → ((write_of kind fields).written.bytes ≡ replicate 28 0) × ((write_of kind fields).written.count ≡ 0)
+pub writer_refused : (kind : ℕ) (fields : Fields) → ¬ (frame_number_told (write_of kind fields) ≡ 0)
+    → ((written_told (write_of kind fields)).bytes ≡ replicate 28 0) × ((written_told (write_of kind fields)).count ≡ 0)
 unfolding write_of written_bytes padded
 writer_refused kind fields = go (is_kind kind) refl
   where
-    go : (b : Bool) → is_kind kind ≡ b → ¬ ((write_of kind fields).number ≡ 0) → ((write_of kind fields).written.bytes ≡ replicate 28 0) × ((write_of kind fields).written.count ≡ 0)
+    go : (b : Bool) → is_kind kind ≡ b → ¬ (frame_number_told (write_of kind fields) ≡ 0) → ((written_told (write_of kind fields)).bytes ≡ replicate 28 0) × ((written_told (write_of kind fields)).count ≡ 0)
     go true e n = absurd (n (rw (e, write_of)))
     go false e n = rw (e, write_of) (refl, refl)
 
@@ -158,11 +158,11 @@ IsRun (Withdraw station) = ⊥
 -- A frame whose call is refused changes no word.
 pub applied_refused : (words : List ℕ) (frame : Frame) → ¬ IsRun frame → ¬ (applied_number (apply_of words frame) ≡ 0) → apply_words words frame ≡ words
 unfolding apply_of apply_words submission_reply
-applied_refused words (Open places limit) r n = open_refused words places limit plain_scale n
-applied_refused words (Submit s) r n = submit_refused words s.station s.kind (point_of s) s.curve n
-applied_refused words (Step station) r n = step_refused words station n
+applied_refused words (Open places limit) r n = open_refused words places limit plain_scale (λ e. n (LineLaws.no_answer_number (open_of words places limit plain_scale).number ∙ e))
+applied_refused words (Submit s) r n = submit_refused words s.station s.kind (point_of s) s.curve (λ e. n (LineLaws.no_answer_number (submission_reply words s).number ∙ e))
+applied_refused words (Step station) r n = step_refused words station (λ e. n (LineLaws.no_answer_number (step_of words station).number ∙ e))
 applied_refused words (Take station) r n = take_refused words station (λ e. n (LineLaws.taking_number (take_of words station) ∙ e))
 applied_refused words (Run station) r n = absurd (r tt)
-applied_refused words (OpenScaled places limit factors) r n = open_refused words places limit (scale_of plain_rule factors) n
-applied_refused words (OpenRuled places limit factors rule) r n = open_refused words places limit (scale_of rule factors) n
-applied_refused words (Withdraw station) r n = withdrawal_refused words station n
+applied_refused words (OpenScaled places limit factors) r n = open_refused words places limit (scale_of plain_rule factors) (λ e. n (LineLaws.no_answer_number (open_of words places limit (scale_of plain_rule factors)).number ∙ e))
+applied_refused words (OpenRuled places limit factors rule) r n = open_refused words places limit (scale_of rule factors) (λ e. n (LineLaws.no_answer_number (open_of words places limit (scale_of rule factors)).number ∙ e))
+applied_refused words (Withdraw station) r n = withdrawal_refused words station (λ e. n (LineLaws.no_answer_number (withdraw_of words station).number ∙ e))

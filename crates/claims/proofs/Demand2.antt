@@ -12,7 +12,7 @@ use lib.ListN.{length, drop, take as take_first}
 use mathlib.Core.Option.{Option, none, some}
 use Rattle.claims.specs.Definitions.{Scale, Point, square_of, same_grade, chosen_over, Chosen, Record, curve_at, Call, add, remove, contains, nearest, call_of, answer, is_change}
 use Rattle.claims.specs.Definitions.{counter_at, is_unfinished, state_at, Table, busy, taken, answer_of, changed_if, Event, submit, done, open_of, submit_of, run_of, take_of, take_words}
-use Rattle.claims.specs.Definitions.{opened, given_by, word_index, after, stepped, Frame, AllBytes, InWidth, Read, read_of, written_of}
+use Rattle.claims.specs.Definitions.{opened, given_by, word_index, after, stepped, Frame, AllBytes, InWidth, Some, Ok, read_of, written_of}
 use Rattle.points.proofs.ScaleLaws
 use Rattle.table.proofs.Answers
 use Rattle.table.specs.Record.{nearest_of}
@@ -160,10 +160,10 @@ demand_2 words places limit scale e evs =
 
 -- "Frames written read back as the same call": fields of their widths, the bytes used, whatever bytes stand before and after them.
 pub written_reads : (frame : Frame) → InWidth frame → (before rest : List ℕ)
-    → read_of (before ++ (take_first (written_of frame).count (written_of frame).bytes ++ rest)) (length before) ≡ Read frame (length before + (written_of frame).count)
+    → read_of (before ++ (take_first (written_of frame).count (written_of frame).bytes ++ rest)) (length before) ≡ Some (Ok (frame, length before + (written_of frame).count))
 written_reads = WrittenLaws.written_reads
 
 -- "frames read write back as the same bytes": those from the position to the next, in any bytes; and the frame's fields are in width.
-pub read_writes : (bytes : List ℕ) (at next : ℕ) (frame : Frame) → AllBytes bytes → read_of bytes at ≡ Read frame next
+pub read_writes : (bytes : List ℕ) (at next : ℕ) (frame : Frame) → AllBytes bytes → read_of bytes at ≡ Some (Ok (frame, next))
     → (take_first (next - at) (drop at bytes) ≡ take_first (written_of frame).count (written_of frame).bytes) × (next ≡ at + (written_of frame).count) × InWidth frame
 read_writes bytes at next frame b e = (ReadLaws.read_writes bytes at b e, ReadLaws.read_count bytes at b e, ReadLaws.read_in_width bytes at b e)

@@ -9,8 +9,8 @@ use mathlib.Core.Bool.{Bool, true, false, ◌&&◌}
 use mathlib.Core.List.{List, [], ◌∷◌, ◌++◌, map}
 use mathlib.Core.Option.{Option, none, some, IsSome}
 use lib.Dec.{eqb}
-use Rattle.claims.specs.Definitions.{Scale, Point, is_unfinished, state_at, Same, Once, Call, Answer, Table, unfinished, opened, taken, Event, submission, single_step, taking, withdrawal}
-use Rattle.claims.specs.Definitions.{Reply, take, feed, CanChange, reply, answered, open_of, submit_of, step_of, take_of, number_of, withdraw_of, report_of, held_in}
+use Rattle.claims.specs.Definitions.{Scale, Point, is_unfinished, state_at, Same, Once, Call, Answer, Table, unfinished, opened, taken, Event, submission, single_step, taking, withdrawal, number_told, places_told}
+use Rattle.claims.specs.Definitions.{Reply, take, feed, CanChange, reply, answered, open_of, submit_of, step_of, take_of, withdraw_of, report_of, held_in}
 use Rattle.claims.specs.Definitions.{record_of, given_by, word_index, after, stepped}
 use Rattle.history.proofs.Demand3.{demand_3 as demand_3_follows}
 use Rattle.history.proofs.Solo.{solo_steps}
@@ -27,16 +27,16 @@ pub record Agrees (words : List ℕ) (t : Table) : Type 0 where
   pub records : Same (map record_of (held_in words)) t.held
   pub once : Once (map record_of (held_in words))
   -- and so is the number of places taken that a report gives (Rules 3.6)
-  pub places : (report_of words).taken ≡ taken t
+  pub places : places_told (report_of words) ≡ taken t
   -- a taking by any station would be refused with the same number, or accepted; "What that taking would give is the answer waiting" (Rules 4.8)
-  pub accepted : (s : ℕ) → number_of (take_of words s) ≡ (take t s).number
+  pub accepted : (s : ℕ) → number_told (take_of words s) ≡ (take t s).number
   pub waiting : (s : ℕ) → given_by (take_of words s) ≡ (take t s).given
 
 -- the number of an event's refusal on these words, or 0; and the answer that it takes
 abbrev pub number_at : List ℕ → Event → ℕ
 number_at words (submission s kind p c) = (submit_of words s kind p c).number
 number_at words (single_step s) = (step_of words s).number
-number_at words (taking s) = number_of (take_of words s)
+number_at words (taking s) = number_told (take_of words s)
 number_at words (withdrawal s) = (withdraw_of words s).number
 
 abbrev pub given_at : List ℕ → Event → Option Answer
@@ -48,7 +48,7 @@ given_at words (withdrawal s) = none
 -- "A step that is not refused has answered if a taking by its station would be accepted next" (Rules 4.8)
 abbrev pub answers_at : List ℕ → Event → Bool
 answers_at words (submission s kind p c) = false
-answers_at words (single_step s) = eqb (step_of words s).number 0 && eqb (number_of (take_of (step_of words s).words s)) 0
+answers_at words (single_step s) = eqb (step_of words s).number 0 && eqb (number_told (take_of (step_of words s).words s)) 0
 answers_at words (taking s) = false
 answers_at words (withdrawal s) = false
 
@@ -128,8 +128,8 @@ demand_3 words places limit scale e evs =
 -- n steps of station s, the others standing still, are accepted and do not answer it; the next is accepted and does: a taking would then be accepted
 pub record AnsweredAt (words : List ℕ) (s n : ℕ) : Type 0 where
   pub accepted : (k : ℕ) → k ≤ n → (step_of (stepped k words s) s).number ≡ 0
-  pub unanswered : (k : ℕ) → k < n → ¬ (number_of (take_of (stepped (suc k) words s) s) ≡ 0)
-  pub answers : number_of (take_of (stepped (suc n) words s) s) ≡ 0
+  pub unanswered : (k : ℕ) → k < n → ¬ (number_told (take_of (stepped (suc k) words s) s) ≡ 0)
+  pub answers : number_told (take_of (stepped (suc n) words s) s) ≡ 0
 
 -- Demand 3: "After every history, a station with an unfinished call, stepped while the others stand still, is answered within 16 × places + 64 steps." The state word is 1 exactly
 -- where the plain table has the call unfinished (`AnswersAsTable.unfinished` of Demand2.antt).

@@ -8,11 +8,12 @@ use mathlib.Core.Bool.{true, false}
 use mathlib.Core.List.Memᴰ
 use mathlib.Core.List.{List, [], map, append-nil, Memᴰ}
 use lib.ListN.{length}
+use Rattle.std.specs.Prelude.{None}
 use native.Mathlib.Omega.{arith}
 use Rattle.stations.specs.declared.counts.Counts.{Counts}
-use Rattle.claims.specs.Definitions.{Scale, rule_in, factors_in, Point, order_of, compared_of, Looked}
+use Rattle.claims.specs.Definitions.{Scale, rule_in, factors_in, Point, order_of, compared_of, Looked, number_told, places_told, yes_told}
 use Rattle.claims.specs.Definitions.{get, rule_at, row_at, Spare, counts_at, counter_at, is_idle, is_unfinished, state_at, Record, Table, opened, eight, total, taken, Event}
-use Rattle.claims.specs.Definitions.{limit_in, Opened, opened_in, open_of, step_of, run_of, take_of, number_of, report_of, audit_of, verdict_of, held_in, record_of, after, first_no, Audited, output_of, begun, printed, last_output}
+use Rattle.claims.specs.Definitions.{limit_in, Opened, opened_in, open_of, step_of, run_of, take_of, report_of, audit_of, verdict_of, held_in, record_of, after, first_no, Audited, output_of, begun, printed, last_output}
 use Rattle.stations.proofs.OpeningLaws.{places_of, opened_rule}
 use Rattle.table.proofs.Counters.{total_same}
 use Rattle.points.proofs.ComparedLaws.{compared_tells}
@@ -97,8 +98,8 @@ changes_counted words places limit scale e evs =
 -- After a history the number that a report gives is that of the plain table (Rules 3.6). It is not refused, and the
 -- number is that of the table of `demand_3` at the end.
 pub report_after : (words : List ℕ) (places limit : ℕ) (scale : Scale) (e : (open_of words places limit scale).number ≡ 0) (evs : List Event)
-    → ((report_of (after evs (open_of words places limit scale).words)).number ≡ 0)
-    × ((report_of (after evs (open_of words places limit scale).words)).taken ≡ taken ((demand_3 words places limit scale e evs).table evs))
+    → (number_told (report_of (after evs (open_of words places limit scale).words)) ≡ 0)
+    × (places_told (report_of (after evs (open_of words places limit scale).words)) ≡ taken ((demand_3 words places limit scale e evs).table evs))
 unfolding first_no
 report_after words places limit scale e evs =
     let a = accepted words places limit scale e in
@@ -107,7 +108,7 @@ report_after words places limit scale e evs =
     (report_number v ∙ rw st.related.opened, ((demand_3 words places limit scale e evs).agrees evs [] (append-nil evs)).places)
 
 -- What an audit says: its verdict is `audit_of`.
-pub audit_says : (words : List ℕ) → (verdict_of words).sound ≡ audit_of words
+pub audit_says : (words : List ℕ) → yes_told (verdict_of words) ≡ audit_of words
 audit_says = Refused.audit_says
 
 -- Rules 6.6: "An audit says yes exactly if" what `Audited` says holds, for all words.
@@ -116,7 +117,7 @@ audit_exact = Audits.audit_exact
 
 -- "After every history the audit says yes" (Rules 6.9). It is not refused.
 pub audit_after : (words : List ℕ) (places limit : ℕ) (scale : Scale) → (open_of words places limit scale).number ≡ 0 → (evs : List Event)
-    → ((verdict_of (after evs (open_of words places limit scale).words)).number ≡ 0) × (audit_of (after evs (open_of words places limit scale).words) ≡ true)
+    → (number_told (verdict_of (after evs (open_of words places limit scale).words)) ≡ 0) × (audit_of (after evs (open_of words places limit scale).words) ≡ true)
 unfolding first_no
 audit_after words places limit scale e evs =
     let a = accepted words places limit scale e in
@@ -144,7 +145,7 @@ run_is_steps = run_steps
 pub run_after : (words : List ℕ) (places limit : ℕ) (scale : Scale) → (open_of words places limit scale).number ≡ 0 → (evs : List Event) (s : ℕ)
     → is_unfinished (state_at (after evs (open_of words places limit scale).words) s) ≡ true
     → ((run_of (after evs (open_of words places limit scale).words) s).number ≡ 0)
-    × (number_of (take_of (run_of (after evs (open_of words places limit scale).words) s).words s) ≡ 0)
+    × (number_told (take_of (run_of (after evs (open_of words places limit scale).words) s).words s) ≡ 0)
 run_after words places limit scale e evs s u = let x = run_answers words places limit scale e evs s u in (x.number, x.answered)
 
 -- ---- the frame runner
@@ -163,7 +164,7 @@ runner_places words limit scale l e r f = (
 pub runner_prints : (words bytes : List ℕ) (n : ℕ) → length bytes ≤ 18446744073709551615 → length bytes ≤ n → printed n words bytes begun ≡ output_of words bytes
 runner_prints = output_is_lines
 
-pub runner_ends : (words bytes : List ℕ) (n : ℕ) → length bytes < n → (last_output n words bytes begun).more ≡ false
+pub runner_ends : (words bytes : List ℕ) (n : ℕ) → length bytes < n → (last_output n words bytes begun).at ≡ None
 runner_ends = output_ends
 
 -- ---- the comparison of points

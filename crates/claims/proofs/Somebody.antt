@@ -14,7 +14,7 @@ use lib.Dec.{eqb}
 use lib.ListN.{length}
 use borrow.Author.Tests.{eqb-true}
 use Rattle.points.proofs.Tests.{and_l, and_r}
-use Rattle.claims.specs.Definitions.{Scale, is_unfinished, state_at, Event, submission, single_step, taking, withdrawal, reply, answered, open_of, step_of, take_of, number_of, word_index, after}
+use Rattle.claims.specs.Definitions.{Scale, is_unfinished, state_at, Event, submission, single_step, taking, withdrawal, reply, answered, open_of, step_of, take_of, word_index, after, number_told}
 use Rattle.claims.specs.Definitions.{dealt_steps, NotWithdrawn, Undisturbed, NobodySubmits}
 use Rattle.history.specs.Somebody.{SomeAnswered}
 use Rattle.history.proofs.Somebody as Finishes
@@ -30,7 +30,7 @@ pub record OneAnswers (words : List ℕ) (run : List Event) : Type 0 where
   pub rest : List Event
   pub splits : before ++ (single_step station ∷ rest) ≡ run
   pub accepted : (step_of (after before words) station).number ≡ 0
-  pub answers : number_of (take_of (step_of (after before words) station).words station) ≡ 0
+  pub answers : number_told (take_of (step_of (after before words) station).words station) ≡ 0
 
 -- the event before the others answers nobody, or is no step
 later : {words : List ℕ} {run : List Event} (ev : Event) → OneAnswers (reply word_index words ev).next run → OneAnswers words (ev ∷ run)
@@ -49,9 +49,9 @@ one_answers words (withdrawal s ∷ run) (inr x) = later (withdrawal s) (one_ans
 one_answers words (single_step s ∷ run) (inr x) = later (single_step s) (one_answers (step_of words s).words run x)
 one_answers words (single_step s ∷ run) (inl e) =
     let a = eqb (step_of words s).number 0 in
-    let b = eqb (number_of (take_of (step_of words s).words s)) 0 in
+    let b = eqb (number_told (take_of (step_of words s).words s)) 0 in
     let accepted = eqb-true (step_of words s).number 0 (and_l a b e) in
-    let answers = eqb-true (number_of (take_of (step_of words s).words s)) 0 (and_r a b e) in
+    let answers = eqb-true (number_told (take_of (step_of words s).words s)) 0 (and_r a b e) in
     record { before = []; station = s; rest = run; splits = refl; accepted = accepted; answers = answers }
 
 -- ---- the claims

@@ -12,7 +12,7 @@ use native.Mathlib.Decide.{dec_lt}
 use lib.Dec.{eqb}
 use borrow.Author.Tests.{eqb-true}
 use Rattle.points.proofs.Tests.{and_l, and_r}
-use Rattle.claims.specs.Definitions.{Scale, Point, Event, submission, single_step, taking, withdrawal, reply, answered, open_of, submit_of, step_of, take_of, number_of, word_index, after}
+use Rattle.claims.specs.Definitions.{Scale, Point, Event, submission, single_step, taking, withdrawal, reply, answered, open_of, submit_of, step_of, take_of, word_index, after, number_told}
 use Rattle.claims.specs.Definitions.{own_steps, CallKept, KeepsCall}
 use Rattle.history.specs.WaitFree.{OwnAnswered}
 use Rattle.history.proofs.WaitFree as Holds
@@ -25,7 +25,7 @@ pub record OwnAnswers (s : ℕ) (words : List ℕ) (run : List Event) : Type 0 w
   pub rest : List Event
   pub splits : before ++ (single_step s ∷ rest) ≡ run
   pub accepted : (step_of (after before words) s).number ≡ 0
-  pub answers : number_of (take_of (step_of (after before words) s).words s) ≡ 0
+  pub answers : number_told (take_of (step_of (after before words) s).words s) ≡ 0
 
 -- the event before the others does not answer it
 later : {s : ℕ} {words : List ℕ} {run : List Event} (ev : Event) → OwnAnswers s (reply word_index words ev).next run → OwnAnswers s words (ev ∷ run)
@@ -44,9 +44,9 @@ own_answers s words (withdrawal u ∷ run) (inr x) = later (withdrawal u) (own_a
 own_answers s words (single_step u ∷ run) (inr x) = later (single_step u) (own_answers s (step_of words u).words run x)
 own_answers s words (single_step u ∷ run) (inl x) =
     let a = eqb (step_of words u).number 0 in
-    let b = eqb (number_of (take_of (step_of words u).words u)) 0 in
+    let b = eqb (number_told (take_of (step_of words u).words u)) 0 in
     let accepted : (step_of words u).number ≡ 0 = eqb-true (step_of words u).number 0 (and_l a b x.1) in
-    let answers : number_of (take_of (step_of words u).words u) ≡ 0 = eqb-true (number_of (take_of (step_of words u).words u)) 0 (and_r a b x.1) in
+    let answers : number_told (take_of (step_of words u).words u) ≡ 0 = eqb-true (number_told (take_of (step_of words u).words u)) 0 (and_r a b x.1) in
     subst (λ (v : ℕ). OwnAnswers v words (single_step u ∷ run)) x.0 (record { before = []; rest = run; splits = refl; accepted = accepted; answers = answers })
 
 -- ---- the claims

@@ -9,7 +9,7 @@ use mathlib.Core.Bool.{true, false}
 use mathlib.Core.List.{List, ◌∷◌, ◌++◌}
 use mathlib.Core.Option.{some}
 use lib.ListN.{length}
-use Rattle.claims.specs.Definitions.{Scale, Point, is_unfinished, state_at, answer, Table, eight, searches, others, holding, Event, single_step, withdrawal, answered}
+use Rattle.claims.specs.Definitions.{Scale, Point, is_unfinished, state_at, answer, Table, eight, searches, others, holding, Event, single_step, withdrawal, answered, places_told}
 use Rattle.claims.specs.Definitions.{open_of, submit_of, take_of, withdraw_of, report_of, given_by, after, Withdrawn}
 use Rattle.table.proofs.Searched.{take_given}
 use Rattle.table.proofs.Taken.{taken_others}
@@ -55,5 +55,5 @@ module _ (words : List ℕ) (places limit : ℕ) (scale : Scale) (e : (open_of w
   -- Rules 2.10: the places taken that a report gives then are, of any table that agrees with the words (as that of `demand_3` does), the records held
   -- and the removals that an unfinished nearest of another station holds
   pub lets_go : is_unfinished (state_at reached s) ≡ true → (t : Table) → Agrees (withdraw_of reached s).words t
-      → (report_of (withdraw_of reached s).words).taken ≡ length t.held + holding t.removals (searches (others s eight) t.stations)
+      → places_told (report_of (withdraw_of reached s).words) ≡ length t.held + holding t.removals (searches (others s eight) t.stations)
   lets_go u t a = a.places ∙ taken_others t s _ (take_given t s _ (sym (a.waiting s) ∙ (withdrawn u).gives))

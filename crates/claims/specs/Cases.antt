@@ -4,7 +4,7 @@
 use Rattle.std.specs.Prelude.{ℕ, ◌≤◌, ◌≡◌, true, false, List, [], ◌∷◌, ◌++◌, ℤ, pos, negsuc, length, replicate}
 use Rattle.std.proofs.Math.Option.{some}
 use Rattle.claims.specs.Definitions.{Point, Scale, plain_scale, square_of, cut_of, goes_left, words_for, Call, call_of, Answer, answer, is_change, Table, opened, answer_of, changed_if}
-use Rattle.claims.specs.Definitions.{open_of, submit_of, run_of, take_of, take_words, given_by, Step, Refused, read_of, written_of}
+use Rattle.claims.specs.Definitions.{open_of, submit_of, run_of, take_of, take_words, given_by, Step, Some, Err, NoFrameKind, frame_refusal_number, read_of, written_of}
 
 -- ---- points
 
@@ -131,7 +131,7 @@ pub record ProvedCases : Type 0 where
   -- step for station 2: bytes 03 00 03 00 02
   pub p7 : ((written_of (Step 2)).bytes ≡ (3 ∷ 0 ∷ 3 ∷ 0 ∷ 2 ∷ []) ++ replicate 23 0) × ((written_of (Step 2)).count ≡ 5)
   -- length 1, its byte there: 14
-  pub p8 : (byte : ℕ) → read_of (1 ∷ 0 ∷ byte ∷ []) 0 ≡ Refused 14
+  pub p8 : (byte : ℕ) → (read_of (1 ∷ 0 ∷ byte ∷ []) 0 ≡ Some (Err NoFrameKind)) × (frame_refusal_number NoFrameKind ≡ 14)
   -- one place, held point added again: 2
   pub p9 : Answered 1 10 plain_scale (adds (at_weight 12 9_000) 41 ∷ adds (at_weight 12 9_000) 42 ∷ []) (answer 1 (at_weight 12 9_000) 41 0 ∷ answer 2 (at_weight 12 9_000) 41 0 ∷ [])
   -- limit 1, one add done, new add of the same station: 4

@@ -62,10 +62,11 @@ pub use Rattle.calls.specs.Step.{records_sound, step_of}
 pub use Rattle.calls.specs.Needs.{Need, rows_of, step_needs, rows_sound}
 pub use Rattle.calls.specs.Run.{is_given, goes_on}
 unfoldable pub use Rattle.calls.specs.Run.{run_for, most_steps, run_of}
-pub use Rattle.calls.specs.Take.{take_of, number_of, take_words}
+pub use Rattle.words.specs.Refusal.{number_told}
+pub use Rattle.calls.specs.Take.{take_of, take_words}
 pub use Rattle.calls.specs.Withdraw.{withdraw_of}
-pub use Rattle.calls.specs.Report.{report_of}
-pub use Rattle.calls.specs.Audit.{audit_of, verdict_of}
+pub use Rattle.calls.specs.Report.{report_of, places_told}
+pub use Rattle.calls.specs.Audit.{audit_of, verdict_of, yes_told}
 -- the records on the leaves linked from the root
 pub use Rattle.calls.specs.Held.{held_in}
 -- ---- history
@@ -94,16 +95,22 @@ pub use Rattle.frames.specs.declared.frame.Frame.{Frame}
 pub use Rattle.frames.specs.declared.frame.Frame.TheVariants.{Open, Submit, Step, Take, Run, OpenScaled, OpenRuled, Withdraw}
 pub use Rattle.numbers.specs.Bytes.{AllBytes}
 pub use Rattle.frames.specs.Width.{InWidth}
-pub use Rattle.frames.specs.declared.read.Reading.TheVariants.{Read, Refused}
--- questions 13, 14 and 15; reading at a position, its number, and the position after it
+pub use Rattle.std.specs.Prelude.{Some, Ok, Err}
+pub use Rattle.frames.specs.declared.refusal.FrameRefusal.{FrameRefusal}
+pub use Rattle.frames.specs.declared.refusal.FrameRefusal.TheVariants.{NoKind as NoFrameKind}
+-- questions 13, 14 and 15, the number of a refusal and of what a frame comes to; reading at a position, its number, and the position after it
+pub use Rattle.frames.specs.Refusal.{number_of as frame_refusal_number, number_told as frame_number_told}
 pub use Rattle.frames.specs.Shape.{is_kind}
 pub use Rattle.frames.specs.Read.{is_whole, has_kind, own_length, read_of, reading_number, position_after}
 unfoldable pub use Rattle.frames.specs.Read.{frame_question}
 -- the 28 bytes of a frame with the count used; writing a kind with its fields
 pub use Rattle.frames.specs.declared.write.Fields.{Fields}
 unfoldable pub use Rattle.frames.specs.Write.{padded, written_bytes, written_of, write_of}
+pub use Rattle.frames.specs.Write.{written_told}
 -- a frame on the words: what it gives, the number of that, and the words after it; the words after a reading
-pub use Rattle.lines.specs.Apply.{applied_number}
+-- (with the number in place of a refusal: `numbered`, `told`)
+pub use Rattle.lines.specs.Apply.{applied_number, numbered}
+pub use Rattle.lines.specs.Line.{told}
 unfoldable pub use Rattle.lines.specs.Apply.{point_of, scale_of, submission_reply, apply_of, apply_words}
 unfoldable pub use Rattle.lines.specs.Line.{line_of, line_words}
 -- ---- texts
@@ -114,7 +121,7 @@ pub use Rattle.texts.specs.Line.{header_bytes, line_bytes}
 pub use Rattle.texts.specs.Output.{output_of, begun, next_of, next_words, printed, last_output}
 -- ---- window
 
--- a window's state, what is told of the readings present, and what a call gives back
+-- a window's state, and what is told of the readings present, with a number
 pub use Rattle.window.specs.declared.window.Window.{Window}
 pub use Rattle.window.specs.declared.figures.Figures.{Figures}
 -- lengths and readings in range; a state that readings could leave
@@ -123,9 +130,9 @@ pub use Rattle.window.specs.Window.{longest, wettest, length_in, reading_in, is_
 pub use Rattle.window.specs.Tail.{tail_of, IsTail}
 pub use Rattle.window.specs.Figures.{sum_of, mean_of, figures_of, refused_with, IsLeast, IsGreatest, IsMean}
 pub use Rattle.window.specs.Told.{Told}
--- beginning, and bringing up to date
-pub use Rattle.window.specs.Begin.{begin_of}
-pub use Rattle.window.specs.Update.{refused_of, update_of}
+-- beginning, and bringing up to date; what a call gives, in these words: a refusal is its number, and leaves the window
+pub use Rattle.window.specs.Begin.{begin_of, begun_told}
+pub use Rattle.window.specs.Update.{refused_of, update_of, updated_told}
 -- what happens to a window, its state after that, and the log of all accepted readings; the states that readings leave
 pub use Rattle.window.specs.Log.{WindowEvent, beginning, reading, state_after, Log, new_log, log_after, LeftByReadings}
 -- whether the moisture is steady, also in words

@@ -4,19 +4,14 @@ use stations::answer::Answer;
 use trial::cells::word;
 use words::layout::{AT_RULE, AT_SCALE, RECORDS, ROW_SIZE};
 
-// Whether a word is a factor in range under a rule.
-fn is_factor(rule: u32, x: u32) -> bool {
-    (1 <= x) & (x <= most_factor(rule))
-}
-
 // Whether the stored rule is 1 or 2, and all four stored factors are in range under it.
 pub fn scale_stored(words: &[u32]) -> bool {
     let rule = word(words, AT_RULE);
-    ((rule == 1) | (rule == 2))
-        & is_factor(rule, word(words, AT_SCALE))
-        & is_factor(rule, word(words, AT_SCALE + 1))
-        & is_factor(rule, word(words, AT_SCALE + 2))
-        & is_factor(rule, word(words, AT_SCALE + 3))
+    let factors = [AT_SCALE, AT_SCALE + 1, AT_SCALE + 2, AT_SCALE + 3].map(|at| word(words, at));
+    matches!(rule, 1 | 2)
+        && factors
+            .iter()
+            .all(|factor| 1 <= *factor && *factor <= most_factor(rule))
 }
 
 // Whether a moisture is in range under a rule.
@@ -26,18 +21,18 @@ fn is_moisture(rule: u32, x: u32) -> bool {
 
 // Whether moisture and square of an answer are in range under a rule.
 pub fn answer_stored(rule: u32, answer: Answer) -> bool {
-    let point = answer.point;
-    if rule == 2 {
-        (point.moisture <= 9999) & (answer.square <= 17625567969600000016)
+    let (moisture, square) = if rule == 2 {
+        (9999, 17625567969600000016)
     } else {
-        (point.moisture <= 10000) & (answer.square <= 11015800001000)
-    }
+        (10000, 11015800001000)
+    };
+    answer.point.moisture <= moisture && answer.square <= square
 }
 
 // Whether the axis of a cut is one that a rule goes by.
 fn is_axis(rule: u32, x: u32) -> bool {
     if rule == 2 {
-        (x == 0) | ((5 <= x) & (x <= 8))
+        matches!(x, 0 | 5..=8)
     } else {
         x <= 4
     }
@@ -61,10 +56,5 @@ fn row_stored(words: &[u32], rule: u32, r: u32) -> bool {
 // Whether so many rows are all so.
 pub fn rows_stored(words: &[u32], rows: u32) -> bool {
     let rule = word(words, AT_RULE);
-    for r in 0..rows {
-        if !row_stored(words, rule, r) {
-            return false;
-        }
-    }
-    true
+    (0..rows).all(|r| row_stored(words, rule, r))
 }

@@ -6,35 +6,19 @@ ghost use Rattle.std.specs.Prelude.{◌≤◌, length};
 
 use std::io::{Eprint, Print, Read};
 use texts::output::{begin, next};
-use texts::text::Text;
 
-// Writes the first n bytes to standard output, and tells whether they were written.
-fn print_first(rt: &impl Print, bytes: &[u8], n: usize) -> bool {
-    if n <= bytes.len() {
-        return rt.write_all(&bytes[0..n]).is_ok();
-    }
-    false
-}
-
-// Writes a text to standard output.
-fn print(rt: &impl Print, text: Text) -> bool {
-    let bytes = text.bytes;
-    let n = text.len;
-    print_first(rt, &bytes, n)
-}
-
-// The texts of the bytes, one after the other, until there is no more or one could not be written.
-fn run(rt: &impl Print, words: &mut [u32], bytes: &[u8]) -> bool {
+// Writes the texts of the bytes, one after the other, until there is no more or one cannot be written.
+fn run(rt: &impl Print, words: &mut [u32], bytes: &[u8]) -> std::io::Result<()> {
     let mut output = begin();
-    let mut written = print(rt, output.text);
-    while output.more & written {
+    rt.write_all(output.text.as_bytes())?;
+    while output.at.is_some() {
         output = next(words, bytes, output);
-        written = print(rt, output.text);
+        rt.write_all(output.text.as_bytes())?;
     }
-    written
+    Ok(())
 }
 
-// Reads until the bytes are full, the input ends or a read fails, and gives how many were read.
+// Reads until the bytes are full, the input ends or a read fails, and gives how many were read. No `read_exact`, which tells no count at an early end.
 fn read_full(input: &mut impl Read, bytes: &mut [u8]) -> usize
     ensures { result ≤ length bytes.new }
 {
@@ -64,20 +48,15 @@ fn tell_input(rt: &impl Eprint, input: &mut impl Read) {
     let _ = rt.eprintln(notice);
 }
 
-// Tells where a line could not be written.
-fn tell_output(rt: &impl Eprint, written: bool) {
-    if !written {
-        let _ = rt.eprintln(
-            "frame_runner: a line could not be written whole; those after it are missing",
-        );
-    }
-}
-
 fn main(rt: HostRuntime) {
     let mut words = [0u32; 8800];
     let mut bytes = [0u8; 65536];
     let mut input = rt.stdin();
     let n = read_full(&mut input, &mut bytes);
     tell_input(&rt, &mut input);
-    tell_output(&rt, run(&rt, &mut words, &bytes[..n]));
+    if run(&rt, &mut words, &bytes[..n]).is_err() {
+        let _ = rt.eprintln(
+            "frame_runner: a line could not be written whole; those after it are missing",
+        );
+    }
 }

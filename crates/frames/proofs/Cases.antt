@@ -2,13 +2,14 @@
 use mathlib.Core.Path.{◌≡◌, refl}
 use mathlib.Core.List.{List, [], ◌∷◌, ◌++◌}
 use Prim.Native.Nat.{ℕ}
-use native.Mathlib.Omega.{arith}
 use lib.ListN.{replicate}
 use Rattle.frames.specs.declared.frame.Factors.{Factors}
 use Rattle.frames.specs.declared.frame.Frame.TheVariants.{Open, Step, OpenScaled, OpenRuled, Withdraw}
-use Rattle.frames.specs.declared.read.Reading.TheVariants.{Read, Refused}
+use Rattle.std.specs.Prelude.{Some, Ok, Err}
+use Rattle.frames.specs.declared.refusal.FrameRefusal.TheVariants.{NoKind, WrongLength}
 use Rattle.numbers.specs.Bytes.{number_at, bytes_of}
 use Rattle.frames.specs.Read.{is_whole, has_kind, own_length, factors_at, frame_in, read_rest, read_of}
+use Rattle.frames.proofs.OutcomeLaws.{same_read}
 use Rattle.frames.specs.Write.{head_bytes, open_start, factors_bytes, scaled_start, frame_bytes, padded, written_bytes, written_of}
 
 -- P7: step for station 2: bytes 03 00 03 00 02
@@ -17,7 +18,7 @@ unfolding written_of written_bytes padded frame_bytes head_bytes bytes_of
 p7 = (refl, refl)
 
 -- P8: length 1, its byte there: 14
-pub p8 : (byte : ℕ) → read_of (1 ∷ 0 ∷ byte ∷ []) 0 ≡ Refused 14
+pub p8 : (byte : ℕ) → read_of (1 ∷ 0 ∷ byte ∷ []) 0 ≡ Some (Err NoKind)
 unfolding read_of read_rest is_whole has_kind number_at
 p8 byte = refl
 
@@ -27,7 +28,7 @@ unfolding written_of written_bytes padded frame_bytes head_bytes bytes_of
 withdrawal_bytes = (refl, refl)
 
 -- kind 8 with its station is read as a withdrawal, and the next position is past its five bytes
-pub withdrawal_read : (station : ℕ) → read_of (3 ∷ 0 ∷ 8 ∷ 0 ∷ station ∷ []) 0 ≡ Read (Withdraw station) 5
+pub withdrawal_read : (station : ℕ) → read_of (3 ∷ 0 ∷ 8 ∷ 0 ∷ station ∷ []) 0 ≡ Some (Ok (Withdraw station, 5))
 unfolding read_of read_rest is_whole has_kind own_length frame_in number_at
 withdrawal_read station = refl
 
@@ -48,7 +49,7 @@ unfolding written_of written_bytes padded frame_bytes open_start factors_bytes s
 scaled_bytes_lem = (refl, refl)
 
 -- they are read as that opening, and the next position is past its eighteen bytes
-pub scaled_read : read_of scaled_bytes 0 ≡ Read (OpenScaled 64 1000 factors) 18
+pub scaled_read : read_of scaled_bytes 0 ≡ Some (Ok (OpenScaled 64 1000 factors, 18))
 unfolding read_of read_rest is_whole has_kind own_length frame_in factors_at number_at
 scaled_read = refl
 
@@ -60,13 +61,13 @@ pub ones_bytes_lem : ((written_of (OpenScaled 64 1000 ones)).bytes ≡ ones_byte
 unfolding written_of written_bytes padded frame_bytes open_start factors_bytes scaled_start head_bytes bytes_of
 ones_bytes_lem = (refl, refl)
 
-pub ones_read : read_of ones_bytes 0 ≡ Read (OpenScaled 64 1000 ones) 18
+pub ones_read : read_of ones_bytes 0 ≡ Some (Ok (OpenScaled 64 1000 ones, 18))
 unfolding read_of read_rest is_whole has_kind own_length frame_in factors_at number_at
 ones_read = refl
 
-pub ones_not_open : (places limit next : ℕ) → read_of ones_bytes 0 ≡ Read (Open places limit) next → ⊥
+pub ones_not_open : (places limit next : ℕ) → read_of ones_bytes 0 ≡ Some (Ok (Open places limit, next)) → ⊥
 unfolding read_of read_rest is_whole has_kind own_length frame_in factors_at number_at
-ones_not_open places limit next e = let z : ◌≡◌ {A = ℕ} 0 1 = cc in absurd (omega arith)
+ones_not_open places limit next e = absurd (cc (same_read e).0)
 
 -- the opening of `scaled_bytes` with rule 2: 11 00 07 00, its fields, then 02
 abbrev pub ruled_bytes : List ℕ
@@ -77,7 +78,7 @@ unfolding written_of written_bytes padded frame_bytes open_start factors_bytes s
 ruled_bytes_lem = (refl, refl)
 
 -- they are read as that opening, and the next position is past its nineteen bytes
-pub ruled_read : read_of ruled_bytes 0 ≡ Read (OpenRuled 64 1000 factors 2) 19
+pub ruled_read : read_of ruled_bytes 0 ≡ Some (Ok (OpenRuled 64 1000 factors 2, 19))
 unfolding read_of read_rest is_whole has_kind own_length frame_in factors_at number_at
 ruled_read = refl
 
@@ -89,24 +90,24 @@ pub first_bytes_lem : ((written_of (OpenRuled 64 1000 ones 1)).bytes ≡ first_b
 unfolding written_of written_bytes padded frame_bytes open_start factors_bytes scaled_start head_bytes bytes_of
 first_bytes_lem = (refl, refl)
 
-pub first_read : read_of first_bytes 0 ≡ Read (OpenRuled 64 1000 ones 1) 19
+pub first_read : read_of first_bytes 0 ≡ Some (Ok (OpenRuled 64 1000 ones 1, 19))
 unfolding read_of read_rest is_whole has_kind own_length frame_in factors_at number_at
 first_read = refl
 
-pub first_not_scaled : (places limit : ℕ) (f : Factors) (next : ℕ) → read_of first_bytes 0 ≡ Read (OpenScaled places limit f) next → ⊥
+pub first_not_scaled : (places limit : ℕ) (f : Factors) (next : ℕ) → read_of first_bytes 0 ≡ Some (Ok (OpenScaled places limit f, next)) → ⊥
 unfolding read_of read_rest is_whole has_kind own_length frame_in factors_at number_at
-first_not_scaled places limit f next e = let z : ◌≡◌ {A = ℕ} 0 1 = cc in absurd (omega arith)
+first_not_scaled places limit f next e = absurd (cc (same_read e).0)
 
 -- an opening of kind 6 as long as one of kind 1, and one of kind 1 as long as one of kind 6; the same of kinds 7 and 6: 15
 pub lengths-crossed :
-    (read_of (8 ∷ 0 ∷ 6 ∷ 0 ∷ 64 ∷ 0 ∷ 232 ∷ 3 ∷ 0 ∷ 0 ∷ []) 0 ≡ Refused 15)
-    × (read_of (16 ∷ 0 ∷ 1 ∷ 0 ∷ 64 ∷ 0 ∷ 232 ∷ 3 ∷ 0 ∷ 0 ∷ 1 ∷ 0 ∷ 1 ∷ 0 ∷ 1 ∷ 0 ∷ 1 ∷ 0 ∷ []) 0 ≡ Refused 15)
-    × (read_of (16 ∷ 0 ∷ 7 ∷ 0 ∷ 64 ∷ 0 ∷ 232 ∷ 3 ∷ 0 ∷ 0 ∷ 1 ∷ 0 ∷ 1 ∷ 0 ∷ 1 ∷ 0 ∷ 1 ∷ 0 ∷ []) 0 ≡ Refused 15)
-    × (read_of (17 ∷ 0 ∷ 6 ∷ 0 ∷ 64 ∷ 0 ∷ 232 ∷ 3 ∷ 0 ∷ 0 ∷ 1 ∷ 0 ∷ 1 ∷ 0 ∷ 1 ∷ 0 ∷ 1 ∷ 0 ∷ 1 ∷ []) 0 ≡ Refused 15)
+    (read_of (8 ∷ 0 ∷ 6 ∷ 0 ∷ 64 ∷ 0 ∷ 232 ∷ 3 ∷ 0 ∷ 0 ∷ []) 0 ≡ Some (Err WrongLength))
+    × (read_of (16 ∷ 0 ∷ 1 ∷ 0 ∷ 64 ∷ 0 ∷ 232 ∷ 3 ∷ 0 ∷ 0 ∷ 1 ∷ 0 ∷ 1 ∷ 0 ∷ 1 ∷ 0 ∷ 1 ∷ 0 ∷ []) 0 ≡ Some (Err WrongLength))
+    × (read_of (16 ∷ 0 ∷ 7 ∷ 0 ∷ 64 ∷ 0 ∷ 232 ∷ 3 ∷ 0 ∷ 0 ∷ 1 ∷ 0 ∷ 1 ∷ 0 ∷ 1 ∷ 0 ∷ 1 ∷ 0 ∷ []) 0 ≡ Some (Err WrongLength))
+    × (read_of (17 ∷ 0 ∷ 6 ∷ 0 ∷ 64 ∷ 0 ∷ 232 ∷ 3 ∷ 0 ∷ 0 ∷ 1 ∷ 0 ∷ 1 ∷ 0 ∷ 1 ∷ 0 ∷ 1 ∷ 0 ∷ 1 ∷ []) 0 ≡ Some (Err WrongLength))
 unfolding read_of read_rest is_whole has_kind own_length number_at
 lengths-crossed = (refl, refl, refl, refl)
 
 -- kind 9, length 3 and a byte for the station: 14
-pub kind_beyond : (byte : ℕ) → read_of (3 ∷ 0 ∷ 9 ∷ 0 ∷ byte ∷ []) 0 ≡ Refused 14
+pub kind_beyond : (byte : ℕ) → read_of (3 ∷ 0 ∷ 9 ∷ 0 ∷ byte ∷ []) 0 ≡ Some (Err NoKind)
 unfolding read_of read_rest is_whole has_kind number_at
 kind_beyond byte = refl

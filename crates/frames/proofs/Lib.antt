@@ -1,4 +1,6 @@
 pub mod ShapeLaws
+pub mod KindLaws
+pub mod FieldLaws
 pub mod QuestionLaws
 pub mod OutcomeLaws
 pub mod WrittenLaws

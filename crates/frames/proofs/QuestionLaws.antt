@@ -1,47 +1,60 @@
--- Questions 13 to 15 as one number, and what their answers say of the bytes. Assumes nothing.
+-- What the answers to questions 13 to 15 say of the bytes, and what is read by them. Assumes nothing.
 use mathlib.Core.Path.{◌≡◌, refl}
-use mathlib.Core.Bool.{Bool, true, false, cond}
+use mathlib.Core.Bool.{Bool, true, false}
 use mathlib.Core.List.{List}
 use Prim.Native.Nat.{ℕ, ◌+◌, ◌≤◌}
-use native.Mathlib.Omega.{arith}
 use lib.ListN.{length}
-use lib.Dec.{eqb, leb}
-use borrow.Author.Tests.{leb-true}
+use lib.Dec.{leb}
+use borrow.Author.Tests.{leb-true, eq-eqb, ne_eqb}
+use Rattle.std.specs.Prelude.{Ok, Err, ◌≢◌}
 use Rattle.points.proofs.Tests.{and_r}
-use Rattle.frames.specs.declared.read.Reading.{Reading}
-use Rattle.frames.specs.declared.read.Reading.TheVariants.{Read, Refused}
+use Rattle.frames.specs.declared.shape.Kind.{Kind}
+use Rattle.frames.specs.declared.refusal.FrameRefusal.{FrameRefusal}
+use Rattle.frames.specs.declared.refusal.FrameRefusal.TheVariants.{NoKind, WrongLength}
 use Rattle.frames.specs.Shape as shape
-use Rattle.frames.specs.Read.{length_in, kind_in, is_whole, has_kind, own_length, frame_in, frame_question, read_rest}
-
--- the number of three questions by their answers
-abbrev first : Bool → Bool → Bool → ℕ
-first a b c = cond a (cond b (cond c 0 shape.wrong_length) shape.no_kind) shape.not_whole
-
--- a reading of three questions is its number, or what was read where that is 0
-by_number : (a b c : Bool) (x : Reading) →
-    cond a (cond b (cond c x (Refused shape.wrong_length)) (Refused shape.no_kind)) (Refused shape.not_whole)
-    ≡ cond (eqb (first a b c) 0) x (Refused (first a b c))
-by_number true true true x = refl
-by_number true true false x = refl
-by_number true false c x = refl
-by_number false b c x = refl
-
-pub read_by_number : (rest : List ℕ) (at : ℕ) →
-    read_rest rest at
-    ≡ cond (eqb (frame_question rest) 0) (Read (frame_in (kind_in rest) rest) (at + shape.size_of (length_in rest))) (Refused (frame_question rest))
-unfolding read_rest frame_question
-read_by_number rest at = by_number (is_whole rest) (has_kind rest) (own_length rest) (Read (frame_in (kind_in rest) rest) (at + shape.size_of (length_in rest)))
-
--- no number: question 13 did not fail
-passes : (a b c : Bool) → first a b c ≡ 0 → a ≡ true
-passes true b c e = refl
-passes false b c e = absurd (omega arith)
-
-pub none_failed_whole : (rest : List ℕ) → frame_question rest ≡ 0 → is_whole rest ≡ true
-unfolding frame_question
-none_failed_whole rest e = passes (is_whole rest) (has_kind rest) (own_length rest) e
+use Rattle.frames.specs.Kind.{kind_number}
+use Rattle.frames.specs.Read.{length_in, kind_in, is_whole, has_kind, kind_asked, own_length, frame_in, read_rest}
+use Rattle.frames.proofs.KindLaws.{kind_found, kind_refused}
 
 -- all the bytes that the length counts are there
 pub whole_there : (rest : List ℕ) → is_whole rest ≡ true → shape.size_of (length_in rest) ≤ length rest
 unfolding is_whole
 whole_there rest e = leb-true (shape.size_of (length_in rest)) (length rest) (and_r (leb 2 (length rest)) (leb (shape.size_of (length_in rest)) (length rest)) e)
+
+-- question 14 refuses with its number, and finds the kind of the frame
+asked_refused : (rest : List ℕ) (refusal : FrameRefusal) → kind_asked rest ≡ Err refusal → (has_kind rest ≡ false) × (refusal ≡ NoKind)
+unfolding kind_asked has_kind
+asked_refused rest refusal e = go (leb 2 (length_in rest)) refl
+  where
+    go : (b : Bool) → leb 2 (length_in rest) ≡ b → (has_kind rest ≡ false) × (refusal ≡ NoKind)
+    go true b = let r = kind_refused (kind_in rest) refusal (rw b at e) in (rw (b, r.is), r.refusal_lem)
+    go false b = (rw b, cc (rw b at e))
+
+pub asked_found : (rest : List ℕ) (kind : Kind) → kind_asked rest ≡ Ok kind → (has_kind rest ≡ true) × (kind_number kind ≡ kind_in rest)
+unfolding kind_asked has_kind
+asked_found rest kind e = go (leb 2 (length_in rest)) refl
+  where
+    go : (b : Bool) → leb 2 (length_in rest) ≡ b → (has_kind rest ≡ true) × (kind_number kind ≡ kind_in rest)
+    go true b = let f = kind_found (kind_in rest) kind (rw b at e) in (rw (b, f.is), f.number)
+    go false b = absurd (cc (rw b at e))
+
+-- what is read where question 14 or 15 is the first that fails, and where none does
+pub read_refused : (rest : List ℕ) (at : ℕ) (refusal : FrameRefusal) → is_whole rest ≡ true → kind_asked rest ≡ Err refusal → read_rest rest at ≡ Err refusal
+unfolding read_rest
+read_refused rest at refusal w e = let a = asked_refused rest refusal e in rw (w, a.0, a.1)
+
+pub read_wrong : (rest : List ℕ) (at : ℕ) (kind : Kind) → is_whole rest ≡ true → kind_asked rest ≡ Ok kind
+    → length_in rest ≢ shape.length_of (kind_number kind) → read_rest rest at ≡ Err WrongLength
+unfolding read_rest own_length
+read_wrong rest at kind w e n =
+    let a = asked_found rest kind e in
+    simp (w, a.0, ne_eqb (length_in rest) (shape.length_of (kind_in rest)) (rw a.1 at n))
+
+pub read_found : (rest : List ℕ) (at : ℕ) (kind : Kind) → is_whole rest ≡ true → kind_asked rest ≡ Ok kind
+    → length_in rest ≡ shape.length_of (kind_number kind)
+    → read_rest rest at ≡ Ok (frame_in (kind_number kind) rest, at + shape.size_of (shape.length_of (kind_number kind)))
+unfolding read_rest own_length
+read_found rest at kind w e l =
+    let a = asked_found rest kind e in
+    let own = rw a.1 at l in
+    rw (a.1) (simp (w, a.0, eq-eqb (length_in rest) (shape.length_of (kind_in rest)) own) (λ i. Ok (frame_in (kind_in rest) rest, at + shape.size_of (own i))))

@@ -14,7 +14,7 @@ use Rattle.numbers.specs.Signed.{unsigned_of, signed_of}
 use Rattle.numbers.proofs.SignedLaws.{unsigned_signed, signed_near}
 use Rattle.numbers.proofs.NumberLaws.{bytes_number, two_fits, four_fits}
 use Rattle.frames.specs.declared.frame.Frame.{Frame}
-use Rattle.frames.specs.declared.read.Reading.TheVariants.{Read}
+use Rattle.std.specs.Prelude.{Some, Ok}
 use Rattle.frames.specs.Width.{InWidth, FactorsInWidth}
 use Rattle.frames.specs.Shape as shape
 use Rattle.frames.specs.Read.{length_in, kind_in, has_kind, own_length, submission_in, factors_at, frame_in, read_of}
@@ -166,7 +166,7 @@ module _ (rest : List ℕ) (small : AllBytes rest) where
 dropped : (bytes : List ℕ) (at : ℕ) → AllBytes bytes → AllBytes (drop at bytes)
 dropped bytes at small i = rw (get_or-drop at bytes i 0) (small (at + i))
 
-module _ (bytes : List ℕ) (at : ℕ) {frame : Frame} {next : ℕ} (small : AllBytes bytes) (e : read_of bytes at ≡ Read frame next) where
+module _ (bytes : List ℕ) (at : ℕ) {frame : Frame} {next : ℕ} (small : AllBytes bytes) (e : read_of bytes at ≡ Some (Ok (frame, next))) where
   -- what is read is in width
   pub read_in_width : InWidth frame
   read_in_width =

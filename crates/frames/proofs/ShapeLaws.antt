@@ -9,7 +9,7 @@ use Rattle.points.proofs.Tests.{no! }
 use Rattle.frames.specs.Shape as shape
 
 -- a number is this kind, or the rows below it are looked at
-row : (P : ℕ → Type 0) (k kind : ℕ) → P kind → (eqb k kind ≡ false → P k) → P k
+pub row : (P : ℕ → Type 0) (k kind : ℕ) → P kind → (eqb k kind ≡ false → P k) → P k
 row P k kind holds below = go (eqb k kind) refl
   where
     go : (b : Bool) → eqb k kind ≡ b → P k

@@ -15,7 +15,7 @@ use Rattle.frames.specs.declared.frame.Submission.{Submission}
 use Rattle.frames.specs.declared.frame.Factors.{Factors}
 use Rattle.frames.specs.declared.frame.Frame.{Frame}
 use Rattle.frames.specs.declared.frame.Frame.TheVariants.{Open, Submit, Step, Take, Run, OpenScaled, OpenRuled, Withdraw}
-use Rattle.frames.specs.declared.read.Reading.TheVariants.{Read}
+use Rattle.std.specs.Prelude.{Some, Ok}
 use Rattle.numbers.specs.Bytes.{number_at, bytes_of}
 use Rattle.numbers.specs.Signed.{unsigned_of, signed_of}
 use Rattle.numbers.proofs.SignedLaws.{unsigned_fits, signed_unsigned}
@@ -50,10 +50,10 @@ passes_of {rest} {f} {size} {kind} s = record {
   own = eq-eqb (length_in rest) (shape.length_of (kind_in rest)) (s.says_size ∙ sym s.sized ∙ ap shape.length_of (sym s.says_kind));
 }
 
-says_reads : {rest : List ℕ} {f : Frame} {size kind : ℕ} (at : ℕ) → Says rest f size kind → read_rest rest at ≡ Read f (at + shape.size_of size)
+says_reads : {rest : List ℕ} {f : Frame} {size kind : ℕ} (at : ℕ) → Says rest f size kind → read_rest rest at ≡ Ok (f, at + shape.size_of size)
 says_reads {rest} {f} {size} {kind} at s =
     read_passes rest at (passes_of s)
-    ∙ (λ i. Read ((ap (λ (k : ℕ). frame_in k rest) s.says_kind ∙ s.says_frame) i) (at + shape.size_of (s.says_size i)))
+    ∙ (λ i. Ok ((ap (λ (k : ℕ). frame_in k rest) s.says_kind ∙ s.says_frame) i, at + shape.size_of (s.says_size i)))
 
 -- the bytes of each frame, with any bytes after them
 open_says : (places limit : ℕ) (post : List ℕ) → places < 65536 → limit < 4294967296 → Says (frame_bytes (Open places limit) ++ post) (Open places limit) (shape.length_of shape.kind_open) shape.kind_open
@@ -150,7 +150,7 @@ station_says kind station f post small size frame = record {
 }
 
 -- the bytes of a frame in width, with any bytes after them, are read as the frame
-frame_reads : (f : Frame) → InWidth f → (post : List ℕ) (at : ℕ) → read_rest (frame_bytes f ++ post) at ≡ Read f (at + length (frame_bytes f))
+frame_reads : (f : Frame) → InWidth f → (post : List ℕ) (at : ℕ) → read_rest (frame_bytes f ++ post) at ≡ Ok (f, at + length (frame_bytes f))
 unfolding frame_bytes open_start factors_bytes scaled_start submission_start submission_end head_bytes bytes_of frame_in
 frame_reads (Open places limit) w post at = says_reads at (open_says places limit post w.0 w.1)
 frame_reads (Submit s) w post at = says_reads at (submit_says s post w)
@@ -174,13 +174,13 @@ frame_length (OpenRuled places limit factors rule) = lit≤ tt
 frame_length (Withdraw station) = lit≤ tt
 
 -- the same among other bytes
-pub frame_among : (f : Frame) → InWidth f → (pre post : List ℕ) → read_of (pre ++ (frame_bytes f ++ post)) (length pre) ≡ Read f (length pre + length (frame_bytes f))
+pub frame_among : (f : Frame) → InWidth f → (pre post : List ℕ) → read_of (pre ++ (frame_bytes f ++ post)) (length pre) ≡ Some (Ok (f, length pre + length (frame_bytes f)))
 unfolding read_of
 frame_among f w pre post =
     let more : length pre < length (pre ++ (frame_bytes f ++ post)) =
     omega (arith, length-append pre (frame_bytes f ++ post), length-append (frame_bytes f) post, frame_length f) in
     simp (lt-ltb (length pre) (length (pre ++ (frame_bytes f ++ post))) more, drop-append_seam pre (frame_bytes f ++ post))
-    (frame_reads f w post (length pre))
+    (ap Some (frame_reads f w post (length pre)))
 
 -- the count is that of the frame's bytes
 pub written_count : (f : Frame) → (written_of f).count ≡ length (frame_bytes f)
@@ -189,5 +189,5 @@ written_count f = refl
 
 -- what is written reads back as the same call, whatever stands before and after it
 pub written_reads : (f : Frame) → InWidth f → (pre post : List ℕ) →
-    read_of (pre ++ (take (written_of f).count (written_of f).bytes ++ post)) (length pre) ≡ Read f (length pre + (written_of f).count)
+    read_of (pre ++ (take (written_of f).count (written_of f).bytes ++ post)) (length pre) ≡ Some (Ok (f, length pre + (written_of f).count))
 written_reads f w pre post = rw (written_used f, written_count f) (frame_among f w pre post)

@@ -1,14 +1,21 @@
 -- Reading a frame (Rules 9): questions 13 to 15 (Rules 7.18). `rest` is the bytes from the position on.
-use Rattle.std.specs.Prelude.{ℕ, ◌+◌, Bool, cond, ◌&&◌, List, length, get_or, drop, eqb, leb, ltb}
+use Rattle.std.specs.Prelude.{ℕ, ◌+◌, Bool, cond, ◌&&◌, List, length, get_or, drop, eqb, leb, ltb, Option, Some, None, Result, Ok, Err}
 use Rattle.frames.specs.declared.frame.Submission.{Submission}
 use Rattle.frames.specs.declared.frame.Factors.{Factors}
 use Rattle.frames.specs.declared.frame.Frame.{Frame}
 use Rattle.frames.specs.declared.frame.Frame.TheVariants.{Open, Submit, Step, Take, Run, OpenScaled, OpenRuled, Withdraw}
-use Rattle.frames.specs.declared.read.Reading.{Reading}
-use Rattle.frames.specs.declared.read.Reading.TheVariants.{Read, End, Refused}
+use Rattle.frames.specs.declared.shape.Kind.{Kind}
+use Rattle.frames.specs.declared.refusal.FrameRefusal.{FrameRefusal}
+use Rattle.frames.specs.declared.refusal.FrameRefusal.TheVariants.{NotWhole, NoKind, WrongLength}
 use Rattle.numbers.specs.Bytes.{number_at}
 use Rattle.numbers.specs.Signed.{signed_of}
 use Rattle.frames.specs.Shape as shape
+use Rattle.frames.specs.Kind.{kind_of}
+use Rattle.frames.specs.Refusal.{number_told}
+
+-- a frame and the position after it, or the refusal, where there is a byte
+abbrev pub Reading : Type 0
+Reading = Option (Result (Frame × ℕ) FrameRefusal)
 
 -- Rules 9.2: "two bytes of length, which counts what follows them"
 abbrev pub length_in : List ℕ → ℕ
@@ -25,6 +32,10 @@ is_whole rest = leb 2 (length rest) && leb (shape.size_of (length_in rest)) (len
 -- Rules 7.1, question 14: "Is there a kind, 1 to 8?"; there is none "also for the lengths 0 and 1" (Rules 7.18)
 unfoldable pub has_kind : List ℕ → Bool
 has_kind rest = leb 2 (length_in rest) && shape.is_kind (kind_in rest)
+
+-- the kind that question 14 finds, with its number
+unfoldable pub kind_asked : List ℕ → Result Kind FrameRefusal
+kind_asked rest = cond (leb 2 (length_in rest)) (kind_of (kind_in rest)) (Err NoKind)
 
 -- Rules 7.1, question 15: "Is the length that kind's own?"
 unfoldable pub own_length : List ℕ → Bool
@@ -69,27 +80,26 @@ frame_in kind rest =
 unfoldable pub frame_question : List ℕ → ℕ
 frame_question rest = cond (is_whole rest) (cond (has_kind rest) (cond (own_length rest) 0 shape.wrong_length) shape.no_kind) shape.not_whole
 
--- the frame with the position after it, or the number of the first question that fails
-unfoldable pub read_rest : List ℕ → ℕ → Reading
+-- the frame with the position after it, or the first question that fails
+unfoldable pub read_rest : List ℕ → ℕ → Result (Frame × ℕ) FrameRefusal
 read_rest rest at =
     cond (is_whole rest)
     (cond (has_kind rest)
-    (cond (own_length rest) (Read (frame_in (kind_in rest) rest) (at + shape.size_of (length_in rest))) (Refused shape.wrong_length))
-    (Refused shape.no_kind))
-    (Refused shape.not_whole)
+    (cond (own_length rest) (Ok (frame_in (kind_in rest) rest, at + shape.size_of (length_in rest))) (Err WrongLength))
+    (Err NoKind))
+    (Err NotWhole)
 
 -- what reading at a position finds
 unfoldable pub read_of : List ℕ → ℕ → Reading
-read_of bytes at = cond (ltb at (length bytes)) (read_rest (drop at bytes) at) End
+read_of bytes at = cond (ltb at (length bytes)) (Some (read_rest (drop at bytes) at)) None
 
 -- the position after a reading: "a refusal does not move it" (Rules 9.5)
 abbrev pub position_after : Reading → ℕ → ℕ
-position_after (Read frame next) at = next
-position_after End at = at
-position_after (Refused number) at = at
+position_after (Some (Ok read)) at = read.1
+position_after (Some (Err refusal)) at = at
+position_after None at = at
 
 -- the number of a reading: that of a refusal, else 0 (Rules 7.1)
 abbrev pub reading_number : Reading → ℕ
-reading_number (Read frame next) = 0
-reading_number End = 0
-reading_number (Refused number) = number
+reading_number (Some result) = number_told result
+reading_number None = 0

@@ -1,5 +1,5 @@
 -- The shape of a frame, for reading and for writing (Rules 9.2, 9.3): the kinds with their lengths, where each field starts, and the refusals. `src/shape`
--- has the same names.
+-- has the same names for the offsets, and `Kind` and `Refusal` have names for the kinds and the refusals.
 use Rattle.std.specs.Prelude.{ℕ, ◌+◌, Bool, cond, eqb, ltb}
 
 -- the kinds

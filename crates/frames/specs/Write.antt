@@ -1,12 +1,13 @@
 -- Writing a frame (Rules 9.6): "28 bytes, unused ones zero, with the count used".
-use Rattle.std.specs.Prelude.{ℕ, ◌-◌, cond, List, [], ◌∷◌, ◌++◌, length, replicate, eqb}
+use Rattle.std.specs.Prelude.{ℕ, ◌-◌, cond, List, [], ◌∷◌, ◌++◌, length, replicate, eqb, Result, Ok, Err}
 use Rattle.frames.specs.declared.frame.Submission.{Submission}
 use Rattle.frames.specs.declared.frame.Factors.{Factors}
 use Rattle.frames.specs.declared.frame.Frame.{Frame}
 use Rattle.frames.specs.declared.frame.Frame.TheVariants.{Open, Submit, Step, Take, Run, OpenScaled, OpenRuled, Withdraw}
 use Rattle.frames.specs.declared.write.Written.{Written}
 use Rattle.frames.specs.declared.write.Fields.{Fields}
-use Rattle.frames.specs.declared.write.Writing.{Writing}
+use Rattle.frames.specs.declared.refusal.FrameRefusal.{FrameRefusal}
+use Rattle.frames.specs.declared.refusal.FrameRefusal.TheVariants.{NoKind}
 use Rattle.numbers.specs.Bytes.{bytes_of}
 use Rattle.numbers.specs.Signed.{unsigned_of}
 use Rattle.frames.specs.Shape as shape
@@ -96,7 +97,10 @@ frame_from kind fields =
     (Withdraw fields.station)))))))
 
 -- Rules 9.6: "The writer takes a kind (question 14) and fields of exactly these widths"
-unfoldable pub write_of : ℕ → Fields → Writing
-write_of kind fields =
-    cond (shape.is_kind kind) (record { number = 0; written = written_of (frame_from kind fields) })
-    (record { number = shape.no_kind; written = written_bytes [] })
+unfoldable pub write_of : ℕ → Fields → Result Written FrameRefusal
+write_of kind fields = cond (shape.is_kind kind) (Ok (written_of (frame_from kind fields))) (Err NoKind)
+
+-- the bytes of a writing (Rules 9.6): "where it is refused all are zero and the count is 0"
+abbrev pub written_told : Result Written FrameRefusal → Written
+written_told (Ok written) = written
+written_told (Err refusal) = written_bytes []

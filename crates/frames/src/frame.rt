@@ -1,7 +1,7 @@
 // The calls that a frame can hold, with fields of exactly the widths that a frame has for them.
 
 // A submission: its station, the kind of its call, the five coordinates, and the curve.
-#[derive(Clone, Copy)]
+#[derive(Clone, Copy, Debug, PartialEq, Eq)]
 pub struct Submission {
     pub station: u8,
     pub kind: u8,
@@ -14,7 +14,7 @@ pub struct Submission {
 }
 
 // The factors of an opening, for the axes 2 to 5.
-#[derive(Clone, Copy)]
+#[derive(Clone, Copy, Debug, PartialEq, Eq)]
 pub struct Factors {
     pub weight: u16,
     pub moisture: u16,
@@ -23,7 +23,7 @@ pub struct Factors {
 }
 
 // A frame, kinds 1 to 8 in this order.
-#[derive(Clone, Copy)]
+#[derive(Clone, Copy, Debug, PartialEq, Eq)]
 pub enum Frame {
     Open {
         places: u16,

@@ -3,5 +3,6 @@
 
 pub mod frame;
 pub mod read;
+pub mod refusal;
 mod shape;
 pub mod write;

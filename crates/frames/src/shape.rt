@@ -1,26 +1,67 @@
-// The shape of a frame, for reading and for writing: the kinds with their lengths, where each field starts, and the refusals.
-// A new kind is a name and a row of `length_of`, and an offset for each of its fields.
+// The shape of a frame, for reading and for writing: the kinds with their lengths, and where each field starts.
+// A new kind is a variant with its number, its length and its row of `try_from`, and an offset for each of its fields.
 ghost use Rattle.std.specs.Prelude.{◌≡◌};
-ghost use Rattle.frames.specs.Shape.{length_of, is_kind, size_of};
+ghost use Rattle.frames.specs.Shape.{length_of, size_of};
+ghost use Rattle.frames.specs.Kind.{kind_number, kind_of};
 
-use numbers::cast::pair_as_count;
+use crate::refusal::FrameRefusal;
 
-// The kinds.
-pub(crate) const KIND_OPEN: u16 = 1;
+// The kinds, by their numbers.
+#[derive(Clone, Copy, Debug, PartialEq, Eq)]
+pub(crate) enum Kind {
+    Open = 1,
+    Submit = 2,
+    Step = 3,
+    Take = 4,
+    Run = 5,
+    OpenScaled = 6,
+    OpenRuled = 7,
+    Withdraw = 8,
+}
 
-pub(crate) const KIND_SUBMIT: u16 = 2;
+impl Kind {
+    // The number of a kind.
+    pub(crate) fn number(self) -> u16
+        ensures { result ≡ kind_number self }
+    {
+        self as u16
+    }
 
-pub(crate) const KIND_STEP: u16 = 3;
+    // The length of a kind's frames, which counts what follows its own two bytes.
+    pub(crate) fn length(self) -> u16
+        ensures { result ≡ length_of (kind_number self) }
+    {
+        match self {
+            Kind::Open => 8,
+            Kind::Submit => 26,
+            Kind::Step | Kind::Take | Kind::Run | Kind::Withdraw => 3,
+            Kind::OpenScaled => 16,
+            Kind::OpenRuled => 17,
+        }
+    }
+}
 
-pub(crate) const KIND_TAKE: u16 = 4;
+// Question 14: there is a kind, 1 to 8.
+impl TryFrom<u16> for Kind {
+    type Error = FrameRefusal;
 
-pub(crate) const KIND_RUN: u16 = 5;
+    ghost try_from_gives = { λ number kind. kind ≡ kind_of number };
 
-pub(crate) const KIND_OPEN_SCALED: u16 = 6;
-
-pub(crate) const KIND_OPEN_RULED: u16 = 7;
-
-pub(crate) const KIND_WITHDRAW: u16 = 8;
+    #[tactic(auto, unfolding(crate::specs::Kind::kind_of))]
+    fn try_from(number: u16) -> Result<Kind, FrameRefusal> {
+        match number {
+            1 => Ok(Kind::Open),
+            2 => Ok(Kind::Submit),
+            3 => Ok(Kind::Step),
+            4 => Ok(Kind::Take),
+            5 => Ok(Kind::Run),
+            6 => Ok(Kind::OpenScaled),
+            7 => Ok(Kind::OpenRuled),
+            8 => Ok(Kind::Withdraw),
+            _ => Err(FrameRefusal::NoKind),
+        }
+    }
+}
 
 // What every frame begins with. An offset is counted from the first byte of the frame.
 pub(crate) const AT_LENGTH: u8 = 0;
@@ -65,40 +106,9 @@ pub(crate) const AT_CURVE: u8 = 24;
 // The bytes of the longest frame, as many as a writing gives back.
 pub(crate) const LONGEST: usize = 28;
 
-// Questions 13 to 15: bytes are missing, there is no such kind, the length is not the kind's own.
-pub(crate) const NOT_WHOLE: u32 = 13;
-
-pub(crate) const NO_KIND: u32 = 14;
-
-pub(crate) const WRONG_LENGTH: u32 = 15;
-
-// The length of a kind's frames, which counts what follows its own two bytes; 0 for a number that is no kind.
-pub(crate) fn length_of(kind: u16) -> u16
-    ensures { result ≡ length_of kind }
-{
-    match kind {
-        KIND_OPEN => 8,
-        KIND_SUBMIT => 26,
-        KIND_STEP => 3,
-        KIND_TAKE => 3,
-        KIND_RUN => 3,
-        KIND_OPEN_SCALED => 16,
-        KIND_OPEN_RULED => 17,
-        KIND_WITHDRAW => 3,
-        _ => 0,
-    }
-}
-
-// There is such a kind.
-pub(crate) fn is_kind(kind: u16) -> bool
-    ensures { result ≡ is_kind kind }
-{
-    0 < length_of(kind)
-}
-
 // The bytes of a whole frame of this length: the two of the length, and those that it counts.
 pub(crate) fn size_of(length: u16) -> usize
     ensures { result ≡ size_of length }
 {
-    2 + pair_as_count(length)
+    2 + usize::from(length)
 }

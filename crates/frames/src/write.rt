@@ -1,14 +1,17 @@
 // Writing a frame: 28 bytes, unused ones zero, with the count used.
+#![tactic(auto, unfolding(crate::specs::Write::head_bytes, crate::specs::Write::open_start, crate::specs::Write::factors_bytes, crate::specs::Write::scaled_start, crate::specs::Write::submission_start, crate::specs::Write::submission_end, crate::specs::Write::frame_bytes, crate::specs::Write::padded, crate::specs::Write::written_bytes, crate::specs::Write::written_of, crate::specs::Write::counted, crate::specs::Write::station_written, crate::specs::Write::submission_from, crate::specs::Write::frame_from, numbers::specs::Bytes::put_number, numbers::specs::Bytes::bytes_of))]
+
 ghost use Rattle.std.specs.Prelude.{◌≡◌};
 ghost use Rattle.frames.specs.declared.frame.Frame.{Frame};
-ghost use Rattle.frames.specs.Write.{head_bytes, open_start, scaled_start, submission_start, padded, counted, station_written, written_of, submission_from, frame_from, write_of};
+ghost use Rattle.frames.specs.Kind.{kind_number};
+ghost use Rattle.frames.specs.Write.{head_bytes, open_start, scaled_start, submission_start, padded, counted, station_written, written_of, submission_from, frame_from, write_of, written_told};
 
 use crate::frame::{Factors, Frame, Submission};
-use crate::shape;
-use crate::shape::{is_kind, length_of, size_of};
-use numbers::put::{put_four, put_one, put_signed, put_two};
+use crate::refusal::FrameRefusal;
+use crate::shape::{self, Kind, size_of};
+use numbers::number::Number;
 
-// The bytes of a frame, and how many of them are used.
+// The bytes of a frame, and how many of them are used. Not a slice or a `Vec`: a writer gives back 28 bytes with the count used (Rules 9.6).
 #[derive(Clone, Copy)]
 pub struct Written {
     pub bytes: [u8; shape::LONGEST],
@@ -32,40 +35,33 @@ pub struct Fields {
     pub curve: u32,
 }
 
-// What a writing comes to: 0 or the number of the question that fails, and what is written.
-#[derive(Clone, Copy)]
-pub struct Writing {
-    pub number: u32,
-    pub written: Written,
-}
-
 // Length and kind, and zeros.
-fn head_bytes(kind: u16) -> [u8; shape::LONGEST]
-    ensures { result ≡ padded (head_bytes kind) }
+fn head_bytes(kind: Kind) -> [u8; shape::LONGEST]
+    ensures { result ≡ padded (head_bytes (kind_number kind)) }
 {
     let mut bytes = [0; shape::LONGEST];
-    put_two(&mut bytes, shape::AT_LENGTH, length_of(kind));
-    put_two(&mut bytes, shape::AT_KIND, kind);
+    kind.length().put(&mut bytes, shape::AT_LENGTH);
+    kind.number().put(&mut bytes, shape::AT_KIND);
     bytes
 }
 
 // These bytes, with the count that a frame of this kind uses.
-fn counted(kind: u16, bytes: [u8; shape::LONGEST]) -> Written
-    ensures { result ≡ counted kind bytes }
+fn counted(kind: Kind, bytes: [u8; shape::LONGEST]) -> Written
+    ensures { result ≡ counted (kind_number kind) bytes }
 {
     Written {
-        bytes: bytes,
-        count: size_of(length_of(kind)),
+        bytes,
+        count: size_of(kind.length()),
     }
 }
 
 // The bytes of an opening of this kind up to its limit.
-fn open_start(kind: u16, places: u16, limit: u32) -> [u8; shape::LONGEST]
-    ensures { result ≡ padded (open_start kind places limit) }
+fn open_start(kind: Kind, places: u16, limit: u32) -> [u8; shape::LONGEST]
+    ensures { result ≡ padded (open_start (kind_number kind) places limit) }
 {
     let mut bytes = head_bytes(kind);
-    put_two(&mut bytes, shape::AT_PLACES, places);
-    put_four(&mut bytes, shape::AT_LIMIT, limit);
+    places.put(&mut bytes, shape::AT_PLACES);
+    limit.put(&mut bytes, shape::AT_LIMIT);
     bytes
 }
 
@@ -73,21 +69,18 @@ fn open_start(kind: u16, places: u16, limit: u32) -> [u8; shape::LONGEST]
 fn write_open(places: u16, limit: u32) -> Written
     ensures { result ≡ written_of (Frame.Open places limit) }
 {
-    counted(
-        shape::KIND_OPEN,
-        open_start(shape::KIND_OPEN, places, limit),
-    )
+    counted(Kind::Open, open_start(Kind::Open, places, limit))
 }
 
 // The bytes of an opening of this kind up to its factors.
-fn scaled_start(kind: u16, places: u16, limit: u32, factors: Factors) -> [u8; shape::LONGEST]
-    ensures { result ≡ padded (scaled_start kind places limit factors) }
+fn scaled_start(kind: Kind, places: u16, limit: u32, factors: Factors) -> [u8; shape::LONGEST]
+    ensures { result ≡ padded (scaled_start (kind_number kind) places limit factors) }
 {
     let mut bytes = open_start(kind, places, limit);
-    put_two(&mut bytes, shape::AT_WEIGHT_FACTOR, factors.weight);
-    put_two(&mut bytes, shape::AT_MOISTURE_FACTOR, factors.moisture);
-    put_two(&mut bytes, shape::AT_SPEED_FACTOR, factors.speed);
-    put_two(&mut bytes, shape::AT_DRAW_FACTOR, factors.draw);
+    factors.weight.put(&mut bytes, shape::AT_WEIGHT_FACTOR);
+    factors.moisture.put(&mut bytes, shape::AT_MOISTURE_FACTOR);
+    factors.speed.put(&mut bytes, shape::AT_SPEED_FACTOR);
+    factors.draw.put(&mut bytes, shape::AT_DRAW_FACTOR);
     bytes
 }
 
@@ -96,8 +89,8 @@ fn write_open_scaled(places: u16, limit: u32, factors: Factors) -> Written
     ensures { result ≡ written_of (Frame.OpenScaled places limit factors) }
 {
     counted(
-        shape::KIND_OPEN_SCALED,
-        scaled_start(shape::KIND_OPEN_SCALED, places, limit, factors),
+        Kind::OpenScaled,
+        scaled_start(Kind::OpenScaled, places, limit, factors),
     )
 }
 
@@ -105,19 +98,19 @@ fn write_open_scaled(places: u16, limit: u32, factors: Factors) -> Written
 fn write_open_ruled(places: u16, limit: u32, factors: Factors, rule: u8) -> Written
     ensures { result ≡ written_of (Frame.OpenRuled places limit factors rule) }
 {
-    let mut bytes = scaled_start(shape::KIND_OPEN_RULED, places, limit, factors);
-    put_one(&mut bytes, shape::AT_RULE, rule);
-    counted(shape::KIND_OPEN_RULED, bytes)
+    let mut bytes = scaled_start(Kind::OpenRuled, places, limit, factors);
+    rule.put(&mut bytes, shape::AT_RULE);
+    counted(Kind::OpenRuled, bytes)
 }
 
 // The bytes of a submission up to its grade.
 fn submission_start(s: Submission) -> [u8; shape::LONGEST]
     ensures { result ≡ padded (submission_start s) }
 {
-    let mut bytes = head_bytes(shape::KIND_SUBMIT);
-    put_one(&mut bytes, shape::AT_STATION, s.station);
-    put_one(&mut bytes, shape::AT_CALL, s.kind);
-    put_two(&mut bytes, shape::AT_GRADE, s.grade);
+    let mut bytes = head_bytes(Kind::Submit);
+    s.station.put(&mut bytes, shape::AT_STATION);
+    s.kind.put(&mut bytes, shape::AT_CALL);
+    s.grade.put(&mut bytes, shape::AT_GRADE);
     bytes
 }
 
@@ -126,20 +119,20 @@ fn write_submission(s: Submission) -> Written
     ensures { result ≡ written_of (Frame.Submit s) }
 {
     let mut bytes = submission_start(s);
-    put_signed(&mut bytes, shape::AT_WEIGHT, s.weight);
-    put_signed(&mut bytes, shape::AT_MOISTURE, s.moisture);
-    put_signed(&mut bytes, shape::AT_SPEED, s.speed);
-    put_signed(&mut bytes, shape::AT_DRAW, s.draw);
-    put_four(&mut bytes, shape::AT_CURVE, s.curve);
-    counted(shape::KIND_SUBMIT, bytes)
+    s.weight.put(&mut bytes, shape::AT_WEIGHT);
+    s.moisture.put(&mut bytes, shape::AT_MOISTURE);
+    s.speed.put(&mut bytes, shape::AT_SPEED);
+    s.draw.put(&mut bytes, shape::AT_DRAW);
+    s.curve.put(&mut bytes, shape::AT_CURVE);
+    counted(Kind::Submit, bytes)
 }
 
 // A frame of a station alone, written.
-fn write_station(kind: u16, station: u8) -> Written
-    ensures { result ≡ station_written kind station }
+fn write_station(kind: Kind, station: u8) -> Written
+    ensures { result ≡ station_written (kind_number kind) station }
 {
     let mut bytes = head_bytes(kind);
-    put_one(&mut bytes, shape::AT_STATION, station);
+    station.put(&mut bytes, shape::AT_STATION);
     counted(kind, bytes)
 }
 
@@ -150,9 +143,9 @@ pub fn write_frame(frame: Frame) -> Written
     match frame {
         Frame::Open { places, limit } => write_open(places, limit),
         Frame::Submit(submission) => write_submission(submission),
-        Frame::Step { station } => write_station(shape::KIND_STEP, station),
-        Frame::Take { station } => write_station(shape::KIND_TAKE, station),
-        Frame::Run { station } => write_station(shape::KIND_RUN, station),
+        Frame::Step { station } => write_station(Kind::Step, station),
+        Frame::Take { station } => write_station(Kind::Take, station),
+        Frame::Run { station } => write_station(Kind::Run, station),
         Frame::OpenScaled {
             places,
             limit,
@@ -164,84 +157,76 @@ pub fn write_frame(frame: Frame) -> Written
             factors,
             rule,
         } => write_open_ruled(places, limit, factors, rule),
-        Frame::Withdraw { station } => write_station(shape::KIND_WITHDRAW, station),
+        Frame::Withdraw { station } => write_station(Kind::Withdraw, station),
     }
 }
 
-// The submission of these fields.
-fn submission_from(fields: Fields) -> Submission
-    ensures { result ≡ submission_from fields }
-{
-    Submission {
-        station: fields.station,
-        kind: fields.call,
-        grade: fields.grade,
-        weight: fields.weight,
-        moisture: fields.moisture,
-        speed: fields.speed,
-        draw: fields.draw,
-        curve: fields.curve,
+impl Fields {
+    // The submission of these fields.
+    fn submission(self) -> Submission
+        ensures { result ≡ submission_from self }
+    {
+        Submission {
+            station: self.station,
+            kind: self.call,
+            grade: self.grade,
+            weight: self.weight,
+            moisture: self.moisture,
+            speed: self.speed,
+            draw: self.draw,
+            curve: self.curve,
+        }
     }
-}
 
-// The frame of a kind with its own of these fields. Any number but the first seven kinds is taken for a withdrawal's.
-fn frame_from(kind: u16, fields: Fields) -> Frame
-    ensures { result ≡ frame_from kind fields }
-{
-    match kind {
-        shape::KIND_OPEN => Frame::Open {
-            places: fields.places,
-            limit: fields.limit,
-        },
-        shape::KIND_SUBMIT => Frame::Submit(submission_from(fields)),
-        shape::KIND_STEP => Frame::Step {
-            station: fields.station,
-        },
-        shape::KIND_TAKE => Frame::Take {
-            station: fields.station,
-        },
-        shape::KIND_RUN => Frame::Run {
-            station: fields.station,
-        },
-        shape::KIND_OPEN_SCALED => {
-            let factors = fields.factors;
-            Frame::OpenScaled {
-                places: fields.places,
-                limit: fields.limit,
-                factors: factors,
-            }
+    // The frame of a kind with its own of these fields.
+    fn frame(self, kind: Kind) -> Frame
+        ensures { result ≡ frame_from (kind_number kind) self }
+    {
+        let Fields {
+            places,
+            limit,
+            factors,
+            rule,
+            station,
+            ..
+        } = self;
+        match kind {
+            Kind::Open => Frame::Open { places, limit },
+            Kind::Submit => Frame::Submit(self.submission()),
+            Kind::Step => Frame::Step { station },
+            Kind::Take => Frame::Take { station },
+            Kind::Run => Frame::Run { station },
+            Kind::OpenScaled => Frame::OpenScaled {
+                places,
+                limit,
+                factors,
+            },
+            Kind::OpenRuled => Frame::OpenRuled {
+                places,
+                limit,
+                factors,
+                rule,
+            },
+            Kind::Withdraw => Frame::Withdraw { station },
         }
-        shape::KIND_OPEN_RULED => {
-            let factors = fields.factors;
-            Frame::OpenRuled {
-                places: fields.places,
-                limit: fields.limit,
-                factors: factors,
-                rule: fields.rule,
-            }
-        }
-        _ => Frame::Withdraw {
-            station: fields.station,
-        },
     }
 }
 
 // Writes the frame of a kind with its own of these fields; a refusal for a kind that is none.
-pub fn write_fields(kind: u16, fields: Fields) -> Writing
+#[tactic(auto, using(crate::proofs::FieldLaws::write_refused, crate::proofs::FieldLaws::write_found))]
+pub fn write_fields(kind: u16, fields: Fields) -> Result<Written, FrameRefusal>
     ensures { result ≡ write_of kind fields }
 {
-    if is_kind(kind) {
-        Writing {
-            number: 0,
-            written: write_frame(frame_from(kind, fields)),
-        }
-    } else {
-        Writing {
-            number: shape::NO_KIND,
-            written: Written {
-                bytes: [0; shape::LONGEST],
-                count: 0,
-            },
-        }
-    }
+    let kind = Kind::try_from(kind)?;
+    Ok(write_frame(fields.frame(kind)))
+}
+
+// The bytes of a writing: where it is refused all are zero and the count is 0 (Rules 9.6).
+pub fn written_told(outcome: Result<Written, FrameRefusal>) -> Written
+    ensures { result ≡ written_told outcome }
+{
+    outcome.unwrap_or(Written {
+        bytes: [0; shape::LONGEST],
+        count: 0,
+    })
 }

@@ -1,5 +1,6 @@
 -- Refusals: the number of every call is that of the first question answered no, for all words and arguments (`open_number` to `audit_number`), and a
 -- refused call leaves every word as it was (`open_refused` to `take_refused`); a refused audit does not say yes (`audit_refused`).
+use Rattle.std.specs.Prelude.{Option, None, Some, Result, Ok, Err}
 use Prim.Native.Nat.{ℕ}
 use mathlib.Core.Path.{◌≡◌, refl, ap, ◌∙◌}
 use mathlib.Core.Logic.{◌≢◌, ◌⊎◌, inl, inr}
@@ -16,16 +17,12 @@ use Rattle.points.specs.Rule.{rule_in}
 use Rattle.words.specs.Rule.{rule_at}
 use Rattle.points.specs.Word.{NONE}
 use Rattle.stations.specs.declared.call.Call.{Call}
-use Rattle.stations.specs.declared.answer.Waiting.{Waiting}
-use Rattle.stations.specs.declared.answer.Waiting.TheVariants.{Nothing, Given}
 use Rattle.words.specs.Layout.{words_for, stations}
 use Rattle.rows.specs.Row.{row_at}
 use Rattle.stations.specs.Common.{places_in, limit_in, opened_in, taken_in, is_opened, rows_in}
 use Rattle.stations.specs.Station.{is_idle, is_unfinished, state_at}
 use Rattle.stations.specs.Call.{call_at, kind_in}
 use Rattle.stations.specs.Answer.{waiting_at}
-use Rattle.calls.specs.declared.take.Taking.{Taking}
-use Rattle.calls.specs.declared.take.Taking.TheVariants.{Refused as Refusal, Given as Taken}
 use Rattle.calls.specs.Reply.{Reply, done, refused, pick_reply, ask}
 use Rattle.calls.specs.Link.{is_leaf, is_cut}
 use Rattle.calls.specs.Open.{opened_words, open_of}
@@ -38,15 +35,18 @@ use Rattle.calls.specs.Step.{records_sound, work_of, ask_unfinished, step_of}
 use Rattle.calls.specs.Needs.{rows_sound}
 use Rattle.calls.proofs.NeedLaws.{step_needs_lem}
 use Rattle.calls.specs.Withdraw.{withdrawn_words, withdraw_of}
-use Rattle.calls.specs.Take.{taking_of, take_of, number_of, emptied_words, take_words}
-use Rattle.calls.specs.declared.report.Report.{Report}
+use Rattle.calls.specs.Take.{taking_of, take_of, emptied_words, take_words}
 use Rattle.calls.specs.Report.{report_of}
 use Rattle.calls.specs.Tree.{tree_in}
 use Rattle.calls.specs.Queue.{queue_in}
 use Rattle.calls.specs.Whole.{all_rows}
-use Rattle.calls.specs.Audit.{audit_of, verdict_of}
+use Rattle.calls.specs.Audit.{audit_of, verdict_of, yes_told}
 use Rattle.calls.specs.Run.{is_given}
 use Rattle.history.specs.Questions.{or_else, first_no, open_questions, submit_questions, step_questions, withdraw_questions, take_questions, slice_questions}
+use Rattle.words.specs.declared.refusal.Refusal.{Refusal}
+use Rattle.words.specs.declared.refusal.Refusal.TheVariants.{NoStation, NotOpened}
+use Rattle.words.specs.Refusal.{number_told}
+use Rattle.stations.specs.declared.answer.Answer.{Answer}
 
 -- ---- the work of a step is done or refused with 11
 
@@ -147,44 +147,52 @@ withdraw_number words s = go (is_opened (opened_in words)) (ltb s stations) (is_
     go true false u r = refl
     go false l u r = refl
 
-pub take_number : (words : List ℕ) (s : ℕ) → number_of (take_of words s) ≡ first_no (take_questions words s)
+pub take_number : (words : List ℕ) (s : ℕ) → number_told (take_of words s) ≡ first_no (take_questions words s)
 unfolding take_of first_no
 take_number words s = go (is_opened (opened_in words)) (ltb s stations) (waiting_at words s)
   where
-    go : (o l : Bool) (w : Waiting) → number_of (cond o (cond l (taking_of w) (Refusal 5)) (Refusal 4)) ≡ or_else o 4 (or_else l 5 (or_else (is_given w) 12 0))
-    go true true Nothing = refl
-    go true true (Given a) = refl
+    go : (o l : Bool) (w : Option Answer) → number_told (cond o (cond l (taking_of w) (Err NoStation)) (Err NotOpened)) ≡ or_else o 4 (or_else l 5 (or_else (is_given w) 12 0))
+    go true true None = refl
+    go true true (Some a) = refl
     go true false w = refl
     go false l w = refl
 
-pub report_number : (words : List ℕ) → (report_of words).number ≡ first_no (slice_questions words)
+pub report_number : (words : List ℕ) → number_told (report_of words) ≡ first_no (slice_questions words)
 unfolding report_of first_no
 report_number words = go (is_opened (opened_in words))
   where
-    go : (o : Bool) → (cond {A = Report} o (record { number = 0; taken = taken_in words }) (record { number = 4; taken = 0 })).number ≡ or_else o 4 0
+    go : (o : Bool) → number_told (cond o (Ok (taken_in words)) (Err NotOpened)) ≡ or_else o 4 0
     go true = refl
     go false = refl
 
 -- an audit asks what a report asks
-pub audit_number : (words : List ℕ) → (verdict_of words).number ≡ first_no (slice_questions words)
+pub audit_number : (words : List ℕ) → number_told (verdict_of words) ≡ first_no (slice_questions words)
 unfolding verdict_of first_no
 audit_number words = go (is_opened (opened_in words))
   where
-    go : (o : Bool) → cond o 0 4 ≡ or_else o 4 0
+    go : (o : Bool) → number_told (cond o (Ok (all_rows words (tree_in words) (queue_in words))) (Err NotOpened)) ≡ or_else o 4 0
     go true = refl
     go false = refl
 
 -- the verdict of an audit is `audit_of`
-pub audit_says : (words : List ℕ) → (verdict_of words).sound ≡ audit_of words
-unfolding verdict_of
-audit_says words = refl
+pub audit_says : (words : List ℕ) → yes_told (verdict_of words) ≡ audit_of words
+unfolding verdict_of audit_of
+audit_says words = go (is_opened (opened_in words))
+  where
+    go : (o : Bool)
+        → yes_told (cond o (Ok (all_rows words (tree_in words) (queue_in words))) (Err NotOpened)) ≡ cond o (all_rows words (tree_in words) (queue_in words)) false
+    go true = refl
+    go false = refl
 
 -- a refused audit does not say yes
-pub audit_refused : (words : List ℕ) → (verdict_of words).number ≢ 0 → (verdict_of words).sound ≡ false
-unfolding verdict_of audit_of
+pub audit_refused : (words : List ℕ) → number_told (verdict_of words) ≢ 0 → yes_told (verdict_of words) ≡ false
+unfolding verdict_of
 audit_refused words n = go (is_opened (opened_in words)) n
   where
-    go : (o : Bool) → ◌≢◌ {A = ℕ} (cond o 0 4) 0 → cond o (all_rows words (tree_in words) (queue_in words)) false ≡ false
+    verdict : Bool → Result Bool Refusal
+    verdict o = cond o (Ok (all_rows words (tree_in words) (queue_in words))) (Err NotOpened)
+
+    go : (o : Bool) → number_told (verdict o) ≢ 0 → yes_told (verdict o) ≡ false
     go true n = absurd (n refl)
     go false n = refl
 
@@ -238,10 +246,10 @@ pub withdraw_refused : (words : List ℕ) (s : ℕ) → ¬ ((withdraw_of words s
 unfolding withdraw_of
 withdraw_refused words s = refused_keeps words (withdraw_of words s) (unfinished_keeps words s (done (withdrawn_words words s (call_at words s))) (inl refl))
 
-pub take_refused : (words : List ℕ) (s : ℕ) → ¬ (number_of (take_of words s) ≡ 0) → take_words words s ≡ words
+pub take_refused : (words : List ℕ) (s : ℕ) → ¬ (number_told (take_of words s) ≡ 0) → take_words words s ≡ words
 unfolding take_words
 take_refused words s n = go (take_of words s) refl
   where
-    go : (x : Taking) → take_of words s ≡ x → emptied_words words s x ≡ words
-    go (Refusal k) e = refl
-    go (Taken a) e = absurd (n (ap number_of e))
+    go : (x : Result Answer Refusal) → take_of words s ≡ x → emptied_words words s x ≡ words
+    go (Err k) e = refl
+    go (Ok a) e = absurd (n (ap number_told e))

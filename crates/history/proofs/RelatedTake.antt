@@ -1,4 +1,5 @@
 -- A taking: a related slice refuses or gives what the table does, and stays related (`related_takes`).
+use Rattle.std.specs.Prelude.{None, Ok, Err}
 use Prim.Native.Nat.{ℕ, ◌<◌}
 use mathlib.Core.Path.{◌≡◌, refl, sym, ap, ◌∙◌}
 use mathlib.Core.Bool.{Bool, true, false}
@@ -7,8 +8,10 @@ use mathlib.Core.Option.{Option, some}
 use native.Mathlib.Omega.{arith}
 use lib.Dec.{ltb}
 use borrow.Author.Tests.{ltb-true, lt-ltb, eq-eqb, ne_eqb}
+use Rattle.words.specs.Refusal.{number_of}
+use Rattle.words.specs.declared.refusal.Refusal.{Refusal}
+use Rattle.words.specs.declared.refusal.Refusal.TheVariants.{NoStation, NothingWaits}
 use Rattle.words.specs.Layout.{stations}
-use Rattle.stations.specs.declared.answer.Waiting.TheVariants.{Nothing}
 use Rattle.stations.specs.Station.{emptied, state_at, put_state}
 use Rattle.stations.specs.Answer.{answer_at, waiting_at}
 use Rattle.stations.proofs.WaitingLaws.{waiting_given, waiting_nothing}
@@ -17,7 +20,6 @@ use Rattle.table.specs.Table.{Station, idle, unfinished, waiting, Table, put, wi
 use Rattle.table.specs.Event.{refuse, take_at, take}
 use Rattle.table.proofs.Sound.{Sound}
 use Rattle.table.proofs.Simulation.{Matches}
-use Rattle.calls.specs.declared.take.Taking.TheVariants.{Refused, Given as Taken}
 use Rattle.calls.specs.Take.{take_of, take_words}
 use Rattle.history.specs.Index.{word_index}
 use Rattle.history.specs.View.{Seat, seat_at, marks_in}
@@ -30,14 +32,14 @@ use Rattle.history.proofs.SaysLaws.{seat_put_agrees, says_put, marking_put, writ
 -- ---- what is given
 
 -- a station in another state than 2 has nothing waiting
-take_nothing : {words : List ℕ} {t : Table} (s : ℕ) → Related words t → s < stations → (n : ℕ) → ¬ (n ≡ 2) → (state_at words s).word ≡ n → take_of words s ≡ Refused 12
+take_nothing : {words : List ℕ} {t : Table} (s : ℕ) → Related words t → s < stations → (n : ℕ) → ¬ (n ≡ 2) → (state_at words s).word ≡ n → take_of words s ≡ Err NothingWaits
 unfolding take_of
 take_nothing {words} s r l n d e =
-    let f : waiting_at words s ≡ Nothing = waiting_nothing words s (ne_eqb (state_at words s).word 2 (λ g. d (sym e ∙ g))) in
+    let f : waiting_at words s ≡ None = waiting_nothing words s (ne_eqb (state_at words s).word 2 (λ g. d (sym e ∙ g))) in
     rw (related_passes r, lt-ltb s stations l, f)
 
 -- an answer that waits is given
-take_answer : {words : List ℕ} {t : Table} (s : ℕ) (a : Answer) → Related words t → s < stations → t.stations s ≡ waiting a → take_of words s ≡ Taken (answer_at words s)
+take_answer : {words : List ℕ} {t : Table} (s : ℕ) (a : Answer) → Related words t → s < stations → t.stations s ≡ waiting a → take_of words s ≡ Ok (answer_at words s)
 unfolding take_of seat_at
 take_answer {words} {t} s a r l e =
     let w : Waits t.scale.rule (seat_at words s) a = related_waits r l e in
@@ -63,10 +65,10 @@ take_left {words} {t} s a r l e =
 -- ---- the taking
 
 module _ {words : List ℕ} {t : Table} (s : ℕ) where
-  -- a taking that both refuse by one number
-  refused_taking : (n : ℕ) → take_of words s ≡ Refused n → take t s ≡ refuse n t → Related words t → Matches word_index Related (word_index.take words s) (take t s)
+  -- a taking that both refuse alike
+  refused_taking : (refusal : Refusal) → take_of words s ≡ Err refusal → take t s ≡ refuse (number_of refusal) t → Related words t → Matches word_index Related (word_index.take words s) (take t s)
   unfolding take_words
-  refused_taking n e f r = rw (e, f) (record { number = refl; given = refl; next = r })
+  refused_taking refusal e f r = rw (e, f) (record { number = refl; given = refl; next = r })
 
   -- a taking that gives the waiting answer
   given_taking : (a : Answer) → s < stations → t.stations s ≡ waiting a → Related words t → Matches word_index Related (word_index.take words s) (take t s)
@@ -80,10 +82,10 @@ unfolding take take_at take_of seat_at
 related_takes {words} {t} s h r = go (ltb s stations) refl
   where
     at : s < stations → (x : Station) → t.stations s ≡ x → Matches word_index Related (word_index.take words s) (take t s)
-    at l idle e = refused_taking s 12 (take_nothing s r l 0 (omega arith) (related_idle r l e).state) (rw (lt-ltb s stations l, e)) r
-    at l (unfinished i c o) e = refused_taking s 12 (take_nothing s r l 1 (omega arith) (related_busy r l e).state) (rw (lt-ltb s stations l, e)) r
+    at l idle e = refused_taking s NothingWaits (take_nothing s r l 0 (omega arith) (related_idle r l e).state) (rw (lt-ltb s stations l, e)) r
+    at l (unfinished i c o) e = refused_taking s NothingWaits (take_nothing s r l 1 (omega arith) (related_busy r l e).state) (rw (lt-ltb s stations l, e)) r
     at l (waiting a) e = given_taking s a l e r
 
     go : (b : Bool) → ltb s stations ≡ b → Matches word_index Related (word_index.take words s) (take t s)
     go true q = at (ltb-true s stations q) (t.stations s) refl
-    go false q = refused_taking s 5 (rw (related_passes r, q)) (rw q) r
+    go false q = refused_taking s NoStation (rw (related_passes r, q)) (rw q) r

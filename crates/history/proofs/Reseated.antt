@@ -1,5 +1,6 @@
 -- What a submission and a taking leave alone: they are refused, or nothing changes but the seat of their station, which had no unfinished call
 -- (`submit_reseats`, `take_reseats`).
+use Rattle.std.specs.Prelude.{Option, None, Some, Result, Ok, Err}
 use Prim.Native.Nat.{ℕ, ◌*◌, ◌<◌}
 use mathlib.Core.Path.{◌≡◌, refl, ◌∙◌}
 use mathlib.Core.Logic.{◌≢◌, ◌⊎◌, inl, inr}
@@ -16,21 +17,19 @@ use Rattle.points.specs.Number.{in_range_by}
 use Rattle.points.proofs.NumberLaws.{in_range_by_lem}
 use Rattle.words.specs.Rule.{rule_at}
 use Rattle.stations.specs.declared.answer.Answer.{Answer}
-use Rattle.stations.specs.declared.answer.Waiting.{Waiting}
-use Rattle.stations.specs.declared.answer.Waiting.TheVariants.{Nothing, Given}
 use Rattle.stations.specs.Common.{opened_in, is_opened, Opened}
 use Rattle.stations.specs.Station.{is_idle, is_waiting, state_at}
 use Rattle.stations.specs.Answer.{waiting_at}
 use Rattle.stations.proofs.WaitingLaws.{waiting_tells}
 use Rattle.calls.specs.Reply.{Reply, ask}
-use Rattle.calls.specs.declared.take.Taking.{Taking}
-use Rattle.calls.specs.declared.take.Taking.TheVariants.{Refused as Refusal, Given as Taken}
 use Rattle.calls.specs.Submit.{curve_fits, submitted_words, submit_of}
 use Rattle.stations.specs.Call.{kind_in}
 use Rattle.calls.specs.Take.{taking_of, take_of, emptied_words, take_words}
 use Rattle.history.specs.View.{seat_at, SameRows}
 use Rattle.history.proofs.Effects.{submit_written, submit_rows, take_written, take_rows}
 use Rattle.history.proofs.SaysLaws.{seat_put_other}
+use Rattle.words.specs.declared.refusal.Refusal.{Refusal}
+use Rattle.words.specs.declared.refusal.Refusal.TheVariants.{NoStation, NotOpened}
 
 -- nothing changes but the seat of station s, which had no unfinished call
 pub record Reseated (words words' : List ℕ) (rows s : ℕ) : Type 0 where
@@ -63,13 +62,13 @@ record Gives (words : List ℕ) (s : ℕ) : Type 0 where
   station : s < stations
   waits : is_waiting (state_at words s) ≡ true
 
-taken_gives : (words : List ℕ) (s : ℕ) (a : Answer) → take_of words s ≡ Taken a → Gives words s
+taken_gives : (words : List ℕ) (s : ℕ) (a : Answer) → take_of words s ≡ Ok a → Gives words s
 unfolding take_of
 taken_gives words s a e = go (is_opened (opened_in words)) (ltb s stations) refl (waiting_at words s) refl e
   where
-    go : (o b : Bool) → ltb s stations ≡ b → (x : Waiting) → waiting_at words s ≡ x → cond o (cond b (taking_of x) (Refusal 5)) (Refusal 4) ≡ Taken a → Gives words s
-    go true true l (Given y) f e = record { station = ltb-true s stations l; waits = (waiting_tells words s y f).waiting }
-    go true true l Nothing f e = let z : ◌≡◌ {A = ℕ} 0 1 = cc in absurd (omega arith)
+    go : (o b : Bool) → ltb s stations ≡ b → (x : Option Answer) → waiting_at words s ≡ x → cond o (cond b (taking_of x) (Err NoStation)) (Err NotOpened) ≡ Ok a → Gives words s
+    go true true l (Some y) f e = record { station = ltb-true s stations l; waits = (waiting_tells words s y f).waiting }
+    go true true l None f e = let z : ◌≡◌ {A = ℕ} 0 1 = cc in absurd (omega arith)
     go true false l x f e = let z : ◌≡◌ {A = ℕ} 0 1 = cc in absurd (omega arith)
     go false b l x f e = let z : ◌≡◌ {A = ℕ} 0 1 = cc in absurd (omega arith)
 
@@ -99,9 +98,9 @@ module _ (words : List ℕ) (places limit : ℕ) (scale : Scale) (o : opened_in 
   unfolding take_words
   take_reseats = go (take_of words s) refl
     where
-      go : (x : Taking) → take_of words s ≡ x → Reseats words (emptied_words words s x) (2 * places) s
-      go (Refusal n) e = inl refl
-      go (Taken a) e =
+      go : (x : Result Answer Refusal) → take_of words s ≡ x → Reseats words (emptied_words words s x) (2 * places) s
+      go (Err n) e = inl refl
+      go (Ok a) e =
           let g = taken_gives words s a e in
           let w = take_written words places limit scale o s g.station in
           inr (record {

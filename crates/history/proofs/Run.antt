@@ -1,4 +1,5 @@
 -- A run after a history (`run_answers`): it is accepted, and the station's answer waits.
+use Rattle.std.specs.Prelude.{Option, None, Some}
 use Prim.Native.Nat.{ℕ, zero, suc, ◌+◌, ◌*◌, ◌<◌}
 use mathlib.Core.Path.{◌≡◌, refl, ◌∙◌, ap}
 use mathlib.Core.Bool.{Bool, true, false}
@@ -7,8 +8,6 @@ use native.Mathlib.Omega.{arith}
 use lib.Dec.{ltb}
 use Rattle.points.specs.declared.scale.Scale.{Scale}
 use Rattle.words.specs.Layout.{stations}
-use Rattle.stations.specs.declared.answer.Waiting.{Waiting}
-use Rattle.stations.specs.declared.answer.Waiting.TheVariants.{Nothing, Given}
 use Rattle.stations.specs.Common.{opened_in, is_opened}
 use Rattle.stations.specs.Station.{is_unfinished, state_at}
 use Rattle.stations.specs.Answer.{waiting_at}
@@ -26,6 +25,7 @@ use Rattle.history.proofs.RelatedLaws.{related_passes, word_places}
 use Rattle.history.proofs.Demand3.{accepted}
 use Rattle.history.proofs.Reached.{Stands, history_related}
 use Rattle.history.proofs.Solo.{solo_steps}
+use Rattle.stations.specs.declared.answer.Answer.{Answer}
 
 -- ---- whether an answer waits
 
@@ -48,9 +48,9 @@ answered_given : (words : List ℕ) (s : ℕ) → Answered words s → is_given 
 unfolding take_of
 answered_given words s e = go (is_opened (opened_in words)) refl (ltb s stations) refl (waiting_at words s) refl
   where
-    go : (a : Bool) → is_opened (opened_in words) ≡ a → (b : Bool) → ltb s stations ≡ b → (x : Waiting) → waiting_at words s ≡ x → is_given x ≡ true
-    go true p true q (Given a) f = refl
-    go true p true q Nothing f = let z : ◌≡◌ {A = ℕ} 12 0 = rw (p, q, f) at e in absurd (omega arith)
+    go : (a : Bool) → is_opened (opened_in words) ≡ a → (b : Bool) → ltb s stations ≡ b → (x : Option Answer) → waiting_at words s ≡ x → is_given x ≡ true
+    go true p true q (Some a) f = refl
+    go true p true q None f = let z : ◌≡◌ {A = ℕ} 12 0 = rw (p, q, f) at e in absurd (omega arith)
     go true p false q x f = let z : ◌≡◌ {A = ℕ} 5 0 = rw (p, q) at e in absurd (omega arith)
     go false p b q x f = let z : ◌≡◌ {A = ℕ} 4 0 = rw p at e in absurd (omega arith)
 
@@ -58,9 +58,9 @@ not_given : (words : List ℕ) (s : ℕ) → Passes words s → ¬ Answered word
 unfolding take_of
 not_given words s w n = go (waiting_at words s) refl
   where
-    go : (x : Waiting) → waiting_at words s ≡ x → is_given x ≡ false
-    go Nothing f = refl
-    go (Given a) f = absurd (n (rw (w.opened, w.station, f)))
+    go : (x : Option Answer) → waiting_at words s ≡ x → is_given x ≡ false
+    go None f = refl
+    go (Some a) f = absurd (n (rw (w.opened, w.station, f)))
 
 -- ---- the steps of a run
 

@@ -33,7 +33,7 @@ use Rattle.trees.proofs.ShapeLaws.{entries_count}
 use Rattle.calls.specs.Open.{open_of}
 use Rattle.calls.specs.Submit.{submit_of}
 use Rattle.calls.specs.Take.{take_of}
-use Rattle.calls.specs.Report.{report_of}
+use Rattle.calls.specs.Report.{report_of, places_told}
 use Rattle.calls.specs.Held.{held_in}
 use Rattle.calls.specs.Withdraw.{withdrawn_words, withdraw_of}
 use Rattle.history.specs.Index.{record_of as held_record, given_by, word_index}
@@ -91,7 +91,7 @@ module _ {words : List ℕ} {places limit : ℕ} {scale : Scale} (w : Stands wor
       (related_takes s (sound_wait w.table s (withdrawn_answer c) l w.sound) next).given
       ∙ rw (lt-ltb s stations l, waits) (ap (λ p. some (answer 11 p 0 0)) (sym (point_is w.sound l q w.related)))
 
-  taken_alone : ((u : ℕ) → ¬ (u ≡ s) → is_searching words u ≡ false) → (report_of words').taken ≡ length (held_in words')
+  taken_alone : ((u : ℕ) → ¬ (u ≡ s) → is_searching words u ≡ false) → places_told (report_of words') ≡ length (held_in words')
   unfolding report_of searching
   taken_alone f =
       rw (related_passes next) (related_taken next (sound_wait w.table s (withdrawn_answer c) l w.sound) ∙ taken_held t others ∙ sym (held_number next))

@@ -7,7 +7,7 @@ use Rattle.stations.specs.Station.{is_unfinished, state_at}
 use Rattle.stations.specs.Call.{call_at}
 use Rattle.table.specs.Call.{answer}
 use Rattle.calls.specs.Take.{take_of}
-use Rattle.calls.specs.Report.{report_of}
+use Rattle.calls.specs.Report.{report_of, places_told}
 use Rattle.calls.specs.Held.{held_in}
 use Rattle.calls.specs.Withdraw.{withdraw_of}
 use Rattle.history.specs.Index.{given_by}
@@ -24,4 +24,4 @@ pub record Withdrawn (words : List ℕ) (s : ℕ) : Type 0 where
   pub since : (track_at (withdraw_of words s).words s).since ≡ NONE
   -- where no other station has an unfinished nearest, the places taken are the records held
   pub alone : ((u : ℕ) → ¬ (u ≡ s) → is_searching words u ≡ false)
-      → (report_of (withdraw_of words s).words).taken ≡ length (held_in (withdraw_of words s).words)
+      → places_told (report_of (withdraw_of words s).words) ≡ length (held_in (withdraw_of words s).words)

@@ -7,50 +7,44 @@ use Prim.Native.Nat.{ℕ, zero, suc, ◌+◌, ◌-◌, ◌<◌, ◌≤◌}
 use native.Mathlib.Omega.{arith}
 use native.Mathlib.Decide.{dec_le}
 use lib.ListN.{length, length-append}
-use Rattle.calls.specs.declared.take.Taking.{Taking}
-use Rattle.calls.specs.declared.take.Taking.TheVariants.{Refused as Refusal, Given as Gift}
-use Rattle.calls.specs.Take.{number_of}
+use Rattle.std.specs.Prelude.{Option, Some, None, Result, Ok, Err}
+use Rattle.words.specs.declared.refusal.Refusal.{Refusal}
+use Rattle.words.specs.Refusal.{number_told}
+use Rattle.stations.specs.declared.answer.Answer.{Answer}
 use Rattle.frames.specs.declared.frame.Frame.{Frame}
-use Rattle.frames.specs.declared.read.Reading.{Reading}
-use Rattle.frames.specs.declared.read.Reading.TheVariants.{Read, End, Refused}
-use Rattle.lines.specs.declared.apply.Applied.{Applied}
-use Rattle.lines.specs.declared.apply.Applied.TheVariants.{Number, Given}
-use Rattle.lines.specs.declared.line.Line.{Line}
-use Rattle.lines.specs.declared.line.Line.TheVariants.{Stopped, Plain, Taken}
+use Rattle.frames.specs.declared.refusal.FrameRefusal.{FrameRefusal}
 use Rattle.frames.specs.Width.{AllInWidth}
 use Rattle.frames.specs.Read.{read_of}
 use Rattle.frames.specs.Write.{frame_bytes}
-use Rattle.lines.specs.Apply.{applied_of, applied_number, apply_of, apply_words}
-use Rattle.lines.specs.Line.{line_number, line_after, line_of, line_words, followed, lines_for, lines_of, Passes, call_bytes, call_lines}
+use Rattle.lines.specs.Apply.{Outcome, no_answer, applied_of, applied_number, apply_of, apply_words}
+use Rattle.lines.specs.Line.{Line, line_number, line_after, line_of, line_words, followed, lines_for, lines_of, Passes, call_bytes, call_lines}
 use Rattle.frames.proofs.OutcomeLaws.{ends, read_moves}
 use Rattle.frames.proofs.WrittenLaws.{frame_length, frame_among}
 
 -- the number of a frame's line is that of what its call gave
-pub line_number_lem : (applied : Applied) (next : ℕ) → line_number (line_after applied next) ≡ applied_number applied
-line_number_lem (Number number) next = refl
-line_number_lem (Given answer) next = refl
+pub line_number_lem : (outcome : Outcome) (next : ℕ) → line_number (line_after outcome next) ≡ applied_number outcome
+line_number_lem outcome next = refl
 
 -- and of a taking, the taking's
-pub taking_number : (taking : Taking) → applied_number (applied_of taking) ≡ number_of taking
-taking_number (Refusal number) = refl
-taking_number (Gift answer) = refl
+pub taking_number : (taking : Result Answer Refusal) → applied_number (applied_of taking) ≡ number_told taking
+taking_number (Ok answer) = refl
+taking_number (Err refusal) = refl
 
--- two ways to go on that agree past a position give the same lines
-follow_agree : (f g : ℕ → List Line) (applied : Applied) (next : ℕ) → f next ≡ g next → followed f (line_after applied next) ≡ followed g (line_after applied next)
-follow_agree f g (Number number) next e = ap (λ (rest : List Line). Plain number next ∷ rest) e
-follow_agree f g (Given answer) next e = ap (λ (rest : List Line). Taken answer next ∷ rest) e
+-- and of a call that takes no answer, the call's
+pub no_answer_number : (n : ℕ) → applied_number (no_answer n) ≡ n
+no_answer_number zero = refl
+no_answer_number (suc n) = refl
 
 -- after a reading, the same lines follow where they do past its frame
-same_after : (m n : ℕ) (words bytes : List ℕ) (at : ℕ) (reading : Reading) → read_of bytes at ≡ reading
+same_after : (m n : ℕ) (words bytes : List ℕ) (at : ℕ) (reading : Option (Result (Frame × ℕ) FrameRefusal)) → read_of bytes at ≡ reading
     → ((after : List ℕ) (next : ℕ) → at < next → lines_for m after bytes next ≡ lines_for n after bytes next)
     → followed (λ next. lines_for m (line_words words reading) bytes next) (line_of words reading)
     ≡ followed (λ next. lines_for n (line_words words reading) bytes next) (line_of words reading)
-unfolding line_of
-same_after m n words bytes at End e same = refl
-same_after m n words bytes at (Refused number) e same = refl
-same_after m n words bytes at (Read frame next) e same =
-    let after = line_words words (Read frame next) in
-    follow_agree (lines_for m after bytes) (lines_for n after bytes) (apply_of words frame) next (same after next (read_moves bytes at e).0)
+unfolding line_of line_words
+same_after m n words bytes at None e same = refl
+same_after m n words bytes at (Some (Err refusal)) e same = refl
+same_after m n words bytes at (Some (Ok (frame, next))) e same =
+    ap (λ (rest : List Line). line_after (apply_of words frame) next ∷ rest) (same (apply_words words frame) next (read_moves bytes at e).0)
 
 -- as many lines as there are bytes are all of them
 pub lines_enough : (m n : ℕ) (words bytes : List ℕ) (at : ℕ) → length bytes - at ≤ m → length bytes - at ≤ n → lines_for m words bytes at ≡ lines_for n words bytes at
@@ -81,25 +75,16 @@ pub line_passes : (words bytes : List ℕ) (at : ℕ) → Passes bytes at (line_
 unfolding line_of
 line_passes words bytes at = go (read_of bytes at) refl (dec_le (length bytes) at)
   where
-    passed : (applied : Applied) (next : ℕ) → (at < next) × (next ≤ length bytes) → Passes bytes at (line_after applied next)
-    passed (Number number) next h = h
-    passed (Given answer) next h = h
-
-    go : (reading : Reading) → read_of bytes at ≡ reading → Dec (length bytes ≤ at) → Passes bytes at (line_of words reading)
-    go End e there = tt
-    go (Refused number) e (yes h) = let z : ◌≡◌ {A = ℕ} 0 1 = cc (ends bytes at h) in absurd (omega arith)
-    go (Refused number) e (no h) = omega arith
-    go (Read frame next) e there = passed (apply_of words frame) next (read_moves bytes at e)
+    go : (reading : Option (Result (Frame × ℕ) FrameRefusal)) → read_of bytes at ≡ reading → Dec (length bytes ≤ at) → Passes bytes at (line_of words reading)
+    go None e there = tt
+    go (Some (Err refusal)) e (yes h) = cc (ends bytes at h)
+    go (Some (Err refusal)) e (no h) = omega arith
+    go (Some (Ok (frame, next))) e there = read_moves bytes at e
 
 -- a first frame that is refused has the only line, whatever stands behind it
-pub lines_refused : (words bytes : List ℕ) {number : ℕ} → read_of bytes 0 ≡ Refused number → lines_of words bytes ≡ Stopped number ∷ []
+pub lines_refused : (words bytes : List ℕ) {refusal : FrameRefusal} → read_of bytes 0 ≡ Some (Err refusal) → lines_of words bytes ≡ Some (Err refusal) ∷ []
 unfolding lines_for line_of
 lines_refused words bytes e = sym (lines_all (suc (length bytes)) words bytes (omega arith)) ∙ rw e
-
--- a frame that was read has a line, and others follow it
-line_follows : (g : ℕ → List Line) (applied : Applied) (next : ℕ) → followed g (line_after applied next) ≡ line_after applied next ∷ g next
-line_follows g (Number number) next = refl
-line_follows g (Given answer) next = refl
 
 -- calls written after other bytes
 calls_among : (n : ℕ) (words pre : List ℕ) (fs : List Frame) → AllInWidth fs → length fs ≤ n → lines_for n words (pre ++ call_bytes fs) (length pre) ≡ call_lines words fs (length pre)
@@ -113,7 +98,7 @@ calls_among (suc n) words pre (f ∷ fs) w h =
     let rest : lines_for n (apply_words words f) bytes next ≡ call_lines (apply_words words f) fs next =
     rw (← append_assoc pre (frame_bytes f) (call_bytes fs), ← length-append pre (frame_bytes f))
     (calls_among n (apply_words words f) (pre ++ frame_bytes f) fs w.1 (omega arith)) in
-    rw (frame_among f w.0 pre (call_bytes fs), line_follows (λ (k : ℕ). lines_for n (apply_words words f) bytes k) (apply_of words f) next, rest)
+    rw (frame_among f w.0 pre (call_bytes fs), rest)
 
 -- there are bytes for each call
 calls_length : (fs : List Frame) → length fs ≤ length (call_bytes fs)

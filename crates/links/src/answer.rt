@@ -7,6 +7,7 @@ use stations::station::{read_state, write_state};
 use stations::track::{nowhere, write_track};
 
 // The call of station s stands nowhere.
+#[tactic(auto, unfolding(calls::specs::Answer::let_go))]
 fn let_go(words: &mut [u32], s: u32)
     ensures { words.new ≡ let_go words.old s }
 {
@@ -14,6 +15,7 @@ fn let_go(words: &mut [u32], s: u32)
 }
 
 // The answer waits at station s.
+#[tactic(auto, unfolding(calls::specs::Answer::answered_words))]
 pub fn write_answered(words: &mut [u32], s: u32, answer: Answer)
     ensures { words.new ≡ answered_words words.old s answer }
 {

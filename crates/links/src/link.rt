@@ -1,24 +1,23 @@
 // What a row links to, and what it is. A row that is not of the kind asked for has no link.
+// No link is the number `NONE` and no Option: the definitions of calls, which theorems cite, give numbers, as the words do. The functions are no
+// methods of `Row`: that stands in rows, below calls, which defines them.
 ghost use Rattle.std.specs.Prelude.{◌≡◌};
 ghost use Rattle.calls.specs.Link.{next_of, parent_of, sibling_of, links_to, is_leaf, is_cut, is_tree, is_free, holds_point, leaf_point, leaf_curve};
 
 use points::order::same_point;
+use points::pick::pick;
 use points::point::Point;
 use points::word::point_at;
 use rows::row::Row;
 use words::layout::NONE;
-use words::word::pick;
 
 // The next link of a free row.
 pub fn next_of(row: Row) -> u32
     ensures { result ≡ next_of row }
 {
     match row {
-        Row::Bad => NONE,
-        Row::Spare { next, .. } => next,
-        Row::Removed { next, .. } => next,
-        Row::Leaf { .. } => NONE,
-        Row::Cut { .. } => NONE,
+        Row::Spare { next, .. } | Row::Removed { next, .. } => next,
+        _ => NONE,
     }
 }
 
@@ -27,11 +26,8 @@ pub fn parent_of(row: Row) -> u32
     ensures { result ≡ parent_of row }
 {
     match row {
-        Row::Bad => NONE,
-        Row::Spare { .. } => NONE,
-        Row::Removed { .. } => NONE,
-        Row::Leaf { parent, .. } => parent,
-        Row::Cut { parent, .. } => parent,
+        Row::Leaf { parent, .. } | Row::Cut { parent, .. } => parent,
+        _ => NONE,
     }
 }
 
@@ -40,11 +36,8 @@ pub fn sibling_of(child: u32, row: Row) -> u32
     ensures { result ≡ sibling_of child row }
 {
     match row {
-        Row::Bad => NONE,
-        Row::Spare { .. } => NONE,
-        Row::Removed { .. } => NONE,
-        Row::Leaf { .. } => NONE,
         Row::Cut { left, right, .. } => pick(left == child, right, left),
+        _ => NONE,
     }
 }
 
@@ -53,11 +46,8 @@ pub fn links_to(child: u32, row: Row) -> bool
     ensures { result ≡ links_to child row }
 {
     match row {
-        Row::Bad => false,
-        Row::Spare { .. } => false,
-        Row::Removed { .. } => false,
-        Row::Leaf { .. } => false,
         Row::Cut { left, right, .. } => (left == child) | (right == child),
+        _ => false,
     }
 }
 
@@ -65,52 +55,28 @@ pub fn links_to(child: u32, row: Row) -> bool
 pub fn is_leaf(row: Row) -> bool
     ensures { result ≡ is_leaf row }
 {
-    match row {
-        Row::Bad => false,
-        Row::Spare { .. } => false,
-        Row::Removed { .. } => false,
-        Row::Leaf { .. } => true,
-        Row::Cut { .. } => false,
-    }
+    matches!(row, Row::Leaf { .. })
 }
 
 // Whether a row is a cut.
 pub fn is_cut(row: Row) -> bool
     ensures { result ≡ is_cut row }
 {
-    match row {
-        Row::Bad => false,
-        Row::Spare { .. } => false,
-        Row::Removed { .. } => false,
-        Row::Leaf { .. } => false,
-        Row::Cut { .. } => true,
-    }
+    matches!(row, Row::Cut { .. })
 }
 
 // Whether a row is one of the tree.
 pub fn is_tree(row: Row) -> bool
     ensures { result ≡ is_tree row }
 {
-    match row {
-        Row::Bad => false,
-        Row::Spare { .. } => false,
-        Row::Removed { .. } => false,
-        Row::Leaf { .. } => true,
-        Row::Cut { .. } => true,
-    }
+    matches!(row, Row::Leaf { .. } | Row::Cut { .. })
 }
 
 // Whether a row is free.
 pub fn is_free(row: Row) -> bool
     ensures { result ≡ is_free row }
 {
-    match row {
-        Row::Bad => false,
-        Row::Spare { .. } => true,
-        Row::Removed { .. } => true,
-        Row::Leaf { .. } => false,
-        Row::Cut { .. } => false,
-    }
+    matches!(row, Row::Spare { .. } | Row::Removed { .. })
 }
 
 // Whether a row is a leaf with the point.
@@ -118,11 +84,8 @@ pub fn holds_point(p: Point, row: Row) -> bool
     ensures { result ≡ holds_point p row }
 {
     match row {
-        Row::Bad => false,
-        Row::Spare { .. } => false,
-        Row::Removed { .. } => false,
         Row::Leaf { point, .. } => same_point(point, p),
-        Row::Cut { .. } => false,
+        _ => false,
     }
 }
 
@@ -131,11 +94,8 @@ pub fn leaf_point(row: Row) -> Point
     ensures { result ≡ leaf_point row }
 {
     match row {
-        Row::Bad => point_at(0, 0, 0, 0, 0),
-        Row::Spare { .. } => point_at(0, 0, 0, 0, 0),
-        Row::Removed { .. } => point_at(0, 0, 0, 0, 0),
         Row::Leaf { point, .. } => point,
-        Row::Cut { .. } => point_at(0, 0, 0, 0, 0),
+        _ => point_at(0, 0, 0, 0, 0),
     }
 }
 
@@ -144,10 +104,7 @@ pub fn leaf_curve(row: Row) -> u32
     ensures { result ≡ leaf_curve row }
 {
     match row {
-        Row::Bad => 0,
-        Row::Spare { .. } => 0,
-        Row::Removed { .. } => 0,
         Row::Leaf { curve, .. } => curve,
-        Row::Cut { .. } => 0,
+        _ => 0,
     }
 }

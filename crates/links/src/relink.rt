@@ -5,15 +5,11 @@ ghost use Rattle.calls.specs.Link.{with_next, with_parent, removed_as, replaced}
 use rows::row::Row;
 
 // A free row with another next link.
-pub fn with_next(x: u32, row: Row) -> Row
-    ensures { result ≡ with_next x row }
+pub fn with_next(next: u32, row: Row) -> Row
+    ensures { result ≡ with_next next row }
 {
     match row {
-        Row::Bad => Row::Bad,
-        Row::Spare { freed, .. } => Row::Spare {
-            next: x,
-            freed: freed,
-        },
+        Row::Spare { freed, .. } => Row::Spare { next, freed },
         Row::Removed {
             freed,
             added,
@@ -21,35 +17,31 @@ pub fn with_next(x: u32, row: Row) -> Row
             curve,
             ..
         } => Row::Removed {
-            next: x,
-            freed: freed,
-            added: added,
-            point: point,
-            curve: curve,
+            next,
+            freed,
+            added,
+            point,
+            curve,
         },
-        Row::Leaf { .. } => Row::Bad,
-        Row::Cut { .. } => Row::Bad,
+        _ => Row::Bad,
     }
 }
 
 // A row of the tree with another parent link.
-pub fn with_parent(x: u32, row: Row) -> Row
-    ensures { result ≡ with_parent x row }
+pub fn with_parent(parent: u32, row: Row) -> Row
+    ensures { result ≡ with_parent parent row }
 {
     match row {
-        Row::Bad => Row::Bad,
-        Row::Spare { .. } => Row::Bad,
-        Row::Removed { .. } => Row::Bad,
         Row::Leaf {
             added,
             point,
             curve,
             ..
         } => Row::Leaf {
-            parent: x,
-            added: added,
-            point: point,
-            curve: curve,
+            parent,
+            added,
+            point,
+            curve,
         },
         Row::Cut {
             cut,
@@ -57,11 +49,12 @@ pub fn with_parent(x: u32, row: Row) -> Row
             right,
             ..
         } => Row::Cut {
-            parent: x,
-            cut: cut,
-            left: left,
-            right: right,
+            parent,
+            cut,
+            left,
+            right,
         },
+        _ => Row::Bad,
     }
 }
 
@@ -70,22 +63,19 @@ pub fn removed_as(next: u32, number: u32, row: Row) -> Row
     ensures { result ≡ removed_as next number row }
 {
     match row {
-        Row::Bad => Row::Bad,
-        Row::Spare { .. } => Row::Bad,
-        Row::Removed { .. } => Row::Bad,
         Row::Leaf {
             added,
             point,
             curve,
             ..
         } => Row::Removed {
-            next: next,
+            next,
             freed: number,
-            added: added,
-            point: point,
-            curve: curve,
+            added,
+            point,
+            curve,
         },
-        Row::Cut { .. } => Row::Bad,
+        _ => Row::Bad,
     }
 }
 
@@ -94,29 +84,28 @@ pub fn replaced(old: u32, new: u32, row: Row) -> Row
     ensures { result ≡ replaced old new row }
 {
     match row {
-        Row::Bad => Row::Bad,
-        Row::Spare { .. } => Row::Bad,
-        Row::Removed { .. } => Row::Bad,
-        Row::Leaf { .. } => Row::Bad,
         Row::Cut {
             parent,
             cut,
             left,
             right,
-        } => if left == old {
-            Row::Cut {
-                parent: parent,
-                cut: cut,
-                left: new,
-                right: right,
-            }
-        } else {
-            Row::Cut {
-                parent: parent,
-                cut: cut,
-                left: left,
-                right: new,
-            }
+        } if left == old => Row::Cut {
+            parent,
+            cut,
+            left: new,
+            right,
         },
+        Row::Cut {
+            parent,
+            cut,
+            left,
+            ..
+        } => Row::Cut {
+            parent,
+            cut,
+            left,
+            right: new,
+        },
+        _ => Row::Bad,
     }
 }

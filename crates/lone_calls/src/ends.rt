@@ -1,84 +1,92 @@
 // Adds at the ends of every axis, on the index alone.
 use openings::open::open;
+use plain_list::book::Book;
 use plain_list::scale::DRY_RULE;
-use plain_list::verdict::{judge, tried};
 use points::point::Point;
 use points::scale::Scale;
 use submissions::submit::submit;
-use trial::cells::{copy, same_from};
+use words::refusal::Refusal;
 
 // Of each axis the coordinate before the least, the least, the greatest and the one after it.
-const ENDS: [i32; 20] = [
-    0, 1, 9999, 10000, //
-    0, 1, 100000, 100001, //
-    -1, 0, 10000, 10001, //
-    -1, 0, 30000, 30001, //
-    -2001, -2000, 2000, 2001,
+const ENDS: [[i32; 4]; 5] = [
+    [0, 1, 9999, 10000],
+    [0, 1, 100000, 100001],
+    [-1, 0, 10000, 10001],
+    [-1, 0, 30000, 30001],
+    [-2001, -2000, 2000, 2001],
 ];
 
-// A number of the ends.
-fn end_at(ends: &[i32], n: usize) -> i32 {
-    if n < ends.len() { ends[n] } else { 0 }
-}
+// Moisture, counted from 0 among the axes, and its ends under rule 2, where the greatest is one less.
+const MOISTURE: usize = 2;
 
-// The same under a rule: under rule 2 the greatest moisture is one less.
-fn end_by(rule: u32, n: usize) -> i32 {
-    let dry = rule == DRY_RULE;
-    match n {
-        10 => if dry { 9999 } else { 10000 },
-        11 => if dry { 10000 } else { 10001 },
-        _ => end_at(&ENDS, n),
-    }
-}
+const DRY: [i32; 4] = [-1, 0, 9999, 10000];
 
 // A point in the middle of its ranges but for the coordinate on one axis, counted from 0.
 fn point_with(axis: usize, x: i32) -> Point {
-    Point {
-        grade: if axis == 0 { x } else { 12 },
-        weight: if axis == 1 { x } else { 8000 },
-        moisture: if axis == 2 { x } else { 550 },
-        speed: if axis == 3 { x } else { 9000 },
-        draw: if axis == 4 { x } else { 0 },
+    let middle = Point {
+        grade: 12,
+        weight: 8000,
+        moisture: 550,
+        speed: 9000,
+        draw: 0,
+    };
+    match axis {
+        0 => Point { grade: x, ..middle },
+        1 => Point {
+            weight: x,
+            ..middle
+        },
+        MOISTURE => Point {
+            moisture: x,
+            ..middle
+        },
+        3 => Point { speed: x, ..middle },
+        _ => Point { draw: x, ..middle },
     }
 }
 
-// The number of an add at one of the ends: 0 at the middle two of an axis, 8 at the outer two.
-fn end_due(n: usize) -> u32 {
-    match n % 4 {
-        1 | 2 => 0,
-        _ => 8,
-    }
+// An add of a point, on an index that is opened under a rule and copied before.
+fn added(words: &mut [u32], book: &mut Book, rule: u32, point: Point) -> Result<(), Refusal> {
+    let _ = open(
+        words,
+        1,
+        10,
+        Scale {
+            rule,
+            weight: 1,
+            moisture: 1,
+            speed: 1,
+            draw: 1,
+        },
+    );
+    book.copy(words);
+    submit(words, 3, 1, point, 41)
 }
 
-// Four ones under a rule.
-fn ones_by(rule: u32) -> Scale {
-    Scale {
-        rule: rule,
-        weight: 1,
-        moisture: 1,
-        speed: 1,
-        draw: 1,
-    }
+// The add is accepted where it should be, and refused with 8 elsewhere, and a refused one left every word.
+fn judged(words: &mut [u32], book: &mut Book, rule: u32, point: Point, inside: bool) {
+    let outcome = added(words, book, rule, point);
+    let due = if inside {
+        Ok(())
+    } else {
+        Err(Refusal::BadPoint)
+    };
+    let kept = outcome.is_ok() || book.is_copy(words, 0);
+    book.tried();
+    book.judge(outcome == due);
+    book.judge(kept);
 }
 
-// An add of a point at one of the ends, on an index that is opened under a rule and copied before.
-fn end_number(words: &mut [u32], copied: &mut [u32], rule: u32, n: usize) -> u32 {
-    open(words, 1, 10, ones_by(rule));
-    copy(words, copied);
-    submit(words, 3, 1, point_with(n / 4, end_by(rule, n)), 41)
-}
-
-// The add has its number, and a refused one left every word.
-fn end_judged(words: &mut [u32], copied: &mut [u32], book: &mut [u64], rule: u32, n: usize) {
-    let number = end_number(words, copied, rule, n);
-    tried(book);
-    judge(book, number == end_due(n));
-    judge(book, (number == 0) | same_from(words, copied, 0));
-}
-
-// Every axis at its ends under a rule.
-pub fn ends(words: &mut [u32], copied: &mut [u32], book: &mut [u64], rule: u32) {
-    for n in 0..20usize {
-        end_judged(words, copied, book, rule, n);
+// Every axis at its ends under a rule: of each the middle two are in range.
+pub fn ends(words: &mut [u32], book: &mut Book, rule: u32) {
+    for (axis, ends) in ENDS.iter().enumerate() {
+        let ends = if axis == MOISTURE && rule == DRY_RULE {
+            &DRY
+        } else {
+            ends
+        };
+        for (n, x) in ends.iter().enumerate() {
+            judged(words, book, rule, point_with(axis, *x), matches!(n, 1 | 2));
+        }
     }
 }

@@ -1,17 +1,14 @@
 // Calls on the index alone, from the items of a text: each gives the number that its item says, and a refused one leaves every word. An item has
 // a capital letter for the call, how many words it is lent, four arguments and the number; one that opens with factors, six arguments and the number, and one
 // that opens with factors and a rule, seven and the number.
-ghost use Rattle.std.specs.Prelude.{◌<◌};
-
-use crate::framed::framed;
+use crate::framed::{NEVER, framed};
 use crate::opened::{opened_plain, opened_ruled, opened_scaled};
 use audits::audit::audit;
-use calls::take::Taking;
 use openings::open::open;
-use plain_list::book::{PlainPoint, at_weight, point_of};
+use plain_list::book::Book;
+use plain_list::point::PlainPoint;
 use plain_list::scale::PLAIN_RULE;
 use plain_list::text::Item;
-use plain_list::verdict::{judge, tried};
 use points::point::Point;
 use points::scale::{Scale, plain_scale};
 use reports::report::read_report;
@@ -20,65 +17,45 @@ use steps::step::step;
 use steps::withdraw::withdraw;
 use submissions::submit::submit;
 use takings::take::take;
-use trial::cells::{copy, put_word, same_from, word};
+use trial::cells::{put_word, word};
 use words::layout::words_for;
+use words::refusal::number_told;
 
-// A number that no call gives.
-const NEVER: u32 = 99;
-
-// The number of a report.
-fn report(words: &[u32]) -> u32 {
-    let read = read_report(words);
-    read.number
-}
-
-// The number of an audit, and 1 where it says no. One that is refused does not say yes.
+// The number of an audit, and 1 where it says no.
 fn audited(words: &[u32]) -> u32 {
-    let verdict = audit(words);
-    if verdict.sound {
-        return if verdict.number == 0 { 0 } else { NEVER };
-    }
-    if verdict.number == 0 {
-        1
-    } else {
-        verdict.number
+    match audit(words) {
+        Ok(true) => 0,
+        Ok(false) => 1,
+        Err(refusal) => refusal.number(),
     }
 }
 
 // The number of a taking. Where its item says a code, an answer of another one is wrong.
 fn taken(words: &mut [u32], s: u32, code: u32) -> u32 {
     match take(words, s) {
-        Taking::Refused(number) => number,
-        Taking::Given(answer) => {
-            if (code == 0) | (answer.code == code) {
-                0
-            } else {
-                NEVER
-            }
-        }
+        Ok(answer) if code != 0 && answer.code != code => NEVER,
+        Ok(_) => 0,
+        Err(refusal) => refusal.number(),
     }
 }
 
 // A rule, and the factors of an item, behind its places and its limit.
 fn scale_given(rule: u32, n: [u32; 9]) -> Scale {
+    let [_, _, _, weight, moisture, speed, draw, ..] = n;
     Scale {
-        rule: rule,
-        weight: n[3],
-        moisture: n[4],
-        speed: n[5],
-        draw: n[6],
+        rule,
+        weight,
+        moisture,
+        speed,
+        draw,
     }
 }
 
 // The point of grade 12, a weight and a moisture.
 fn moist(weight: u32, moisture: u32) -> Point {
-    let p = at_weight(12, weight);
-    point_of(PlainPoint {
-        grade: p.grade,
-        weight: p.weight,
-        moisture: moisture as u64,
-        speed: p.speed,
-        draw: p.draw,
+    Point::from(PlainPoint {
+        moisture,
+        ..PlainPoint::at_weight(12, weight)
     })
 }
 
@@ -88,25 +65,25 @@ fn moist(weight: u32, moisture: u32) -> Point {
 // any; the bytes there, the length and the kind of a frame; an offset and the word that is written there (W) or stands there (V).
 fn perform(words: &mut [u32], item: Item) -> u32 {
     let n = item.n;
-    let letter = item.letter;
-    match letter {
-        b'O' => open(words, n[1], n[2], plain_scale()),
-        b'X' => open(words, n[1], n[2], scale_given(PLAIN_RULE, n)),
-        b'Y' => open(words, n[1], n[2], scale_given(n[7], n)),
+    let [_, first, second, third, fourth, ..] = n;
+    match item.letter {
+        b'O' => number_told(open(words, first, second, plain_scale())),
+        b'X' => number_told(open(words, first, second, scale_given(PLAIN_RULE, n))),
+        b'Y' => number_told(open(words, first, second, scale_given(n[7], n))),
         b'J' => opened_plain(words, n),
         b'G' => opened_scaled(words, n),
         b'H' => opened_ruled(words, n),
-        b'S' => submit(words, n[1], n[2], point_of(at_weight(12, n[3])), n[4]),
-        b'M' => submit(words, n[1], n[2], moist(n[3], n[4]), 41),
-        b'T' => step(words, n[1]),
-        b'R' => run(words, n[1]),
-        b'K' => taken(words, n[1], n[2]),
-        b'D' => withdraw(words, n[1]),
-        b'P' => report(words),
+        b'S' => number_told(submit(words, first, second, moist(third, 0), fourth)),
+        b'M' => number_told(submit(words, first, second, moist(third, fourth), 41)),
+        b'T' => number_told(step(words, first)),
+        b'R' => number_told(run(words, first)),
+        b'K' => taken(words, first, second),
+        b'D' => number_told(withdraw(words, first)),
+        b'P' => number_told(read_report(words)),
         b'A' => audited(words),
-        b'F' => framed(words, n[1], n[2], n[3]),
-        b'W' => write(words, n[1], n[2]),
-        b'V' => stands(words, n[1], n[2]),
+        b'F' => framed(words, first, second, third),
+        b'W' => write(words, first, second),
+        b'V' => stands(words, first, second),
         _ => NEVER,
     }
 }
@@ -126,63 +103,38 @@ fn stands(words: &[u32], at: u32, value: u32) -> u32 {
     }
 }
 
-// A word as a length.
-fn length_of(x: u32) -> usize
-    ensures { result < 4294967296 }
-{
-    x as usize
-}
-
-// The call of an item in the words that it is lent.
-fn perform_in(words: &mut [u32], length: usize, item: Item) -> u32 {
-    if words.len() < length {
-        return NEVER;
+// The call of an item in so many words.
+fn perform_in(words: &mut [u32], length: u32, item: Item) -> u32 {
+    match words.get_mut(..length as usize) {
+        Some(lent) => perform(lent, item),
+        None => NEVER,
     }
-    perform(&mut words[0..length], item)
 }
 
-// Whether an item opens.
-fn opens(item: Item) -> bool {
-    (item.letter == b'O') | (item.letter == b'J') | opens_scaled(item) | opens_ruled(item)
-}
-
-// Whether an item opens with factors.
-fn opens_scaled(item: Item) -> bool {
-    (item.letter == b'X') | (item.letter == b'G')
-}
-
-// Whether an item opens with factors and a rule.
-fn opens_ruled(item: Item) -> bool {
-    (item.letter == b'Y') | (item.letter == b'H')
+// Where the number stands that an item says: behind factors where it opens with them, and behind a rule too.
+fn due_of(item: Item) -> u32 {
+    match item.letter {
+        b'Y' | b'H' => item.n[8],
+        b'X' | b'G' => item.n[7],
+        _ => item.n[5],
+    }
 }
 
 // Where the words begin that a call must leave: all of them for a refusal, and those past its rows for an opening.
 fn kept_from(item: Item, number: u32) -> usize {
-    if number != 0 {
-        return 0;
+    match item.letter {
+        _ if number != 0 => 0,
+        b'O' | b'J' | b'X' | b'G' | b'Y' | b'H' => words_for(item.n[1]),
+        _ => usize::MAX,
     }
-    if !opens(item) {
-        return usize::MAX;
-    }
-    let n = item.n;
-    words_for(n[1])
-}
-
-// The number that an item says.
-fn due_of(item: Item) -> u32 {
-    let n = item.n;
-    if opens_ruled(item) {
-        return n[8];
-    }
-    if opens_scaled(item) { n[7] } else { n[5] }
 }
 
 // An item is judged: the number, and the words kept. A letter that is none of these is wrong, whatever number it says.
-pub fn judged(words: &mut [u32], copied: &mut [u32], book: &mut [u64], item: Item) {
-    let n = item.n;
-    tried(book);
-    copy(words, copied);
-    let number = perform_in(words, length_of(n[0]), item);
-    judge(book, (number == due_of(item)) & (number != NEVER));
-    judge(book, same_from(words, copied, kept_from(item, number)));
+pub fn judged(words: &mut [u32], book: &mut Book, item: Item) {
+    book.tried();
+    book.copy(words);
+    let number = perform_in(words, item.n[0], item);
+    let kept = book.is_copy(words, kept_from(item, number));
+    book.judge(number == due_of(item) && number != NEVER);
+    book.judge(kept);
 }

@@ -11,6 +11,7 @@ use lib.Signed.{lt_z, mag, non_neg}
 use mir.Syntax.{w32}
 use mir.Val.{SFits}
 use Rattle.numbers.specs.Signed.{signed_of, unsigned_of}
+pub use Rattle.numbers.specs.SameBits.{unsigned_signed}
 
 -- −1 − z, of either sign
 pub minus_pos : (n : ℕ) → negsuc 0 -ℤ pos n ≡ negsuc n
@@ -54,15 +55,6 @@ pub unsigned_fits : (z : ℤ) → mag z < 2147483648 → unsigned_of z < 4294967
 unfolding unsigned_of
 unsigned_fits (pos n) h = omega arith
 unsigned_fits (negsuc n) h = omega arith
-
--- reading a pattern and writing it again
-pub unsigned_signed : (w : ℕ) → w < 4294967296 → unsigned_of (signed_of w) ≡ w
-unfolding unsigned_of signed_of
-unsigned_signed w h = go (ltb w 2147483648) refl
-  where
-    go : (b : Bool) → ltb w 2147483648 ≡ b → unsigned_of (signed_of w) ≡ w
-    go true e = rw e
-    go false e = rw e (omega (arith, ltb-false w 2147483648 e))
 
 -- a pattern is read as a number of its width
 pub signed_near : (w : ℕ) → w < 4294967296 → mag (signed_of w) < 2147483648

@@ -19,3 +19,8 @@ bytes_of (suc n) x = x % 256 ∷ bytes_of n (x / 256)
 unfoldable pub put_number : ℕ → List ℕ → ℕ → ℕ → List ℕ
 put_number zero bytes at x = bytes
 put_number (suc n) bytes at x = put_number n (set bytes at (x % 256)) (at + 1) (x / 256)
+
+-- the bytes with others written from an offset on
+abbrev pub put_all : List ℕ → ℕ → List ℕ → List ℕ
+put_all bytes at [] = bytes
+put_all bytes at (x ∷ xs) = put_all (set bytes at x) (at + 1) xs

@@ -2,7 +2,5 @@
 // that the bytes of a number at it are never past the greatest position.
 #![tactic(auto)]
 
-pub mod cast;
-pub mod get;
-pub mod put;
-mod signed;
+mod bytes;
+pub mod number;

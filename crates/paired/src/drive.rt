@@ -1,188 +1,178 @@
 // One event at a time, on the index and on the plain table, with what each gives compared.
 use audits::audit::audit;
-use calls::take::Taking;
-use plain_list::book::{
-    AT_PLACES, Due, MOST_PLACES, PlainPoint, at_code, plain_of, point_of, same_plain,
-};
+use plain_list::book::Book;
+use plain_list::point::PlainPoint;
 use plain_list::scale::PlainScale;
-use plain_list::verdict::judge;
-use plain_list::{opening, own, reference, stretch};
+use plain_list::table::Due;
+use points::point::Point;
 use points::scale::Scale;
 use reports::report::read_report;
-use stations::answer::{Answer, Waiting, read_waiting};
-use trial::cells::{copy, count, get};
+use stations::answer::{Answer, read_waiting};
+use words::refusal::Refusal;
+
+// Words that each event is made on come beside the book, and not in it: an event gets them as they are lent, some just as long as their places need.
 
 // The most steps of a call that is left alone (Rules 8.3).
-pub fn most_steps(book: &[u64]) -> u64 {
-    let places = get(book, AT_PLACES);
-    if places <= MOST_PLACES {
-        16 * places + 64
-    } else {
-        0
-    }
+pub fn most_steps(book: &Book) -> u64 {
+    16 * u64::from(book.table.places) + 64
 }
 
 // The rule and the factors for a call of the index.
 fn scale_of(scale: PlainScale) -> Scale {
+    let [weight, moisture, speed, draw] = scale.factors;
     Scale {
         rule: scale.rule,
-        weight: scale.weight,
-        moisture: scale.moisture,
-        speed: scale.speed,
-        draw: scale.draw,
+        weight,
+        moisture,
+        speed,
+        draw,
     }
+}
+
+// What the index gives is what the table gives: the number of the same question, or none.
+fn judge_outcome(book: &mut Book, outcome: Result<(), Refusal>, due: Result<(), u32>) {
+    book.judge(outcome.map_err(|refusal| refusal.number()) == due);
 }
 
 // An opening. One that is accepted begins a new history of the index and of the table.
 pub fn open(
     words: &mut [u32],
-    book: &mut [u64],
+    book: &mut Book,
     places: u32,
     limit: u32,
     scale: PlainScale,
-) -> u32 {
-    let number = openings::open::open(words, places, limit, scale_of(scale));
-    let due = opening::open(book, words.len(), places, limit, scale);
-    judge(book, number == due);
-    if number == 0 {
-        stretch::begin(book);
-    }
-    number
+) -> Result<(), Refusal> {
+    let outcome = openings::open::open(words, places, limit, scale_of(scale));
+    let due = book.table.open(words.len(), places, limit, scale);
+    judge_outcome(book, outcome, due);
+    outcome?;
+    book.begin_stretch();
+    Ok(())
 }
 
 // A submission.
 pub fn submit(
     words: &mut [u32],
-    book: &mut [u64],
+    book: &mut Book,
     s: u32,
     kind: u32,
     p: PlainPoint,
     curve: u32,
-) -> u32 {
-    let number = submissions::submit::submit(words, s, kind, point_of(p), curve);
-    let due = reference::submit(book, s, kind, p, curve);
-    judge(book, number == due);
-    own::begin(book, s, number == 0);
-    number
-}
-
-// Whether a taking by a station would be accepted.
-fn waits(words: &[u32], s: u32) -> bool {
-    match read_waiting(words, s) {
-        Waiting::Nothing => false,
-        Waiting::Given(_) => true,
-    }
+) -> Result<(), Refusal> {
+    let outcome = submissions::submit::submit(words, s, kind, Point::from(p), curve);
+    let due = book.table.submit(s, kind, p, curve);
+    judge_outcome(book, outcome, due);
+    outcome?;
+    book.begin_own(s);
+    Ok(())
 }
 
 // A step. The table is told whether it answered, and so are the stretch of steps that answer nobody and the own steps of a search.
-pub fn step(words: &mut [u32], book: &mut [u64], s: u32) -> u32 {
-    let dealt = reference::state(book, s) == reference::UNFINISHED;
-    let number = steps::step::step(words, s);
-    let answered = (number == 0) & waits(words, s);
-    let due = reference::step(book, s, answered);
-    stretch::pass(book, dealt, answered);
-    own::pass(book, s, dealt & !answered);
-    judge(
+pub fn step(words: &mut [u32], book: &mut Book, s: u32) -> Result<(), Refusal> {
+    let dealt = book.table.is_unfinished(s);
+    let outcome = steps::step::step(words, s);
+    let answered = outcome.is_ok() && read_waiting(words, s).is_some();
+    let due = book.table.step(s, answered);
+    book.pass_stretch(dealt, answered);
+    if dealt && !answered {
+        book.pass_own(s);
+    }
+    judge_step(
         book,
-        (number == due) & stretch::is_bounded(book) & own::is_bounded(book, s, dealt),
+        s,
+        outcome.map_err(|refusal| refusal.number()) == due,
+        dealt,
     );
-    number
+    outcome
+}
+
+// A step gave the number of the same question on both sides, or none, and the steps are as few as they may be.
+fn judge_step(book: &mut Book, s: u32, agrees: bool, dealt: bool) {
+    let bounded = book.is_stretch_bounded() && (!dealt || book.is_own_bounded(s));
+    book.judge(agrees && bounded);
 }
 
 // A withdrawal. A stretch of steps that answer nobody ends with one that is accepted.
-pub fn withdraw(words: &mut [u32], book: &mut [u64], s: u32) -> u32 {
-    let number = steps::withdraw::withdraw(words, s);
-    let due = reference::withdraw(book, s);
-    judge(book, number == due);
-    if number == 0 {
-        stretch::begin(book);
-    }
-    number
+pub fn withdraw(words: &mut [u32], book: &mut Book, s: u32) -> Result<(), Refusal> {
+    let outcome = steps::withdraw::withdraw(words, s);
+    let due = book.table.withdraw(s);
+    judge_outcome(book, outcome, due);
+    outcome?;
+    book.begin_stretch();
+    Ok(())
 }
 
 // Whether an answer is the one expected.
 fn as_due(answer: Answer, due: Due) -> bool {
-    ((answer.code as u64) == due.code)
-        & same_plain(plain_of(answer.point), due.point)
-        & ((answer.curve as u64) == due.curve)
-        & (answer.square == due.square)
+    answer.code == due.code.number()
+        && PlainPoint::from(answer.point) == due.point
+        && answer.curve == due.curve
+        && answer.square == due.square
 }
 
-// The answer of a taking is the one that the table has. Gives the number of the taking.
-fn judge_taking(book: &mut [u64], s: u32, taking: Taking) -> u32 {
-    match taking {
-        Taking::Refused(number) => number,
-        Taking::Given(answer) => {
-            let due = reference::read_due(book, s);
-            judge(book, as_due(answer, due));
-            count(book, at_code(answer.code));
-            0
-        }
+// A taking, whose answer is the one that the table has.
+pub fn take(words: &mut [u32], book: &mut Book, s: u32) -> Result<Answer, Refusal> {
+    let taking = takings::take::take(words, s);
+    let due = book.table.take(s);
+    if let Ok(answer) = taking {
+        book.judge(due.is_ok_and(|due| as_due(answer, due)));
+        book.count_code(answer.code);
     }
-}
-
-// A taking.
-pub fn take(words: &mut [u32], book: &mut [u64], s: u32) -> u32 {
-    let number = judge_taking(book, s, takings::take::take(words, s));
-    let due = reference::take(book, s);
-    judge(book, number == due);
-    number
+    judge_outcome(book, taking.map(|_| ()), due.map(|_| ()));
+    taking
 }
 
 // The index reports as many places taken as the table counts.
-pub fn judge_report(words: &[u32], book: &mut [u64]) {
-    let report = read_report(words);
-    let due = reference::taken(book);
-    judge(book, (report.number == 0) & (report.taken == due));
+pub fn judge_report(words: &[u32], book: &mut Book) {
+    let due = book.table.taken();
+    book.judge(read_report(words) == Ok(due as u64));
 }
 
 // The audit says yes.
-pub fn judge_audit(words: &[u32], book: &mut [u64]) {
-    let verdict = audit(words);
-    judge(book, (verdict.number == 0) & verdict.sound);
+pub fn judge_audit(words: &[u32], book: &mut Book) {
+    book.judge(audit(words) == Ok(true));
 }
 
 // What is asked after an event: the report, and in a small index the audit.
-pub fn judge_event(words: &[u32], book: &mut [u64]) {
+pub fn judge_event(words: &[u32], book: &mut Book) {
     judge_report(words, book);
-    if get(book, AT_PLACES) <= 100 {
+    if book.table.places <= 100 {
         judge_audit(words, book);
     }
 }
 
 // Steps of one station until it is answered, within the steps that are allowed.
-pub fn run(words: &mut [u32], book: &mut [u64], s: u32) {
-    for _n in 0..most_steps(book) {
-        if reference::state(book, s) != reference::UNFINISHED {
+pub fn run(words: &mut [u32], book: &mut Book, s: u32) {
+    for _ in 0..most_steps(book) {
+        if !book.table.is_unfinished(s) {
             return;
         }
-        step(words, book, s);
+        let _ = step(words, book, s);
     }
-    judge(book, reference::state(book, s) != reference::UNFINISHED);
+    let answered = !book.table.is_unfinished(s);
+    book.judge(answered);
 }
 
-// The answer that waits in a copy of the words, after a run of one station alone, is the table's.
-fn judge_alone(copied: &[u32], book: &mut [u64], s: u32, number: u32) {
-    let due = reference::due_now(book, s);
-    let right = match read_waiting(copied, s) {
-        Waiting::Nothing => false,
-        Waiting::Given(answer) => as_due(answer, due),
-    };
-    judge(book, (number == 0) & right);
+// A whole call: its submission, its steps and its taking.
+pub fn whole(words: &mut [u32], book: &mut Book, s: u32, kind: u32, p: PlainPoint, curve: u32) {
+    let _ = submit(words, book, s, kind, p, curve);
+    run(words, book, s);
+    let _ = take(words, book, s);
 }
 
 // An unfinished call, run alone on a copy of the words, is answered within the steps that are allowed, and as the table says.
-fn alone(words: &[u32], copied: &mut [u32], book: &mut [u64], s: u32) {
-    if reference::state(book, s) == reference::UNFINISHED {
-        copy(words, copied);
-        let number = runs::run::run(copied, s);
-        judge_alone(copied, book, s, number);
+fn alone(words: &[u32], book: &mut Book, s: u32) {
+    if let Some(due) = book.table.due_now(s) {
+        book.copy(words);
+        let outcome = runs::run::run(&mut book.copied, s);
+        let answered = read_waiting(&book.copied, s).is_some_and(|answer| as_due(answer, due));
+        book.judge(outcome.is_ok() && answered);
     }
 }
 
 // The same for every station.
-pub fn all_alone(words: &[u32], copied: &mut [u32], book: &mut [u64]) {
-    for s in 0..8u32 {
-        alone(words, copied, book, s);
+pub fn all_alone(words: &[u32], book: &mut Book) {
+    for s in 0..8 {
+        alone(words, book, s);
     }
 }

@@ -3,15 +3,17 @@
 
 pub mod book;
 pub mod given;
-pub mod list;
-pub mod opening;
-pub mod own;
+mod list;
+mod opening;
+mod own;
 pub mod parts;
+pub mod point;
 pub mod reference;
-pub mod removals;
+mod removals;
 pub mod scale;
-pub mod seeds;
+mod seeds;
 mod square;
-pub mod stretch;
+mod stretch;
+pub mod table;
 pub mod text;
-pub mod verdict;
+mod verdict;

@@ -1,27 +1,24 @@
 // The cases of a text: each begins after an equals sign, and ends where the next begins or where a remark does. A remark begins with a number sign.
-use trial::bytes::byte;
 
-// Where the first case from an offset on begins; the end of the text where there is none.
-pub fn start_from(text: &[u8], from: usize) -> usize {
-    for i in from..text.len() {
-        if byte(text, i) == b'=' {
-            return i + 1;
-        }
+// Up to where a byte stands first; the whole text where it stands nowhere.
+pub fn before(text: &[u8], byte: u8) -> &[u8] {
+    match text.iter().position(|other| *other == byte) {
+        Some(end) => &text[..end],
+        None => text,
     }
-    text.len()
 }
 
-// A case ends before such a byte.
-fn ends(byte: u8) -> bool {
-    (byte == b'=') | (byte == b'#')
+// What stands before the first case or remark.
+pub fn head(text: &[u8]) -> &[u8] {
+    before(before(text, b'='), b'#')
 }
 
-// Where a case that begins at an offset ends.
-pub fn end_from(text: &[u8], start: usize) -> usize {
-    for i in start..text.len() {
-        if ends(byte(text, i)) {
-            return i;
-        }
-    }
-    text.len()
+// A text without an equals sign at its end, after which no case begins.
+pub fn begun(text: &[u8]) -> &[u8] {
+    text.strip_suffix(b"=").unwrap_or(text)
+}
+
+// Whether a text has a case.
+pub fn has_case(text: &[u8]) -> bool {
+    begun(text).contains(&b'=')
 }

@@ -1,235 +1,167 @@
 // The plain table: a list of the records held, a linear scan, and a call at each station. It has no tree and no steps, and never looks at the
 // words of the index.
-use crate::book::{
-    AT_AWAITED, AT_HELD, AT_LIMIT, AT_PLACES, Due, PlainPoint, at_changes, at_station, put_point,
-    read_point,
-};
-use crate::list::{curve_at, drop_record, find, hold, nearest};
-use crate::removals::{release, set_down};
-use crate::scale::{DRY_RULE, read_rule};
-use trial::cells::{count, get, put};
-
-// The states of a station.
-pub const IDLE: u64 = 0;
-
-pub const UNFINISHED: u64 = 1;
-
-pub const WAITING: u64 = 2;
-
-// The state of a station.
-pub fn state(book: &[u64], s: u32) -> u64 {
-    get(book, at_station(s, 0))
-}
-
-// The kind of a station's call.
-pub fn kind(book: &[u64], s: u32) -> u64 {
-    get(book, at_station(s, 1))
-}
-
-// Places taken: the records held and the removals awaited.
-pub fn taken(book: &[u64]) -> u64 {
-    std::num::wrapping_add_u64(get(book, AT_HELD), get(book, AT_AWAITED))
-}
-
-// The greatest moisture under a rule.
-fn most_moisture(rule: u32) -> u64 {
-    if rule == DRY_RULE { 9999 } else { 10000 }
-}
-
-// Whether every coordinate is in range under a rule.
-fn in_range(rule: u32, p: PlainPoint) -> bool {
-    (p.grade < 9999)
-        & (p.weight < 100000)
-        & (p.moisture <= most_moisture(rule))
-        & (p.speed <= 30000)
-        & (p.draw <= 4000)
-}
-
-// The first of questions 7 to 9 that a call fails under a rule, or 0.
-fn call_question(rule: u32, kind: u32, p: PlainPoint, curve: u32) -> u32 {
-    if (kind < 1) | (4 < kind) {
-        return 7;
-    }
-    if !in_range(rule, p) {
-        return 8;
-    }
-    if (kind == 1) & ((curve < 1) | (999999 < curve)) {
-        return 9;
-    }
-    0
-}
+use crate::opening::ask;
+use crate::point::PlainPoint;
+use crate::table::{Call, Code, Due, Record, State, Table};
 
 // An answer with no record and no square.
-fn plain(code: u64, p: PlainPoint, curve: u64) -> Due {
+fn plain(code: Code, point: PlainPoint, curve: u32) -> Due {
     Due {
-        code: code,
-        point: p,
-        curve: curve,
+        code,
+        point,
+        curve,
         square: 0,
     }
 }
 
-// Whether a station has made as many changes as the limit lets each station make.
-fn is_spent(book: &[u64], s: u32) -> bool {
-    get(book, at_changes(s)) == get(book, AT_LIMIT)
-}
+impl Table {
+    // Whether every coordinate is in range under the rule.
+    fn is_point(&self, p: PlainPoint) -> bool {
+        p.grade < 9999
+            && p.weight < 100000
+            && p.moisture <= self.scale.most_moisture()
+            && p.speed <= 30000
+            && p.draw <= 4000
+    }
 
-// The answer of a station's add at this moment.
-fn add_due(book: &[u64], s: u32, p: PlainPoint, curve: u64) -> Due {
-    let i = find(book, p);
-    if i < get(book, AT_HELD) {
-        return plain(2, p, curve_at(book, i));
+    // The call of a kind: the number of the first of questions 7 to 9 that fails.
+    fn call_of(&self, kind: u32, point: PlainPoint, curve: u32) -> Result<Call, u32> {
+        ask(1 <= kind && kind <= 4, 7)?;
+        ask(self.is_point(point), 8)?;
+        ask(kind != 1 || (1 <= curve && curve <= 999999), 9)?;
+        Ok(match kind {
+            1 => Call::Add(Record { point, curve }),
+            2 => Call::Remove(point),
+            3 => Call::Contains(point),
+            _ => Call::Nearest(point, self.nearest(point)),
+        })
     }
-    if is_spent(book, s) {
-        return plain(4, p, 0);
-    }
-    if taken(book) == get(book, AT_PLACES) {
-        return plain(3, p, 0);
-    }
-    plain(1, p, curve)
-}
 
-// The answer of a station's remove at this moment.
-fn remove_due(book: &[u64], s: u32, p: PlainPoint) -> Due {
-    let i = find(book, p);
-    if get(book, AT_HELD) <= i {
-        return plain(6, p, 0);
+    // Whether a station has made as many changes as the limit lets each station make.
+    fn is_spent(&self, s: u32) -> bool {
+        self.stations
+            .get(s as usize)
+            .is_some_and(|station| station.changes == self.limit)
     }
-    if is_spent(book, s) {
-        return plain(4, p, 0);
-    }
-    plain(5, p, curve_at(book, i))
-}
 
-// The answer of a contains at this moment.
-fn contains_due(book: &[u64], p: PlainPoint) -> Due {
-    let i = find(book, p);
-    if i < get(book, AT_HELD) {
-        plain(7, p, curve_at(book, i))
-    } else {
-        plain(6, p, 0)
+    // The answer of a station's add at this moment.
+    fn add_due(&self, s: u32, record: Record) -> Due {
+        let point = record.point;
+        if let Some(old) = self.held(point) {
+            plain(Code::Held, point, old.curve)
+        } else if self.is_spent(s) {
+            plain(Code::Spent, point, 0)
+        } else if self.is_full() {
+            plain(Code::Full, point, 0)
+        } else {
+            plain(Code::Added, point, record.curve)
+        }
     }
-}
 
-// The answer that waits or was set down at a station.
-pub fn read_due(book: &[u64], s: u32) -> Due {
-    Due {
-        code: get(book, at_station(s, 8)),
-        point: read_point(book, at_station(s, 9)),
-        curve: get(book, at_station(s, 14)),
-        square: get(book, at_station(s, 15)),
+    // The answer of a station's remove at this moment.
+    fn remove_due(&self, s: u32, point: PlainPoint) -> Due {
+        match self.held(point) {
+            None => plain(Code::Absent, point, 0),
+            Some(_) if self.is_spent(s) => plain(Code::Spent, point, 0),
+            Some(record) => plain(Code::Removed, point, record.curve),
+        }
     }
-}
 
-// Sets an answer down.
-fn put_due(book: &mut [u64], s: u32, due: Due) {
-    put(book, at_station(s, 8), due.code);
-    put_point(book, at_station(s, 9), due.point);
-    put(book, at_station(s, 14), due.curve);
-    put(book, at_station(s, 15), due.square);
-}
+    // The answer of a contains at this moment.
+    fn contains_due(&self, point: PlainPoint) -> Due {
+        match self.held(point) {
+            Some(record) => plain(Code::Contained, point, record.curve),
+            None => plain(Code::Absent, point, 0),
+        }
+    }
 
-// The answer that a station's unfinished call gets if it is answered now; a nearest has it from its submission.
-pub fn due_now(book: &[u64], s: u32) -> Due {
-    let p = read_point(book, at_station(s, 2));
-    match kind(book, s) {
-        1 => add_due(book, s, p, get(book, at_station(s, 7))),
-        2 => remove_due(book, s, p),
-        3 => contains_due(book, p),
-        _ => read_due(book, s),
+    // The answer that a station's unfinished call gets if it is answered now; a nearest has it from its submission.
+    pub fn due_now(&self, s: u32) -> Option<Due> {
+        match self.state(s) {
+            State::Unfinished(Call::Add(record)) => Some(self.add_due(s, record)),
+            State::Unfinished(Call::Remove(point)) => Some(self.remove_due(s, point)),
+            State::Unfinished(Call::Contains(point)) => Some(self.contains_due(point)),
+            State::Unfinished(Call::Nearest(_, due)) => Some(due),
+            _ => None,
+        }
     }
-}
 
-// A change takes effect, and its station counts it. Any other answer changes nothing.
-fn apply(book: &mut [u64], s: u32, due: Due) {
-    if due.code == 1 {
-        hold(book, due.point, due.curve);
-        count(book, at_changes(s));
-        return;
+    // A station does something else.
+    fn put_state(&mut self, s: u32, state: State) {
+        if let Some(station) = self.stations.get_mut(s as usize) {
+            station.state = state;
+        }
     }
-    if due.code == 5 {
-        drop_record(book, due.point);
-        set_down(book);
-        count(book, at_changes(s));
-    }
-}
 
-// An answer waits at a station, for whose call no removal is kept any more.
-fn wait(book: &mut [u64], s: u32, due: Due) {
-    put_due(book, s, due);
-    put(book, at_station(s, 0), WAITING);
-    release(book, s);
-}
+    // A station has made a change.
+    fn count_change(&mut self, s: u32) {
+        if let Some(station) = self.stations.get_mut(s as usize) {
+            station.changes = station.changes.saturating_add(1);
+        }
+    }
 
-// The call of a station is answered.
-fn answer(book: &mut [u64], s: u32) {
-    let due = due_now(book, s);
-    wait(book, s, due);
-    apply(book, s, due);
-}
+    // A change takes effect, and its station counts it. Any other answer changes nothing.
+    fn apply(&mut self, s: u32, due: Due) {
+        match due.code {
+            Code::Added => {
+                self.hold(Record {
+                    point: due.point,
+                    curve: due.curve,
+                });
+                self.count_change(s);
+            }
+            Code::Removed => {
+                self.drop_record(due.point);
+                self.set_down();
+                self.count_change(s);
+            }
+            _ => {}
+        }
+    }
 
-// The call is written at its station. The answer of a nearest is for the records held now.
-fn write_call(book: &mut [u64], s: u32, kind: u32, p: PlainPoint, curve: u32) {
-    put(book, at_station(s, 0), UNFINISHED);
-    put(book, at_station(s, 1), kind as u64);
-    put_point(book, at_station(s, 2), p);
-    put(book, at_station(s, 7), curve as u64);
-    if kind == 4 {
-        let due = nearest(book, p);
-        put_due(book, s, due);
+    // An answer waits at a station, for whose call no removal is kept any more.
+    fn wait(&mut self, s: u32, due: Due) {
+        self.put_state(s, State::Waiting(due));
+        self.release(s);
     }
-}
 
-// A submission: the number of the first of questions 5 to 9 that fails, or 0.
-pub fn submit(book: &mut [u64], s: u32, kind: u32, p: PlainPoint, curve: u32) -> u32 {
-    if 8 <= s {
-        return 5;
+    // A submission: the number of the first of questions 5 to 9 that fails.
+    pub fn submit(&mut self, s: u32, kind: u32, point: PlainPoint, curve: u32) -> Result<(), u32> {
+        ask(s < 8, 5)?;
+        ask(self.is_idle(s), 6)?;
+        let call = self.call_of(kind, point, curve)?;
+        self.put_state(s, State::Unfinished(call));
+        Ok(())
     }
-    if state(book, s) != IDLE {
-        return 6;
-    }
-    let failed = call_question(read_rule(book), kind, p, curve);
-    if failed == 0 {
-        write_call(book, s, kind, p, curve);
-    }
-    failed
-}
 
-// A step, which answers or not: the number of the first of questions 5 and 10 that fails, or 0.
-pub fn step(book: &mut [u64], s: u32, answers: bool) -> u32 {
-    if 8 <= s {
-        return 5;
+    // A step, which answers or not: the number of the first of questions 5 and 10 that fails.
+    pub fn step(&mut self, s: u32, answers: bool) -> Result<(), u32> {
+        ask(s < 8, 5)?;
+        ask(self.is_unfinished(s), 10)?;
+        if answers && let Some(due) = self.due_now(s) {
+            self.wait(s, due);
+            self.apply(s, due);
+        }
+        Ok(())
     }
-    if state(book, s) != UNFINISHED {
-        return 10;
-    }
-    if answers {
-        answer(book, s);
-    }
-    0
-}
 
-// A withdrawal, after which 11 waits: the number of the first of questions 5 and 10 that fails, or 0.
-pub fn withdraw(book: &mut [u64], s: u32) -> u32 {
-    if 8 <= s {
-        return 5;
+    // A withdrawal, after which 11 waits: the number of the first of questions 5 and 10 that fails.
+    pub fn withdraw(&mut self, s: u32) -> Result<(), u32> {
+        ask(s < 8, 5)?;
+        let State::Unfinished(call) = self.state(s) else {
+            return Err(10);
+        };
+        self.wait(s, plain(Code::Withdrawn, call.point(), 0));
+        Ok(())
     }
-    if state(book, s) != UNFINISHED {
-        return 10;
-    }
-    let due = plain(11, read_point(book, at_station(s, 2)), 0);
-    wait(book, s, due);
-    0
-}
 
-// A taking: the number of the first of questions 5 and 12 that fails, or 0.
-pub fn take(book: &mut [u64], s: u32) -> u32 {
-    if 8 <= s {
-        return 5;
+    // A taking gives the answer that waits: the number of the first of questions 5 and 12 that fails.
+    pub fn take(&mut self, s: u32) -> Result<Due, u32> {
+        ask(s < 8, 5)?;
+        let State::Waiting(due) = self.state(s) else {
+            return Err(12);
+        };
+        self.put_state(s, State::Idle);
+        Ok(due)
     }
-    if state(book, s) != WAITING {
-        return 12;
-    }
-    put(book, at_station(s, 0), IDLE);
-    0
 }

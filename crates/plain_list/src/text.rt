@@ -1,186 +1,90 @@
 // The text of a case. Bars part its sections: its name, what it counts, its items, and where two parties meet the items of each. An item is a
 // letter and up to nine numbers, and ends with a semicolon.
-use trial::bytes::{byte, grown};
-use trial::cells::low;
+use std::alloc::{AllocError, Global};
 
 // The letter of an item that is written in another way. No event has it, so that its case is wrong.
 const UNKNOWN: u8 = b'?';
 
-// An item: its letter, 0 where there is no such item, and its numbers, 0 where they are left out.
+// An item: its letter and its numbers, 0 where they are left out.
 #[derive(Clone, Copy)]
 pub struct Item {
     pub letter: u8,
     pub n: [u32; 9],
 }
 
-// A position in a text: sections and items passed.
-#[derive(Clone, Copy)]
-struct Position {
-    section: u32,
-    item: u32,
-}
-
-// An item as far as it is read: the numbers begun, whether the last byte was a digit, and whether the item has ended.
-#[derive(Clone, Copy)]
+// An item as far as it is read: its letter, its numbers, how many of them have begun, and whether the last byte was a digit.
+#[derive(Clone, Copy, Default)]
 struct Reading {
-    item: Item,
+    letter: Option<u8>,
+    n: [u32; 9],
     begun: usize,
     digit: bool,
-    ended: bool,
 }
 
-// One more, which stops at a great number.
-fn more(x: u32) -> u32 {
-    if x < 1000000 { x + 1 } else { x }
+// A number after one more digit, none where it does not fit.
+fn grown(x: u32, digit: u8) -> Option<u32> {
+    x.checked_mul(10)?.checked_add(u32::from(digit % 16))
 }
 
-// The position after a byte.
-fn past(position: Position, byte: u8) -> Position {
-    match byte {
-        b'|' => Position {
-            section: more(position.section),
-            item: 0,
-        },
-        b';' => Position {
-            section: position.section,
-            item: more(position.item),
-        },
-        _ => position,
-    }
-}
-
-// How many bars a text has.
-pub fn bars(text: &[u8]) -> u32 {
-    let mut position = Position {
-        section: 0,
-        item: 0,
-    };
-    for i in 0..text.len() {
-        position = past(position, byte(text, i));
-    }
-    position.section
-}
-
-// Where an item begins; the end of the text where there is none.
-pub fn start_of(text: &[u8], section: u32, item: u32) -> usize {
-    let mut position = Position {
-        section: 0,
-        item: 0,
-    };
-    for i in 0..text.len() {
-        if (position.section == section) & (position.item == item) {
-            return i;
+impl Reading {
+    // A digit goes to the number begun, or begins the next one. It is out of place before the letter, in a tenth number, and in one that does not fit.
+    fn digit(mut self, digit: u8) -> Reading {
+        if !self.digit {
+            self.begun = self.begun.saturating_add(1);
         }
-        position = past(position, byte(text, i));
-    }
-    text.len()
-}
-
-// The number of an item at an index; 0 where it has none.
-fn number_at(n: [u32; 9], at: usize) -> u64 {
-    if at < 9 { n[at] as u64 } else { 0 }
-}
-
-// The numbers of an item with another at an index.
-fn with_number(n: [u32; 9], at: usize, x: u32) -> [u32; 9] {
-    let mut m = n;
-    if at < 9 {
-        m[at] = x;
-    }
-    m
-}
-
-// The numbers begun after a digit: one more, unless the byte before it was a digit too. Ten stands for more than nine.
-fn begun_after(begun: usize, digit: bool) -> usize {
-    if digit {
-        return begun;
-    }
-    if 10 <= begun {
-        return begun;
-    }
-    begun + 1
-}
-
-// The index of the last number begun.
-fn last(begun: usize) -> usize {
-    if 0 < begun { begun - 1 } else { 0 }
-}
-
-// A digit goes to the number begun, or begins the next one. It is out of place before the letter, in a tenth number, and in one that does not fit.
-fn digit_read(r: Reading, digit: u8) -> Reading {
-    let old = r.item;
-    let numbers = old.n;
-    let begun = begun_after(r.begun, r.digit);
-    let x = grown(number_at(numbers, last(begun)), digit);
-    let placed = (old.letter != 0) & (begun <= 9) & (x < 4294967296);
-    let n = with_number(numbers, last(begun), low(x));
-    Reading {
-        item: Item {
-            letter: if placed { old.letter } else { UNKNOWN },
-            n: n,
-        },
-        begun: begun,
-        digit: true,
-        ended: false,
-    }
-}
-
-// The letter of an item after a byte that is no digit: a blank leaves it, and a second letter and a semicolon without one are out of place.
-fn letter_after(letter: u8, byte: u8) -> u8 {
-    match byte {
-        0..=b' ' | b'|' => letter,
-        b';' => if letter == 0 { UNKNOWN } else { letter },
-        _ => if letter == 0 { byte } else { UNKNOWN },
-    }
-}
-
-// Any other byte: an end, a blank, or the item's letter.
-fn other_read(r: Reading, byte: u8) -> Reading {
-    let old = r.item;
-    let n = old.n;
-    Reading {
-        item: Item {
-            letter: letter_after(old.letter, byte),
-            n: n,
-        },
-        begun: r.begun,
-        digit: false,
-        ended: (byte == b';') | (byte == b'|'),
-    }
-}
-
-// One more byte of an item; nothing changes after its end.
-fn read(r: Reading, byte: u8) -> Reading {
-    if r.ended {
-        return r;
-    }
-    match byte {
-        b'0'..=b'9' => digit_read(r, byte),
-        _ => other_read(r, byte),
-    }
-}
-
-// The item that begins at an offset.
-fn item_from(text: &[u8], start: usize) -> Item {
-    let mut r = Reading {
-        item: Item {
-            letter: 0,
-            n: [0; 9],
-        },
-        begun: 0,
-        digit: false,
-        ended: false,
-    };
-    for i in start..text.len() {
-        if r.ended {
-            return r.item;
+        self.digit = true;
+        let lettered = self.letter.is_some();
+        let last = self.begun.saturating_sub(1);
+        if let Some(place) = self.n.get_mut(last)
+            && lettered
+            && let Some(x) = grown(*place, digit)
+        {
+            *place = x;
+        } else {
+            self.letter = Some(UNKNOWN);
         }
-        r = read(r, byte(text, i));
+        self
     }
-    r.item
+
+    // A byte that is no digit: a blank, the item's letter, or its end. A second letter is out of place, and so is an end with no letter before it.
+    fn other(mut self, byte: u8) -> Reading {
+        self.digit = false;
+        self.letter = match (byte, self.letter) {
+            (0..=b' ', letter) => letter,
+            (b';', letter) => letter.or(Some(UNKNOWN)),
+            (_, None) => Some(byte),
+            _ => Some(UNKNOWN),
+        };
+        self
+    }
+
+    // One more byte.
+    fn read(self, byte: u8) -> Reading {
+        if byte.is_ascii_digit() {
+            self.digit(byte)
+        } else {
+            self.other(byte)
+        }
+    }
 }
 
-// An item of a section.
-pub fn item_of(text: &[u8], section: u32, item: u32) -> Item {
-    item_from(text, start_of(text, section, item))
+// An item from its text, none from blanks alone.
+fn item_of(text: &[u8]) -> Option<Item> {
+    let read = text
+        .iter()
+        .fold(Reading::default(), |read, byte| read.read(*byte));
+    read.letter.map(|letter| Item { letter, n: read.n })
+}
+
+// The items of a section.
+pub fn items_of(alloc: Global, section: &[u8]) -> Result<Vec<Item>, AllocError> {
+    section
+        .split_inclusive(|byte| *byte == b';')
+        .filter_map(item_of)
+        .collect(alloc)
+}
+
+// The sections of a case.
+pub fn sections_of<'a>(alloc: Global, text: &'a [u8]) -> Result<Vec<&'a [u8]>, AllocError> {
+    text.split(|byte| *byte == b'|').collect(alloc)
 }

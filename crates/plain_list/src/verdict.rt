@@ -1,36 +1,37 @@
 // Checks are counted: one is right or wrong, and a case has as many as were made since it began.
-use crate::book::{
-    AT_CHECKS, AT_LONGEST, AT_MOST_OWN, AT_SHARE, AT_TRIED, AT_WRONG, CODES, at_code,
-};
-use trial::cells::{count, get, put};
+use crate::book::{Book, Tally};
 
-// One check, right or wrong.
-pub fn judge(book: &mut [u64], right: bool) {
-    count(book, AT_CHECKS);
-    if !right {
-        count(book, AT_WRONG);
+impl Book {
+    // One check, right or wrong.
+    pub fn judge(&mut self, right: bool) {
+        self.case.checks = self.case.checks.saturating_add(1);
+        if !right {
+            self.case.wrong = self.case.wrong.saturating_add(1);
+        }
     }
-}
 
-// One more thing tried.
-pub fn tried(book: &mut [u64]) {
-    count(book, AT_TRIED);
-}
+    // One more thing tried.
+    pub fn tried(&mut self) {
+        self.case.tried = self.case.tried.saturating_add(1);
+    }
 
-// Whether takings gave answers of a code in the case under way.
-pub fn met(book: &[u64], code: u32) -> bool {
-    0 < get(book, at_code(code))
-}
+    // A taking gave an answer of a code.
+    pub fn count_code(&mut self, code: u32) {
+        if let Some(count) = self.case.codes.get_mut(code as usize) {
+            *count = count.saturating_add(1);
+        }
+    }
 
-// A new case begins.
-pub fn begin_case(book: &mut [u64]) {
-    put(book, AT_TRIED, 0);
-    put(book, AT_CHECKS, 0);
-    put(book, AT_WRONG, 0);
-    put(book, AT_LONGEST, 0);
-    put(book, AT_MOST_OWN, 0);
-    put(book, AT_SHARE, 0);
-    for code in 0..CODES {
-        put(book, at_code(code), 0);
+    // Whether takings gave answers of a code in the case under way.
+    pub fn met(&self, code: u32) -> bool {
+        self.case
+            .codes
+            .get(code as usize)
+            .is_some_and(|count| 0 < *count)
+    }
+
+    // A new case begins.
+    pub fn begin_case(&mut self) {
+        self.case = Tally::default();
     }
 }

@@ -15,8 +15,8 @@ use lib.IntN.{ℤ, nat_abs, ◌+ℤ◌, ◌-ℤ◌}
 use lib.Signed.{lt_z, mag}
 use Rattle.points.specs.declared.point.Point.{Point}
 use Rattle.points.specs.declared.cut.Cut.{Cut}
-use Rattle.points.specs.declared.order.Order.{Order}
-use Rattle.points.specs.declared.order.Order.TheVariants.{Less, Equal, Greater}
+use Rattle.std.specs.declared.cmp.Ordering.{Ordering}
+use Rattle.std.specs.declared.cmp.Ordering.TheVariants.{Less, Equal, Greater}
 use Rattle.points.specs.Point.{range_of, coordinate_of}
 use Rattle.points.specs.Number.{number_of}
 use Rattle.points.specs.Order.{by_axis, tie_of, is_less, is_equal}
@@ -34,7 +34,7 @@ grade_equal : (a b : Point) → same_grade a b ≡ true → coordinate_of a 1 �
 unfolding same_grade
 grade_equal a b e = go (by_axis a b 1) refl
   where
-    go : (o : Order) → by_axis a b 1 ≡ o → coordinate_of a 1 ≡ coordinate_of b 1
+    go : (o : Ordering) → by_axis a b 1 ≡ o → coordinate_of a 1 ≡ coordinate_of b 1
     go Less f = no! (sym (ap is_equal f) ∙ e)
     go Equal f = axis_equal a b 1 f
     go Greater f = no! (sym (ap is_equal f) ∙ e)
@@ -68,7 +68,7 @@ module _ (square : Point → Point → ℕ) where
   unfolding chosen_by
   chosen t a b = go (ltb (square t a) (square t b)) refl (ltb (square t b) (square t a)) refl (tie_of a b) refl
     where
-      go : (s : Bool) → ltb (square t a) (square t b) ≡ s → (u : Bool) → ltb (square t b) (square t a) ≡ u → (o : Order) → tie_of a b ≡ o
+      go : (s : Bool) → ltb (square t a) (square t b) ≡ s → (u : Bool) → ltb (square t b) (square t a) ≡ u → (o : Ordering) → tie_of a b ≡ o
           → cond s true (cond u false (is_less o)) ≡ true → Reason t a b
       go true e u f o g h = by_square (ltb-true (square t a) (square t b) e)
       go false e true f o g h = no! h
@@ -133,7 +133,7 @@ module _ (square : Point → Point → ℕ) where
       lost : Reason t a b → ⊥
       lost c = true≢false (sym (choose t a b c) ∙ e)
 
-      go : (s : Bool) → ltb (square t a) (square t b) ≡ s → (u : Bool) → ltb (square t b) (square t a) ≡ u → (o : Order) → tie_of a b ≡ o → Reason t b a
+      go : (s : Bool) → ltb (square t a) (square t b) ≡ s → (u : Bool) → ltb (square t b) (square t a) ≡ u → (o : Ordering) → tie_of a b ≡ o → Reason t b a
       go true f u g o h = absurd (lost (by_square (ltb-true (square t a) (square t b) f)))
       go false f true g o h = by_square (ltb-true (square t b) (square t a) g)
       go false f false g Less h = absurd (lost (by_tie (omega (arith, ltb-false (square t a) (square t b) f, ltb-false (square t b) (square t a) g)) h))

@@ -1,32 +1,34 @@
--- A comparison goes axis by axis (`compared_on`) and ends at the first that differs, or at the last (`compared_there`); what it tells of the number
+-- A comparison goes axis by axis (`compared_at_next`) and ends at the first that differs, or at the last (`compared_at_end`, `compared_at_last`); what it tells of the number
 -- of axes that it looked at, in words, is `looked_first`, and `looked_only`: these words fit no other number.
 use Prim.Native.Nat.{ℕ, zero, suc, ◌+◌, ◌-◌, ◌≤◌, ◌<◌}
 use mathlib.Core.Path.{◌≡◌, refl, sym, ap, ◌∙◌, subst}
 use mathlib.Core.Logic.{◌⊎◌, inl, inr}
-use mathlib.Core.Bool.{Bool, true, false, cond, ◌&&◌}
+use mathlib.Core.Bool.{Bool, true, false, cond}
 use native.Mathlib.Omega.{arith}
+use native.Mathlib.Numerals.{add-one}
 use borrow.Author.Tests.{ltb-true, ltb-false}
 use lib.Dec.{ltb}
 use Rattle.points.specs.declared.point.Point.{Point}
-use Rattle.points.specs.declared.order.Order.{Order}
-use Rattle.points.specs.declared.order.Order.TheVariants.{Less, Equal, Greater}
+use Rattle.std.specs.declared.cmp.Ordering.{Ordering}
+use Rattle.std.specs.declared.cmp.Ordering.TheVariants.{Less, Equal, Greater}
+use Rattle.std.specs.Ordering.{ordering_then, is_ne}
 use Rattle.points.specs.declared.order.Compared.{Compared}
 use Rattle.points.specs.Point.{coordinate_of}
-use Rattle.points.specs.Order.{by_axis, then_of, order_of, is_equal, looked_of, compared_of, Looked}
+use Rattle.points.specs.Order.{by_axis, order_of, is_equal, looked_of, compared_of, Looked}
 use Rattle.points.proofs.Tests.{no! }
 use Rattle.points.proofs.OrderLaws.{axis_equal, axis_same, points_equal}
 
 -- the order from axis k on, with n axes after it, and how many axes it takes
-order_from : Point → Point → ℕ → ℕ → Order
+order_from : Point → Point → ℕ → ℕ → Ordering
 order_from a b zero k = by_axis a b k
-order_from a b (suc n) k = then_of (by_axis a b k) (order_from a b n (suc k))
+order_from a b (suc n) k = ordering_then (by_axis a b k) (order_from a b n (suc k))
 
 looked_from : Point → Point → ℕ → ℕ → ℕ
 looked_from a b zero k = k
 looked_from a b (suc n) k = cond (is_equal (by_axis a b k)) (looked_from a b n (suc k)) k
 
 -- what a comparison tells where it ends
-abbrev pub told : Order → ℕ → Compared
+abbrev pub told : Ordering → ℕ → Compared
 told order looked = record { order = order; looked = looked }
 
 pub compared_from : Point → Point → ℕ → ℕ → Compared
@@ -42,8 +44,8 @@ module _ (a b : Point) where
   unfolding compared_from order_from looked_from
   compared_on n k e = go (by_axis a b k) e
     where
-      go : (o : Order) → is_equal o ≡ true
-          → told (then_of o (order_from a b n (suc k))) (cond (is_equal o) (looked_from a b n (suc k)) k) ≡ told (order_from a b n (suc k)) (looked_from a b n (suc k))
+      go : (o : Ordering) → is_equal o ≡ true
+          → told (ordering_then o (order_from a b n (suc k))) (cond (is_equal o) (looked_from a b n (suc k)) k) ≡ told (order_from a b n (suc k)) (looked_from a b n (suc k))
       go Less e = no! e
       go Equal e = refl
       go Greater e = no! e
@@ -54,7 +56,7 @@ module _ (a b : Point) where
   compared_ends zero k e = refl
   compared_ends (suc n) k e = go (by_axis a b k) e
     where
-      go : (o : Order) → is_equal o ≡ false → told (then_of o (order_from a b n (suc k))) (cond (is_equal o) (looked_from a b n (suc k)) k) ≡ told o k
+      go : (o : Ordering) → is_equal o ≡ false → told (ordering_then o (order_from a b n (suc k))) (cond (is_equal o) (looked_from a b n (suc k)) k) ≡ told o k
       go Less e = refl
       go Equal e = no! (sym e)
       go Greater e = refl
@@ -64,13 +66,37 @@ module _ (a b : Point) where
   unfolding compared_from order_from looked_from
   compared_last k = refl
 
-  -- at either, as a test
-  pub compared_there : (k : ℕ) → (is_equal (by_axis a b k) && ltb k 5) ≡ false → compared_from a b (5 - k) k ≡ told (by_axis a b k) k
-  compared_there k e = go (is_equal (by_axis a b k)) refl e
+  -- ---- the comparison from axis k on
+  pub compared_at : ℕ → Compared
+  compared_at k = compared_from a b (5 - k) k
+
+  pub compared_at_first : compared_of a b ≡ compared_at 1
+  unfolding compared_at
+  compared_at_first = compared_first
+
+  pub compared_at_next : (k : ℕ) → k < 5 → is_ne (by_axis a b k) ≡ false → compared_at k ≡ compared_at (k + 1)
+  unfolding compared_at
+  compared_at_next k h e =
+      let one : 5 - k ≡ suc (5 - (k + 1)) = omega arith in
+      ap (λ (n : ℕ). compared_from a b n k) one ∙ compared_on (5 - (k + 1)) k (go (by_axis a b k) e) ∙ ap (compared_from a b (5 - (k + 1))) (sym (add-one k))
     where
-      go : (t : Bool) → is_equal (by_axis a b k) ≡ t → (t && ltb k 5) ≡ false → compared_from a b (5 - k) k ≡ told (by_axis a b k) k
-      go true f e = let none : 5 - k ≡ 0 = omega (arith, ltb-false k 5 e) in ap (λ (n : ℕ). compared_from a b n k) none ∙ compared_last k
-      go false f e = compared_ends (5 - k) k f
+      go : (o : Ordering) → is_ne o ≡ false → is_equal o ≡ true
+      go Less e = no! (sym e)
+      go Equal e = refl
+      go Greater e = no! (sym e)
+
+  pub compared_at_end : (k : ℕ) → is_ne (by_axis a b k) ≡ true → compared_at k ≡ told (by_axis a b k) k
+  unfolding compared_at
+  compared_at_end k e = compared_ends (5 - k) k (go (by_axis a b k) e)
+    where
+      go : (o : Ordering) → is_ne o ≡ true → is_equal o ≡ false
+      go Less e = refl
+      go Equal e = no! e
+      go Greater e = refl
+
+  pub compared_at_last : compared_at 5 ≡ told (by_axis a b 5) 5
+  unfolding compared_at
+  compared_at_last = compared_last 5
 
   -- ---- how many axes are looked at
 
@@ -93,7 +119,7 @@ module _ (a b : Point) where
   is_equal_lem : (k : ℕ) → is_equal (by_axis a b k) ≡ true → coordinate_of a k ≡ coordinate_of b k
   is_equal_lem k e = axis_equal a b k (go (by_axis a b k) e)
     where
-      go : (o : Order) → is_equal o ≡ true → o ≡ Equal
+      go : (o : Ordering) → is_equal o ≡ true → o ≡ Equal
       go Less e = no! e
       go Equal e = refl
       go Greater e = no! e
@@ -137,3 +163,5 @@ module _ (a b : Point) where
   pub compared_tells : ((compared_of a b).order ≡ order_of a b) × Looked a b (compared_of a b).looked
   unfolding compared_of
   compared_tells = (refl, looked_first)
+
+pub ruleset comparison = (compared_at_first, compared_at_next, compared_at_end, compared_at_last)

@@ -2,8 +2,9 @@
 -- Assumes nothing.
 use mathlib.Core.Path.{◌≡◌, refl, sym, ap, ◌∙◌}
 use mathlib.Core.Bool.{Bool, true, false, not, ◌||◌}
-use Prim.Native.Nat.{ℕ, suc, ◌+◌, ◌≤◌, ◌<◌}
+use Prim.Native.Nat.{ℕ, zero, suc, ◌+◌, ◌≤◌, ◌<◌}
 use native.Mathlib.Omega.{arith}
+use native.Mathlib.Numerals.{add-one}
 use borrow.Author.Tests.{ltb-true, ltb-false, lt-ltb, le-ltb, le-leb, eqb-false}
 use native.Mathlib.Decide.{dec_le}
 use lib.Dec.{ltb, eqb, lit≤}
@@ -196,3 +197,27 @@ module _ (rule : ℕ) (a b : Point) (ra : in_range_by rule a ≡ true) (rb : in_
         from = omega (arith, raise_add x y wx.near wy.near, raise_add (number_range_of k).low (number_range_of k).low r.low r.low, wx.from, wy.from);
         to = omega (arith, raise_add x y wx.near wy.near, raise_add (number_range_of k).high (number_range_of k).high r.high r.high, wx.to, wy.to);
       })))
+
+-- the widest on the axes that a rule goes by before the k-th
+pub widest_before : ℕ → Point → Point → ℕ → Spread
+widest_before rule a b zero = spread_of a b (axis_of rule 1)
+widest_before rule a b (suc zero) = spread_of a b (axis_of rule 1)
+widest_before rule a b (suc (suc zero)) = spread_of a b (axis_of rule 1)
+widest_before rule a b (suc (suc (suc n))) = wider_of (widest_before rule a b (suc (suc n))) (spread_of a b (axis_of rule (suc (suc n))))
+
+module _ (rule : ℕ) (a b : Point) where
+  pub widest_first : widest_before rule a b 2 ≡ spread_of a b (axis_of rule 1)
+  unfolding widest_before
+  widest_first = refl
+
+  pub widest_next : (k : ℕ) → 2 ≤ k → wider_of (widest_before rule a b k) (spread_of a b (axis_of rule k)) ≡ widest_before rule a b (k + 1)
+  unfolding widest_before
+  widest_next zero h = absurd (omega arith)
+  widest_next (suc zero) h = absurd (omega arith)
+  widest_next (suc (suc n)) h = rw (add-one (suc (suc n)))
+
+  pub widest_last : (widest_before rule a b 6).axis ≡ widest_of rule a b
+  unfolding widest_before widest_of
+  widest_last = refl
+
+pub ruleset widening = (widest_first, widest_next, widest_last)

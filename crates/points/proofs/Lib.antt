@@ -1,6 +1,7 @@
 pub mod Tests
 pub mod IntegerLaws
 pub mod MachineLaws
+pub mod SignedLaws
 pub mod PointLaws
 pub mod NumberLaws
 pub mod OrderLaws

@@ -1,7 +1,7 @@
 -- Law 2: the order of points is total, transitive, and equal only for equal points (`order_equal`, `order_turn`, `order_trans`).
 -- Assumes nothing.
 use mathlib.Core.Path.{◌≡◌, refl, sym, ap, ◌∙◌}
-use mathlib.Core.Bool.{Bool, true, false}
+use mathlib.Core.Bool.{Bool, true, false, cond}
 use Prim.Native.Nat.{ℕ, suc, ◌+◌, ◌<◌}
 use native.Mathlib.Omega.{arith}
 use borrow.Author.Tests.{ltb-true, ltb-false, lt-ltb, le-ltb}
@@ -9,15 +9,16 @@ use lib.Dec.{ltb}
 use lib.IntN.{ℤ}
 use lib.Signed.{lt_z, mag}
 use Rattle.points.specs.declared.point.Point.{Point}
-use Rattle.points.specs.declared.order.Order.{Order}
-use Rattle.points.specs.declared.order.Order.TheVariants.{Less, Equal, Greater}
+use Rattle.std.specs.declared.cmp.Ordering.{Ordering}
+use Rattle.std.specs.declared.cmp.Ordering.TheVariants.{Less, Equal, Greater}
+use Rattle.std.specs.Ordering.{int_cmp, ordering_then}
 use Rattle.points.specs.Point.{coordinate_of}
-use Rattle.points.specs.Order.{pick_order, by_axis, then_of, order_of, is_equal, same_point}
+use Rattle.points.specs.Order.{by_axis, order_of, is_equal, same_point}
 use Rattle.points.proofs.Tests.{no! }
 use Rattle.points.proofs.IntegerLaws.{raise, Near, lt_z_raise, raise_inj}
 
 -- the same two, the other way round
-abbrev pub turned : Order → Order
+abbrev pub turned : Ordering → Ordering
 turned Less = Greater
 turned Equal = Equal
 turned Greater = Less
@@ -29,12 +30,12 @@ clash e = absurd (omega arith)
 -- ---- one axis
 
 -- the order of two numbers
-numbers : ℤ → ℤ → Order
-numbers x y = pick_order (lt_z x y) Less (pick_order (lt_z y x) Greater Equal)
+numbers : ℤ → ℤ → Ordering
+numbers x y = int_cmp x y
 
 -- the same of natural numbers
-naturals : ℕ → ℕ → Order
-naturals m n = pick_order (ltb m n) Less (pick_order (ltb n m) Greater Equal)
+naturals : ℕ → ℕ → Ordering
+naturals m n = cond (ltb m n) Less (cond (ltb n m) Greater Equal)
 
 module _ (m n : ℕ) where
   naturals_less : m < n → naturals m n ≡ Less
@@ -87,7 +88,7 @@ module _ (x y z : ℤ) where
   near_z = record { near = omega arith }
 
 -- ---- what an order of points obeys
-pub record Ordered (o : Point → Point → Order) : Type 0 where
+pub record Ordered (o : Point → Point → Ordering) : Type 0 where
   pub self : (a : Point) → o a a ≡ Equal
   pub turn : (a b : Point) → o b a ≡ turned (o a b)
   pub like : (a b c : Point) → o a b ≡ Equal → o a c ≡ o b c
@@ -172,7 +173,7 @@ pub axis_less : (a b : Point) (k : ℕ) → by_axis a b k ≡ Less → lt_z (coo
 unfolding by_axis
 axis_less a b k = go (lt_z (coordinate_of a k) (coordinate_of b k)) (lt_z (coordinate_of b k) (coordinate_of a k))
   where
-    go : (s t : Bool) → pick_order s Less (pick_order t Greater Equal) ≡ Less → s ≡ true
+    go : (s t : Bool) → cond s Less (cond t Greater Equal) ≡ Less → s ≡ true
     go true t e = refl
     go false true e = clash cc
     go false false e = clash cc
@@ -186,34 +187,34 @@ axis_ordered k = record {
 }
 
 -- ---- one order after another
-module _ (o p : Point → Point → Order) (w : Ordered o) (v : Ordered p) where
-  then_self : (a : Point) → then_of (o a a) (p a a) ≡ Equal
+module _ (o p : Point → Point → Ordering) (w : Ordered o) (v : Ordered p) where
+  then_self : (a : Point) → ordering_then (o a a) (p a a) ≡ Equal
   then_self a = rw (w.self a) (v.self a)
 
-  turned_then : (x y : Order) → turned (then_of x y) ≡ then_of (turned x) (turned y)
+  turned_then : (x y : Ordering) → turned (ordering_then x y) ≡ ordering_then (turned x) (turned y)
   turned_then Less y = refl
   turned_then Equal y = refl
   turned_then Greater y = refl
 
-  then_turn : (a b : Point) → then_of (o b a) (p b a) ≡ turned (then_of (o a b) (p a b))
-  then_turn a b = (λ i. then_of (w.turn a b i) (v.turn a b i)) ∙ sym (turned_then (o a b) (p a b))
+  then_turn : (a b : Point) → ordering_then (o b a) (p b a) ≡ turned (ordering_then (o a b) (p a b))
+  then_turn a b = (λ i. ordering_then (w.turn a b i) (v.turn a b i)) ∙ sym (turned_then (o a b) (p a b))
 
-  then_like : (a b c : Point) → then_of (o a b) (p a b) ≡ Equal → then_of (o a c) (p a c) ≡ then_of (o b c) (p b c)
+  then_like : (a b c : Point) → ordering_then (o a b) (p a b) ≡ Equal → ordering_then (o a c) (p a c) ≡ ordering_then (o b c) (p b c)
   then_like a b c = go (o a b) refl
     where
-      go : (x : Order) → o a b ≡ x → then_of x (p a b) ≡ Equal → then_of (o a c) (p a c) ≡ then_of (o b c) (p b c)
+      go : (x : Ordering) → o a b ≡ x → ordering_then x (p a b) ≡ Equal → ordering_then (o a c) (p a c) ≡ ordering_then (o b c) (p b c)
       go Less e f = clash (cc)
-      go Equal e f = λ i. then_of (w.like a b c e i) (v.like a b c f i)
+      go Equal e f = λ i. ordering_then (w.like a b c e i) (v.like a b c f i)
       go Greater e f = clash (cc)
 
   -- equal on the right
   tail_like : (a b c : Point) → o b c ≡ Equal → o a b ≡ o a c
   tail_like a b c e = w.turn b a ∙ ap turned (w.like b c a e) ∙ sym (w.turn c a)
 
-  then_trans : (a b c : Point) → then_of (o a b) (p a b) ≡ Less → then_of (o b c) (p b c) ≡ Less → then_of (o a c) (p a c) ≡ Less
+  then_trans : (a b c : Point) → ordering_then (o a b) (p a b) ≡ Less → ordering_then (o b c) (p b c) ≡ Less → ordering_then (o a c) (p a c) ≡ Less
   then_trans a b c = go (o a b) refl (o b c) refl
     where
-      go : (x : Order) → o a b ≡ x → (y : Order) → o b c ≡ y → then_of x (p a b) ≡ Less → then_of y (p b c) ≡ Less → then_of (o a c) (p a c) ≡ Less
+      go : (x : Ordering) → o a b ≡ x → (y : Ordering) → o b c ≡ y → ordering_then x (p a b) ≡ Less → ordering_then y (p b c) ≡ Less → ordering_then (o a c) (p a c) ≡ Less
       go Less e Less f h k = rw (w.trans a b c e f)
       go Less e Equal f h k = rw (sym (tail_like a b c f) ∙ e)
       go Less e Greater f h k = clash (cc)
@@ -222,31 +223,31 @@ module _ (o p : Point → Point → Order) (w : Ordered o) (v : Ordered p) where
       go Equal e Greater f h k = clash (cc)
       go Greater e y f h k = clash (cc)
 
-  pub then_ordered : Ordered (λ a b. then_of (o a b) (p a b))
+  pub then_ordered : Ordered (λ a b. ordering_then (o a b) (p a b))
   then_ordered = record { self = then_self; turn = then_turn; like = then_like; trans = then_trans }
 
 -- the first of two orders is Equal, and so is the second, where they are together
-then_first : (x y : Order) → then_of x y ≡ Equal → x ≡ Equal
+then_first : (x y : Ordering) → ordering_then x y ≡ Equal → x ≡ Equal
 then_first Less y e = clash (cc)
 then_first Equal y e = refl
 then_first Greater y e = clash (cc)
 
-pub then_second : (x y : Order) → then_of x y ≡ Equal → y ≡ Equal
+pub then_second : (x y : Ordering) → ordering_then x y ≡ Equal → y ≡ Equal
 then_second Less y e = clash (cc)
 then_second Equal y e = e
 then_second Greater y e = clash (cc)
 
 -- ---- points
-from4 : Point → Point → Order
-from4 a b = then_of (by_axis a b 4) (by_axis a b 5)
+from4 : Point → Point → Ordering
+from4 a b = ordering_then (by_axis a b 4) (by_axis a b 5)
 
-from3 : Point → Point → Order
-from3 a b = then_of (by_axis a b 3) (from4 a b)
+from3 : Point → Point → Ordering
+from3 a b = ordering_then (by_axis a b 3) (from4 a b)
 
-from2 : Point → Point → Order
-from2 a b = then_of (by_axis a b 2) (from3 a b)
+from2 : Point → Point → Ordering
+from2 a b = ordering_then (by_axis a b 2) (from3 a b)
 
-order_from : (a b : Point) → order_of a b ≡ then_of (by_axis a b 1) (from2 a b)
+order_from : (a b : Point) → order_of a b ≡ ordering_then (by_axis a b 1) (from2 a b)
 unfolding order_of from2 from3 from4
 order_from a b = refl
 
@@ -298,7 +299,7 @@ pub same_point_true : (a b : Point) → same_point a b ≡ true → a ≡ b
 unfolding same_point
 same_point_true a b e = go (order_of a b) refl
   where
-    go : (x : Order) → order_of a b ≡ x → a ≡ b
+    go : (x : Ordering) → order_of a b ≡ x → a ≡ b
     go Less f = no! (sym (ap is_equal f) ∙ e)
     go Equal f = order_equal a b f
     go Greater f = no! (sym (ap is_equal f) ∙ e)

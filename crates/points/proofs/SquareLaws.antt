@@ -281,3 +281,22 @@ near_square f g h k p q r s {x} e m n t =
       near_part h r n (omega arith),
       near_part k s n (omega arith),
     )
+
+-- so the sum passes no bound where the gaps and the factors add up to little
+module _ (scale : Scale) (p q r s : ℕ) {x y : ℕ} (d : y ≡ p + q + r + s) (e : x ≡ scale.weight + scale.moisture + scale.speed + scale.draw)
+    (t : (leb y 67108863 && leb x 4096) ≡ true) where
+  pub squares_fit : four_squares scale p q r s ≤ 18446744073709551615
+  unfolding four_squares
+  squares_fit = omega (arith, near_square scale.weight scale.moisture scale.speed scale.draw p q r s e 4096 67108863 (rw d at t))
+
+  pub squares_plain : four_squares scale p q r s ≡ topped (four_squares scale p q r s)
+  unfolding topped
+  squares_plain = omega (arith, squares_fit)
+
+-- a squared gap as often as an axis counts, where two tests tell that both are small
+pub counted_small : (count gap m n : ℕ) → m * (n * n) ≤ 18446744073709551615 → (leb count m && leb gap n) ≡ true → count * (gap * gap) ≡ topped (count * (gap * gap))
+unfolding topped
+counted_small count gap m n h t =
+    let k = leb-true count m (and_l (leb count m) (leb gap n) t) in
+    let g = leb-true gap n (and_r (leb count m) (leb gap n) t) in
+    omega (arith, h, mul-le-mul k (mul-le-mul g g))

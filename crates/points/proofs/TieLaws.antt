@@ -6,10 +6,11 @@ use mathlib.Core.Logic.{◌⊎◌, inl, inr}
 use mathlib.Core.Bool.{true, false}
 use lib.Signed.{lt_z}
 use Rattle.points.specs.declared.point.Point.{Point}
-use Rattle.points.specs.declared.order.Order.{Order}
-use Rattle.points.specs.declared.order.Order.TheVariants.{Less, Equal, Greater}
+use Rattle.std.specs.declared.cmp.Ordering.{Ordering}
+use Rattle.std.specs.declared.cmp.Ordering.TheVariants.{Less, Equal, Greater}
+use Rattle.std.specs.Ordering.{ordering_then}
 use Rattle.points.specs.Point.{coordinate_of}
-use Rattle.points.specs.Order.{by_axis, then_of, order_of, tie_of, is_equal}
+use Rattle.points.specs.Order.{by_axis, order_of, tie_of, is_equal}
 use Rattle.points.proofs.Tests.{no! }
 use Rattle.points.proofs.OrderLaws.{turned, clash, Ordered, axis_equal, axis_same, axis_less, axis_ordered, then_ordered, then_second, ordered, order_equal}
 
@@ -22,13 +23,13 @@ module _ (a b : Point) where
   -- Rules 1.7: "where the weights are equal as well, the lower point wins"
   pub tie_level : a.weight ≡ b.weight → tie_of a b ≡ order_of a b
   unfolding tie_of coordinate_of
-  tie_level e = ap (λ (o : Order). then_of o (order_of a b)) (axis_same b a 2 (sym e))
+  tie_level e = ap (λ (o : Ordering). ordering_then o (order_of a b)) (axis_same b a 2 (sym e))
 
   pub tie_tells : tie_of a b ≡ Less → (lt_z b.weight a.weight ≡ true) ⊎ ((a.weight ≡ b.weight) × (order_of a b ≡ Less))
   unfolding tie_of coordinate_of
   tie_tells = go (by_axis b a 2) refl
     where
-      go : (o : Order) → by_axis b a 2 ≡ o → then_of o (order_of a b) ≡ Less → (lt_z b.weight a.weight ≡ true) ⊎ ((a.weight ≡ b.weight) × (order_of a b ≡ Less))
+      go : (o : Ordering) → by_axis b a 2 ≡ o → ordering_then o (order_of a b) ≡ Less → (lt_z b.weight a.weight ≡ true) ⊎ ((a.weight ≡ b.weight) × (order_of a b ≡ Less))
       go Less e f = inl (axis_less b a 2 e)
       go Equal e f = inr (sym (axis_equal b a 2 e), f)
       go Greater e f = clash cc
@@ -38,7 +39,7 @@ module _ (a b : Point) where
   unfolding tie_of
   tie_on = go (by_axis b a 2)
     where
-      go : (o : Order) → is_equal o ≡ true → then_of o (order_of a b) ≡ order_of a b
+      go : (o : Ordering) → is_equal o ≡ true → ordering_then o (order_of a b) ≡ order_of a b
       go Less e = no! e
       go Equal e = refl
       go Greater e = no! e
@@ -47,13 +48,13 @@ module _ (a b : Point) where
   unfolding tie_of
   tie_ends = go (by_axis b a 2)
     where
-      go : (o : Order) → is_equal o ≡ false → then_of o (order_of a b) ≡ o
+      go : (o : Ordering) → is_equal o ≡ false → ordering_then o (order_of a b) ≡ o
       go Less e = refl
       go Equal e = no! (sym e)
       go Greater e = refl
 
 -- an order turned round is one
-flipped : (o : Point → Point → Order) → Ordered o → Ordered (λ a b. o b a)
+flipped : (o : Point → Point → Ordering) → Ordered o → Ordered (λ a b. o b a)
 flipped o w = record {
   self = w.self;
   turn = λ a b. w.turn b a;

@@ -9,17 +9,20 @@ use borrow.Author.Tests.{leb-true, leb-false, le-leb, lt-leb, eqb-true, ne_eqb}
 use lib.Dec.{eqb, leb, ltb, lit≤}
 use lib.IntN.{pos, ◌+ℤ◌}
 use lib.Signed.{lt_z}
+use mir.Syntax.{w32}
+use mir.Val.{SFits}
 use Rattle.points.specs.declared.point.Point.{Point}
 use Rattle.points.specs.declared.cut.Cut.{Cut}
 use Rattle.points.specs.Point.{index_of, range_of, within_range, coordinate_of, on_axis, in_range}
 use Rattle.points.specs.Rule.{dry_rule, shift_of, is_axis_by}
-use Rattle.points.specs.Number.{in_range_by}
+use Rattle.points.specs.Number.{number_range_of, in_range_by}
 use Rattle.points.specs.Word.{stored_in, loaded_in, sum_range_of, span_in, span_of, sum_span_of, word_of, coordinate_at, point_at, is_axis, cut_in_range, axis_word_of, sum_word_of, cut_at}
 use Rattle.points.proofs.Tests.{no!, and_l, and_r, and_i, leb_cong}
-use Rattle.points.proofs.IntegerLaws.{Near}
-use Rattle.points.proofs.PointLaws.{reach, range_sound, range_below, sum_range_sound, sum_range_below, sum_range_span, in_range_axis}
+use Rattle.points.proofs.IntegerLaws.{Near, near_more, near_add}
+use Rattle.points.proofs.MachineLaws.{in32, of_fits, fits32, back32}
+use Rattle.points.proofs.PointLaws.{reach, range_sound, range_below, sum_range_sound, sum_range_below, sum_range_span, number_range_sound, in_range_axis}
 use Rattle.points.proofs.NumberLaws.{shift_le}
-use Rattle.points.proofs.RangeLaws.{span_raise, stored_le, loaded_is, loaded, loaded_stored, stored_loaded, within_stored, within_loaded}
+use Rattle.points.proofs.RangeLaws.{span_raise, stored_le, stored_high, loaded_is, loaded, loaded_stored, stored_loaded, within_stored, within_loaded}
 
 -- ---- points
 
@@ -245,3 +248,28 @@ words_of_cut rule axis sum e =
       axis_part = rw (first, one) minus;
       sum_part = rw first (stored_loaded (sum_range_of (axis + 1)) (sum_range_sound (axis + 1)) (lit≤ tt) (sum_range_below (axis + 1)) sum tell.1);
     }
+
+-- the greatest number of an axis, and the greatest of its sums, as words
+pub range_high : (axis : ℕ) → stored_in (range_of axis) (range_of axis).high ≡ span_of axis
+range_high axis = stored_high (range_of axis) (range_sound axis) (lit≤ tt) (range_below axis)
+
+pub sum_range_high : (axis : ℕ) → stored_in (sum_range_of axis) (sum_range_of axis).high ≡ sum_span_of axis
+sum_range_high axis = stored_high (sum_range_of axis) (sum_range_sound axis) (lit≤ tt) (sum_range_below axis)
+
+-- twice an end of a range fits
+pub sum_fits : (axis : ℕ) → SFits w32 ((number_range_of axis).low +ℤ (number_range_of axis).low)
+sum_fits axis = let n = (number_range_sound axis).low in fits32 (near_more 2147483648 (lit≤ tt) (near_add _ _ n n))
+
+pub sum_fits_high : (axis : ℕ) → SFits w32 ((number_range_of axis).high +ℤ (number_range_of axis).high)
+sum_fits_high axis = let n = (number_range_sound axis).high in fits32 (near_more 2147483648 (lit≤ tt) (near_add _ _ n n))
+
+-- and is read back
+pub sum_read : (axis : ℕ) → in32 (in32 (number_range_of axis).low +ℤ in32 (number_range_of axis).low) ≡ (number_range_of axis).low +ℤ (number_range_of axis).low
+sum_read axis =
+    let low = near_more 2147483648 (lit≤ tt) (number_range_sound axis).low in
+    ap in32 (λ i. back32 low i +ℤ back32 low i) ∙ back32 (of_fits (sum_fits axis))
+
+pub sum_read_high : (axis : ℕ) → in32 (in32 (number_range_of axis).high +ℤ in32 (number_range_of axis).high) ≡ (number_range_of axis).high +ℤ (number_range_of axis).high
+sum_read_high axis =
+    let high = near_more 2147483648 (lit≤ tt) (number_range_sound axis).high in
+    ap in32 (λ i. back32 high i +ℤ back32 high i) ∙ back32 (of_fits (sum_fits_high axis))

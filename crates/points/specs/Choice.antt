@@ -1,9 +1,9 @@
 -- The choice of the nearest (Rules 1.6, 1.7), and what a cut says of the records beyond it.
 use Rattle.std.specs.Prelude.{ℕ, suc, ◌*◌, ◌≤◌, ◌<◌, ◌≡◌, Bool, true, false, cond, eqb, ltb, nat_abs, ◌+ℤ◌, ◌-ℤ◌}
 use Rattle.std.specs.Int.Signed.{lt_z}
+use Rattle.std.specs.declared.cmp.Ordering.TheVariants.{Less}
 use Rattle.points.specs.declared.point.Point.{Point}
 use Rattle.points.specs.declared.cut.Cut.{Cut}
-use Rattle.points.specs.declared.order.Order.TheVariants.{Less}
 use Rattle.points.specs.declared.scale.Scale.{Scale}
 use Rattle.points.specs.Number.{number_of}
 use Rattle.points.specs.Order.{by_axis, order_of, tie_of, is_less, is_equal}

@@ -6,6 +6,7 @@ pub mod choice;
 pub mod cut;
 pub mod number;
 pub mod order;
+pub mod pick;
 pub mod point;
 pub mod rule;
 pub mod scale;

@@ -1,94 +1,54 @@
 // The order of points: axis by axis, the first that differs decides; and their order on a tie.
 ghost use Rattle.std.specs.Prelude.{◌≡◌};
-ghost use Rattle.points.specs.Order.{by_axis, compared_of, tie_of, is_less, is_equal, same_point};
+ghost use Rattle.points.specs.Order.{by_axis, compared_of, tie_of, same_point};
 
 use crate::point::Point;
-
-#[derive(Clone, Copy)]
-pub enum Order {
-    Less,
-    Equal,
-    Greater,
-}
+use std::cmp::Ordering;
 
 // What a comparison tells: the order, and how many axes it looked at.
 #[derive(Clone, Copy)]
 pub struct Compared {
-    pub order: Order,
+    pub order: Ordering,
     pub looked: u32,
 }
 
 // The order of two points on one axis.
-pub(crate) fn by_axis(a: Point, b: Point, axis: u32) -> Order
+#[tactic(auto, unfolding(crate::specs::Order::by_axis))]
+pub(crate) fn by_axis(a: Point, b: Point, axis: u32) -> Ordering
     ensures { result ≡ by_axis a b axis }
 {
-    let x = a.coordinate(axis);
-    let y = b.coordinate(axis);
-    if x < y {
-        return Order::Less;
-    }
-    if y < x {
-        return Order::Greater;
-    }
-    Order::Equal
+    a.coordinate(axis).cmp(&b.coordinate(axis))
 }
 
 // The order of two points. The comparison ends at the first axis that differs.
+#[tactic(auto, using(crate::proofs::ComparedLaws::comparison))]
 pub(crate) fn compare(a: Point, b: Point) -> Compared
     ensures { result ≡ compared_of a b }
 {
-    let mut looked = 1;
-    let mut order = by_axis(a, b, looked);
-    while order.is_equal() & (looked < 5) {
-        looked += 1;
-        order = by_axis(a, b, looked);
+    for looked in 1..5 {
+        let order = by_axis(a, b, looked);
+        if order.is_ne() {
+            return Compared { order, looked };
+        }
     }
     Compared {
-        order: order,
-        looked: looked,
+        order: by_axis(a, b, 5),
+        looked: 5,
     }
 }
 
 // The order of two points on a tie: the heavier first, and of two of one weight the lower.
-pub fn tie(a: Point, b: Point) -> Order
+#[tactic(auto, unfolding(crate::specs::Order::tie_of, crate::specs::Order::compared_of))]
+pub fn tie(a: Point, b: Point) -> Ordering
     ensures { result ≡ tie_of a b }
 {
-    let weights = by_axis(b, a, 2);
-    if weights.is_equal() {
-        let compared = compare(a, b);
-        let order = compared.order;
-        return order;
-    }
-    weights
-}
-
-impl Order {
-    pub(crate) fn is_less(self) -> bool
-        ensures { result ≡ is_less self }
-    {
-        match self {
-            Order::Less => true,
-            Order::Equal => false,
-            Order::Greater => false,
-        }
-    }
-
-    pub(crate) fn is_equal(self) -> bool
-        ensures { result ≡ is_equal self }
-    {
-        match self {
-            Order::Less => false,
-            Order::Equal => true,
-            Order::Greater => false,
-        }
-    }
+    by_axis(b, a, 2).then_with(|| compare(a, b).order)
 }
 
 // Whether two points are one.
+#[tactic(auto, unfolding(crate::specs::Order::same_point, crate::specs::Order::order_of, crate::specs::Order::by_axis, crate::specs::Point::coordinate_of))]
 pub fn same_point(a: Point, b: Point) -> bool
     ensures { result ≡ same_point a b }
 {
-    let compared = compare(a, b);
-    let order = compared.order;
-    order.is_equal()
+    a == b
 }

@@ -2,7 +2,7 @@
 ghost use Rattle.std.specs.Prelude.{◌≡◌, ◌≤◌};
 ghost use Rattle.points.specs.Rule.{rule_in, shift_of, axis_of, is_axis_by};
 
-// The rule of the coordinates, and that of dry weight.
+// The rule of the coordinates, and that of dry weight. A rule stays a number: callers may name one that there is not, which question 20 refuses (`rule_in`).
 pub const PLAIN_RULE: u32 = 1;
 
 pub const DRY_RULE: u32 = 2;
@@ -15,6 +15,7 @@ pub fn rule_in(rule: u32) -> bool
 }
 
 // How far the axes that a rule takes for 2 to 5 are from these.
+#[tactic(auto, unfolding(crate::specs::Rule::shift_of))]
 pub(crate) fn shift(rule: u32) -> u32
     ensures { result ≡ shift_of rule }
 {
@@ -22,6 +23,7 @@ pub(crate) fn shift(rule: u32) -> u32
 }
 
 // The k-th of the five axes that a rule goes by.
+#[tactic(auto, using(crate::proofs::NumberLaws::shift_le), unfolding(crate::specs::Rule::axis_of))]
 pub(crate) fn axis_by(rule: u32, k: u32) -> u32
     requires { k ≤ 5 }
     ensures { result ≡ axis_of rule k }
@@ -31,6 +33,7 @@ pub(crate) fn axis_by(rule: u32, k: u32) -> u32
 }
 
 // Whether an axis is one that a rule goes by.
+#[tactic(auto, using(crate::proofs::NumberLaws::shift_le))]
 pub(crate) fn is_axis_by(rule: u32, axis: u32) -> bool
     ensures { result ≡ is_axis_by rule axis }
 {

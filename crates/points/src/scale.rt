@@ -1,7 +1,8 @@
 // The scale of an opening: its rule, and how much each axis counts in the square.
-ghost use Rattle.std.specs.Prelude.{◌≡◌, cond};
+ghost use Rattle.std.specs.Prelude.{◌≡◌};
 ghost use Rattle.points.specs.Scale.{count_of, most_factor, factor_in, factors_in, plain_scale};
 
+use crate::pick::pick;
 use crate::rule::{DRY_RULE, PLAIN_RULE, shift};
 
 // The rule, and the factors of the axes 2 to 5.
@@ -14,25 +15,22 @@ pub struct Scale {
     pub draw: u32,
 }
 
-// One of two factors.
-fn one_of(first: bool, x: u32, y: u32) -> u32
-    ensures { result ≡ cond first x y }
-{
-    if first { x } else { y }
-}
-
-// How much an axis counts in the square: its factor, 0 for an axis that the rule does not take in. It is chosen with no jump, as a coordinate is.
-pub(crate) fn count_on(scale: Scale, axis: u32) -> u32
-    ensures { result ≡ count_of scale axis }
-{
-    let by = shift(scale.rule);
-    let five = one_of(axis == 5 + by, scale.draw, 0);
-    let four = one_of(axis == 4 + by, scale.speed, five);
-    let three = one_of(axis == 3 + by, scale.moisture, four);
-    one_of(axis == 2 + by, scale.weight, three)
+impl Scale {
+    // How much an axis counts in the square: its factor, 0 for an axis that the rule does not take in. It is chosen with no jump, as a coordinate is.
+    #[tactic(auto, using(crate::proofs::NumberLaws::shift_le), unfolding(crate::specs::Scale::count_of))]
+    pub(crate) fn count_on(self, axis: u32) -> u32
+        ensures { result ≡ count_of self axis }
+    {
+        let by = shift(self.rule);
+        let five = pick(axis == 5 + by, self.draw, 0);
+        let four = pick(axis == 4 + by, self.speed, five);
+        let three = pick(axis == 3 + by, self.moisture, four);
+        pick(axis == 2 + by, self.weight, three)
+    }
 }
 
 // The greatest factor under a rule.
+#[tactic(auto, unfolding(crate::specs::Scale::most_factor))]
 fn most_factor(rule: u32) -> u32
     ensures { result ≡ most_factor rule }
 {
@@ -47,6 +45,7 @@ fn factor_in(rule: u32, factor: u32) -> bool
 }
 
 // Whether every factor is in range under the rule.
+#[tactic(auto, unfolding(crate::specs::Scale::factors_in))]
 pub fn factors_in(scale: Scale) -> bool
     ensures { result ≡ factors_in scale }
 {

@@ -2,13 +2,12 @@
 ghost use Rattle.std.specs.Prelude.{◌≡◌, ◌+◌, ◌*◌, ◌≤◌};
 ghost use Rattle.points.specs.Square.{gap_of, topped, four_squares, square_of, most_square};
 
-use crate::number::number;
 use crate::point::Point;
 use crate::rule::DRY_RULE;
 use crate::scale::Scale;
-use crate::signed::{apart, long};
 
 // The greatest square of points and factors in range under a rule.
+#[tactic(auto, unfolding(crate::specs::Square::most_square))]
 pub fn most_square(rule: u32) -> u64
     ensures { result ≡ most_square rule }
 {
@@ -19,50 +18,16 @@ pub fn most_square(rule: u32) -> u64
     }
 }
 
-// How far apart two points lie on an axis, which is less than 2^32.
-pub(crate) fn gap(a: Point, b: Point, axis: u32) -> u64
-    ensures { (result ≡ gap_of a b axis) × (result ≤ 4294967295) }
+// How far apart two points lie on an axis.
+#[tactic(auto, unfolding(crate::specs::Square::gap_of))]
+pub(crate) fn gap(a: Point, b: Point, axis: u32) -> u32
+    ensures { result ≡ gap_of a b axis }
 {
-    apart(number(a, axis), number(b, axis))
-}
-
-// A sum that stops at the greatest number.
-fn topped_sum(x: u64, y: u64) -> u64
-    ensures { result ≡ topped (x + y) }
-{
-    if x <= 18446744073709551615 - y {
-        x + y
-    } else {
-        18446744073709551615
-    }
-}
-
-// The square of a number, which stops at the greatest number.
-fn topped_square(x: u64) -> u64
-    ensures { result ≡ topped (x * x) }
-{
-    if x <= 4294967295 {
-        x * x
-    } else {
-        18446744073709551615
-    }
-}
-
-// A product that stops at the greatest number.
-fn topped_product(x: u64, y: u64) -> u64
-    ensures { result ≡ topped (x * y) }
-{
-    if y == 0 {
-        return 0;
-    }
-    if x <= 18446744073709551615 / y {
-        x * y
-    } else {
-        18446744073709551615
-    }
+    a.number(axis).abs_diff(b.number(axis))
 }
 
 // The squared gap as often as an axis counts, which stops at the greatest number.
+#[tactic(auto, using(crate::proofs::SquareLaws::topped_again), unfolding(crate::specs::Square::topped))]
 pub(crate) fn counted_square(count: u64, gap: u64) -> u64
     ensures { result ≡ topped (count * (gap * gap)) }
 {
@@ -72,62 +37,107 @@ pub(crate) fn counted_square(count: u64, gap: u64) -> u64
     if (count <= 16) & (gap <= 1073741823) {
         return count * (gap * gap);
     }
-    topped_product(count, topped_square(gap))
+    count.saturating_mul(gap.saturating_mul(gap))
 }
 
-// The sum of four where each part and every sum of them may stop at the greatest number.
-fn stopped_squares(scale: Scale, weight: u64, moisture: u64, speed: u64, draw: u64) -> u64
-    ensures { result ≡ topped (four_squares scale weight moisture speed draw) }
-{
-    let first = counted_square(long(scale.weight), weight);
-    let second = counted_square(long(scale.moisture), moisture);
-    let third = counted_square(long(scale.speed), speed);
-    let fourth = counted_square(long(scale.draw), draw);
-    topped_sum(topped_sum(topped_sum(first, second), third), fourth)
+// How far apart two points lie on each of the axes that a rule takes for 2 to 5.
+#[derive(Clone, Copy)]
+struct Gaps {
+    weight: u32,
+    moisture: u32,
+    speed: u32,
+    draw: u32,
 }
 
-// The four factors added up.
-fn factor_sum(scale: Scale) -> u64
-    ensures { result ≡ scale.weight + scale.moisture + scale.speed + scale.draw }
-{
-    long(scale.weight) + long(scale.moisture) + long(scale.speed) + long(scale.draw)
-}
-
-// The sum of four squared gaps, each as often as its factor says. A sum past the greatest number stops there. Where the gaps and the factors add up to no
-// more than two bounds, as they do for points and factors in range under rule 1, nothing can stop, and none of the four is tested.
-fn topped_squares(scale: Scale, weight: u64, moisture: u64, speed: u64, draw: u64) -> u64
-    requires { (weight ≤ 4294967295) × (moisture ≤ 4294967295) × (speed ≤ 4294967295) × (draw ≤ 4294967295) }
-    ensures { result ≡ topped (four_squares scale weight moisture speed draw) }
-{
-    let gaps = weight + moisture + speed + draw;
-    let factors = factor_sum(scale);
-    if (gaps <= 67108863) & (factors <= 4096) {
-        return long(scale.weight) * (weight * weight)
-            + long(scale.moisture) * (moisture * moisture)
-            + long(scale.speed) * (speed * speed)
-            + long(scale.draw) * (draw * draw);
+impl Gaps {
+    // The four added up.
+    fn sum(self) -> u64
+        ensures { result ≡ self.weight + self.moisture + self.speed + self.draw }
+    {
+        u64::from(self.weight)
+            + u64::from(self.moisture)
+            + u64::from(self.speed)
+            + u64::from(self.draw)
     }
-    stopped_squares(scale, weight, moisture, speed, draw)
+}
+
+// The square of a gap.
+fn squared(gap: u32) -> u64
+    ensures { result ≡ gap * gap }
+{
+    u64::from(gap) * u64::from(gap)
+}
+
+impl Scale {
+    // The sum of four squared gaps, each as often as its factor says, where each part and every sum of them may stop at the greatest number.
+    #[tactic(auto, unfolding(crate::specs::Square::topped, crate::specs::Square::four_squares))]
+    fn stopped_squares(self, gaps: Gaps) -> u64
+        ensures { result ≡ topped (four_squares self gaps.weight gaps.moisture gaps.speed gaps.draw) }
+    {
+        let first = counted_square(u64::from(self.weight), u64::from(gaps.weight));
+        let second = counted_square(u64::from(self.moisture), u64::from(gaps.moisture));
+        let third = counted_square(u64::from(self.speed), u64::from(gaps.speed));
+        let fourth = counted_square(u64::from(self.draw), u64::from(gaps.draw));
+        first
+            .saturating_add(second)
+            .saturating_add(third)
+            .saturating_add(fourth)
+    }
+
+    // The same sum, where it does not pass the greatest number.
+    #[tactic(auto, unfolding(crate::specs::Square::four_squares))]
+    fn plain_squares(self, gaps: Gaps) -> u64
+        requires { four_squares self gaps.weight gaps.moisture gaps.speed gaps.draw ≤ 18446744073709551615 }
+        ensures { result ≡ four_squares self gaps.weight gaps.moisture gaps.speed gaps.draw }
+    {
+        u64::from(self.weight) * squared(gaps.weight)
+            + u64::from(self.moisture) * squared(gaps.moisture)
+            + u64::from(self.speed) * squared(gaps.speed)
+            + u64::from(self.draw) * squared(gaps.draw)
+    }
+
+    // The four factors added up. A trait for the four fields of this struct and of `Gaps` would be longer than both sums.
+    fn factor_sum(self) -> u64
+        ensures { result ≡ self.weight + self.moisture + self.speed + self.draw }
+    {
+        u64::from(self.weight)
+            + u64::from(self.moisture)
+            + u64::from(self.speed)
+            + u64::from(self.draw)
+    }
+
+    // The same sum, which stops at the greatest number. Where the gaps and the factors add up to no more than two bounds, as they do for points and factors in
+    // range under rule 1, nothing can stop, and none of the four is tested.
+    #[tactic(auto, using(crate::proofs::SquareLaws::squares_fit, crate::proofs::SquareLaws::squares_plain))]
+    fn topped_squares(self, gaps: Gaps) -> u64
+        ensures { result ≡ topped (four_squares self gaps.weight gaps.moisture gaps.speed gaps.draw) }
+    {
+        if (gaps.sum() <= 67108863) & (self.factor_sum() <= 4096) {
+            self.plain_squares(gaps)
+        } else {
+            self.stopped_squares(gaps)
+        }
+    }
 }
 
 // The square of two points. A sum past the greatest number stops there; none does for points and factors in range.
+#[tactic(auto, unfolding(crate::specs::Square::square_of, crate::specs::Square::plain_square, crate::specs::Rule::shift_of))]
 pub fn square(scale: Scale, a: Point, b: Point) -> u64
     ensures { result ≡ square_of scale a b }
 {
     if scale.rule == DRY_RULE {
-        return stopped_squares(
-            scale,
-            gap(a, b, 6),
-            gap(a, b, 7),
-            gap(a, b, 8),
-            gap(a, b, 9),
-        );
+        scale.stopped_squares(Gaps {
+            weight: gap(a, b, 6),
+            moisture: gap(a, b, 7),
+            speed: gap(a, b, 8),
+            draw: gap(a, b, 9),
+        })
+    } else {
+        scale.topped_squares(Gaps {
+            weight: gap(a, b, 2),
+            moisture: gap(a, b, 3),
+            speed: gap(a, b, 4),
+            draw: gap(a, b, 5),
+        })
     }
-    topped_squares(
-        scale,
-        gap(a, b, 2),
-        gap(a, b, 3),
-        gap(a, b, 4),
-        gap(a, b, 5),
-    )
 }

@@ -8,32 +8,39 @@ use crate::cut::Cut;
 use crate::number::number_range_on;
 use crate::point::{Point, Range, range_on};
 use crate::rule::{DRY_RULE, is_axis_by, shift};
-use crate::signed::extended;
 
-// A number in a range as its distance from the least; for any other the word for none.
-fn stored_in(r: Range, x: i32) -> u32
-    ensures { result ≡ stored_in r x }
-{
-    if r.holds(x) {
-        (extended(x) - extended(r.low)) as u32
-    } else {
-        4294967295
+// The word for none, which stands for no number of a range.
+const NONE: u32 = 4294967295;
+
+impl Range {
+    // A number in a range as its distance from the least; for any other the word for none.
+    #[tactic(auto, unfolding(crate::specs::Word::stored_in))]
+    fn stored(self, x: i32) -> u32
+        ensures { result ≡ stored_in self x }
+    {
+        if self.holds(x) {
+            x.abs_diff(self.low)
+        } else {
+            NONE
+        }
     }
-}
 
-// The number of a range at a distance from the least; past the greatest the number that is in no range.
-fn loaded_in(r: Range, w: u32) -> i32
-    ensures { result ≡ loaded_in r w }
-{
-    let x = extended(r.low) + w as i64;
-    if x <= extended(r.high) {
-        x as i32
-    } else {
-        2147483647
+    // The number of a range at a distance from the least; past the greatest the number that is in no range.
+    #[tactic(auto, unfolding(crate::specs::Word::loaded_in))]
+    fn loaded(self, w: u32) -> i32
+        ensures { result ≡ loaded_in self w }
+    {
+        let x = i64::from(self.low) + i64::from(w);
+        if x <= i64::from(self.high) {
+            x as i32
+        } else {
+            i32::MAX
+        }
     }
 }
 
 // The range of the sums of two numbers of an axis.
+#[tactic(auto, using(crate::proofs::WordLaws::sum_fits, crate::proofs::WordLaws::sum_fits_high), unfolding(crate::specs::Word::sum_range_of))]
 fn sum_range_on(axis: u32) -> Range
     ensures { result ≡ sum_range_of axis }
 {
@@ -45,31 +52,33 @@ fn sum_range_on(axis: u32) -> Range
 }
 
 // The greatest word of an axis's coordinates.
+#[tactic(auto, using(crate::proofs::WordLaws::range_high))]
 fn span_on(axis: u32) -> u32
     ensures { result ≡ span_of axis }
 {
     let r = range_on(axis);
-    stored_in(r, r.high)
+    r.stored(r.high)
 }
 
 // The greatest word of an axis's sums.
+#[tactic(auto, using(crate::proofs::WordLaws::sum_range_high))]
 fn sum_span_on(axis: u32) -> u32
     ensures { result ≡ sum_span_of axis }
 {
     let r = sum_range_on(axis);
-    stored_in(r, r.high)
+    r.stored(r.high)
 }
 
 // The least of an axis's sums.
 fn sum_low_on(axis: u32) -> i32
     ensures { result ≡ (sum_range_of axis).low }
 {
-    let r = sum_range_on(axis);
-    r.low
+    sum_range_on(axis).low
 }
 
 // The greatest word of the sums of an axis, by the word of that axis, one less than its number. It is compiled to a table of nine numbers, where ranges
-// would be put on the stack at every use.
+// would be put on the stack at every use. This and the next stay two tables: one function for both, given a closure, would hide that each arm is a constant.
+#[tactic(auto, using(crate::proofs::PointLaws::sum_range_rest))]
 fn sum_span_at(axis: u32) -> u32
     ensures { result ≡ sum_span_of (axis + 1) }
 {
@@ -87,6 +96,7 @@ fn sum_span_at(axis: u32) -> u32
 }
 
 // The least of its sums, by the same word.
+#[tactic(auto, using(crate::proofs::PointLaws::sum_range_rest))]
 pub fn sum_low_at(axis: u32) -> i32
     ensures { result ≡ (sum_range_of (axis + 1)).low }
 {
@@ -104,20 +114,23 @@ pub fn sum_low_at(axis: u32) -> i32
 }
 
 // The word of a point's coordinate on an axis.
+#[tactic(auto, unfolding(crate::specs::Word::word_of))]
 pub fn word(p: Point, axis: u32) -> u32
     ensures { result ≡ word_of p axis }
 {
-    stored_in(range_on(axis), p.coordinate(axis))
+    range_on(axis).stored(p.coordinate(axis))
 }
 
 // The coordinate that a word stands for on an axis.
+#[tactic(auto, unfolding(crate::specs::Word::coordinate_at))]
 fn coordinate_at(axis: u32, w: u32) -> i32
     ensures { result ≡ coordinate_at axis w }
 {
-    loaded_in(range_on(axis), w)
+    range_on(axis).loaded(w)
 }
 
 // The point of five words; it is in range exactly if each of them is.
+#[tactic(auto, unfolding(crate::specs::Word::point_at))]
 pub fn point_at(grade: u32, weight: u32, moisture: u32, speed: u32, draw: u32) -> Point
     ensures { result ≡ point_at grade weight moisture speed draw }
 {
@@ -137,14 +150,15 @@ fn word_in_range(axis: u32, w: u32) -> bool
     w <= span_on(axis)
 }
 
-// Whether the word of a moisture in range is one that the rule lets pass.
+// Whether the word of a moisture in range is one that the rule lets pass; of words, where `number` has the same of coordinates.
 fn moisture_word_by(rule: u32, moisture: u32) -> bool
     ensures { result ≡ (not (eqb rule dry_rule) || ltb moisture 10000) }
 {
-    !(rule == DRY_RULE) | (moisture < 10000)
+    (rule != DRY_RULE) | (moisture < 10000)
 }
 
 // Whether the point of five words is in range under a rule, by the words alone.
+#[tactic(auto, using(crate::proofs::WordLaws::point_at_by))]
 pub fn point_words_in_range(
     rule: u32,
     grade: u32,
@@ -164,6 +178,7 @@ pub fn point_words_in_range(
 }
 
 // Whether a cut has an axis that the rule goes by, and a sum that two points in range can have there.
+#[tactic(auto, unfolding(crate::specs::Word::cut_in_range))]
 pub fn cut_in_range(rule: u32, cut: Cut) -> bool
     ensures { result ≡ cut_in_range rule cut }
 {
@@ -171,31 +186,33 @@ pub fn cut_in_range(rule: u32, cut: Cut) -> bool
 }
 
 // The word of a cut's axis: one less than its number; the word for none where there is no such axis.
+#[tactic(auto, unfolding(crate::specs::Word::axis_word_of))]
 pub fn axis_word(cut: Cut) -> u32
     ensures { result ≡ axis_word_of cut }
 {
-    if (1 <= cut.axis) & (cut.axis <= 9) {
-        cut.axis - 1
-    } else {
-        4294967295
+    match cut.axis {
+        1..=9 => cut.axis - 1,
+        _ => NONE,
     }
 }
 
 // The word of a cut's sum.
+#[tactic(auto, unfolding(crate::specs::Word::sum_word_of))]
 pub fn sum_word(cut: Cut) -> u32
     ensures { result ≡ sum_word_of cut }
 {
-    stored_in(sum_range_on(cut.axis), cut.sum)
+    sum_range_on(cut.axis).stored(cut.sum)
 }
 
 // The cut of two words; it is in range exactly if both of them are.
+#[tactic(auto, unfolding(crate::specs::Word::cut_at))]
 pub fn cut_at(axis: u32, sum: u32) -> Cut
     ensures { result ≡ cut_at axis sum }
 {
     if axis <= 8 {
         Cut {
             axis: axis + 1,
-            sum: loaded_in(sum_range_on(axis + 1), sum),
+            sum: sum_range_on(axis + 1).loaded(sum),
         }
     } else {
         Cut { axis: 0, sum: 0 }
@@ -203,6 +220,7 @@ pub fn cut_at(axis: u32, sum: u32) -> Cut
 }
 
 // Whether the cut of two words is in range under a rule, by the words alone.
+#[tactic(auto, using(crate::proofs::NumberLaws::shift_le, crate::proofs::WordLaws::axis_by_word, crate::proofs::WordLaws::cut_at_in_range))]
 pub fn cut_words_in_range(rule: u32, axis: u32, sum: u32) -> bool
     ensures { result ≡ cut_in_range rule (cut_at axis sum) }
 {

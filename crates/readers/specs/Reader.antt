@@ -1,7 +1,6 @@
 -- What a reader of frames reads at its position, and the reader after that (Rules 9.5): past the frame that was read, and where it was after a refusal and at the end. Assumes nothing.
-use Rattle.frames.specs.declared.read.Reading.{Reading}
 use Rattle.readers.specs.declared.reader.Reader.{Reader}
-use Rattle.frames.specs.Read.{read_of, position_after}
+use Rattle.frames.specs.Read.{Reading, read_of, position_after}
 
 abbrev pub read_by : Reader → Reading
 read_by r = read_of r.bytes.now r.at

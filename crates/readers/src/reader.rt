@@ -3,7 +3,9 @@ ghost use Rattle.std.specs.Prelude.{◌≡◌};
 ghost use Rattle.frames.specs.Read.{read_of};
 ghost use Rattle.readers.specs.Reader.{read_by, moved_past};
 
-use frames::read::{Reading, position_after, read_frame};
+use frames::frame::Frame;
+use frames::read::{position_after, read_frame};
+use frames::refusal::FrameRefusal;
 
 // The lent bytes, and the position in them.
 #[derive(Clone, Copy)]
@@ -12,35 +14,35 @@ pub struct Reader<'a> {
     at: usize,
 }
 
-// A reader of the lent bytes, at the first of them.
-pub fn new<'a>(bytes: &'a [u8]) -> Reader<'a>
-    ensures { (result.bytes ≡ bytes.entry) × (result.at ≡ 0) }
-{
-    Reader { bytes, at: 0 }
-}
+impl<'a> Reader<'a> {
+    // A reader of the lent bytes, at the first of them.
+    pub fn new(bytes: &'a [u8]) -> Reader<'a>
+        ensures { (result.bytes ≡ bytes.entry) × (result.at ≡ 0) }
+    {
+        Reader { bytes, at: 0 }
+    }
 
-// The reader's position.
-pub fn at<'a>(r: Reader<'a>) -> usize
-    ensures { result ≡ r.entry.at }
-{
-    r.at
-}
+    // The reader's position.
+    pub fn at(self) -> usize
+        ensures { result ≡ self.entry.at }
+    {
+        self.at
+    }
 
-// Reads the frame at the reader's position and moves past it; a refusal and the end move nothing.
-pub fn next<'s, 'a>(r: &'s mut Reader<'a>) -> Reading
-    ensures { (result ≡ read_by r.old) × (r.new ≡ moved_past r.old) }
-{
-    let at = r.at;
-    let reading = read_frame(r.bytes, at);
-    let past = position_after(reading, at);
-    r.at = past;
-    reading
+    // Reads the frame at the reader's position and moves past it; a refusal and the end move nothing. Not the `next` of an `Iterator`: a loop over one
+    // ends, and a reader that was refused gives that refusal each time (Rules 9.5).
+    pub fn next(&mut self) -> Option<Result<(Frame, usize), FrameRefusal>>
+        ensures { (result ≡ read_by self.old) × (self.new ≡ moved_past self.old) }
+    {
+        let reading = read_frame(self.bytes, self.at);
+        self.at = position_after(reading, self.at);
+        reading
+    }
 }
 
 // The frame that a reader at this position of the bytes reads.
-pub fn frame_at(bytes: &[u8], at: usize) -> Reading
+pub fn frame_at(bytes: &[u8], at: usize) -> Option<Result<(Frame, usize), FrameRefusal>>
     ensures { result ≡ read_of bytes.now at }
 {
-    let mut r = Reader { bytes, at };
-    next(&mut r)
+    Reader { bytes, at }.next()
 }

@@ -2,23 +2,14 @@
 ghost use Rattle.std.specs.Prelude.{◌≡◌};
 ghost use Rattle.calls.specs.Report.{report_of};
 
-use calls::report::Report;
 use stations::common::{is_opened, taken};
-use words::refusal::NOT_OPENED;
+use words::refusal::{Refusal, ask};
 
 // Question 4, then the count.
-pub fn read_report(words: &[u32]) -> Report
+#[tactic(auto, unfolding(calls::specs::Report::report_of))]
+pub fn read_report(words: &[u32]) -> Result<u64, Refusal>
     ensures { result ≡ report_of words.now }
 {
-    if is_opened(words) {
-        Report {
-            number: 0,
-            taken: taken(words),
-        }
-    } else {
-        Report {
-            number: NOT_OPENED,
-            taken: 0,
-        }
-    }
+    ask(is_opened(words), Refusal::NotOpened)?;
+    Ok(taken(words))
 }

@@ -4,15 +4,14 @@
 use mathlib.Core.Path.{◌≡◌, refl, sym, ap, ◌∙◌}
 use mathlib.Core.Bool.{Bool, true, false, cond, not, ◌&&◌}
 use mathlib.Core.List.{List}
-use Prim.Native.Nat.{ℕ, ◌+◌, ◌/◌, ◌%◌, ◌^◌, max, ◌≤◌, ◌<◌}
+use Prim.Native.Nat.{ℕ, ◌+◌, ◌/◌, ◌%◌, ◌^◌, ◌≤◌, ◌<◌}
 use native.Mathlib.Decide.{ℕ_discrete, dec_lt}
-use native.Mathlib.Nat.{div_self, mod-lt}
+use native.Mathlib.Nat.{mod-lt}
 use native.Mathlib.Omega.{arith}
 use borrow.Author.Tests.{eq-eqb, ne_eqb, eqb-true, leb-true, le-leb, lt-ltb, le-ltb}
-use lib.Bits.{bit_or, or_step, or_shr}
+use Rattle.std.proofs.lemmas.Nat.Bits.{bit_at_or, bit_at-pow_same}
 use lib.Dec.{eqb, leb, ltb, lit<}
 use lib.ListN.{length}
-use lib.Pow.{pow_pos}
 use Rattle.points.specs.declared.point.Point.{Point}
 use Rattle.points.specs.declared.cut.Cut.{Cut as PointCut}
 use Rattle.points.specs.Choice.{same_grade}
@@ -47,28 +46,18 @@ slot_below p = mod-lt _ (lit< tt)
 
 -- ---- bits
 
--- the last digit of an or
-or_last : (a b : ℕ) → bit_or a b % 2 ≡ max (a % 2) (b % 2)
-or_last a b = let e = or_step a b in omega (arith, e)
-
 -- a bit that is put in is in
 bit_in : (w k : ℕ) → has_bit (with_bit w k) k ≡ true
 unfolding has_bit with_bit
-bit_in w k =
-    let b = k % 32 in
-    let e : bit_or w (2 ^ b) / 2 ^ b % 2 ≡ 1 =
-    ap (λ n. n % 2) (or_shr w (2 ^ b) b ∙ ap (λ n. bit_or (w / 2 ^ b) n) (div_self (pow_pos b))) ∙ or_last (w / 2 ^ b) 1 ∙ omega arith in
-    eq-eqb _ _ e
+bit_in w k = let b = k % 32 in eq-eqb _ _ (omega (arith, bit_at_or w (2 ^ b) b, bit_at-pow_same b))
 
 -- and no bit is lost
 bit_stays : (w j k : ℕ) → has_bit w j ≡ true → has_bit (with_bit w k) j ≡ true
 unfolding has_bit with_bit
 bit_stays w j k h =
     let b = j % 32 in
-    let m = 2 ^ (k % 32) in
     let f : w / 2 ^ b % 2 ≡ 1 = eqb-true _ _ h in
-    let e : bit_or w m / 2 ^ b % 2 ≡ 1 = ap (λ n. n % 2) (or_shr w m b) ∙ or_last (w / 2 ^ b) (m / 2 ^ b) ∙ omega (arith, f) in
-    eq-eqb _ _ e
+    eq-eqb _ _ (omega (arith, bit_at_or w (2 ^ (k % 32)) b))
 
 -- ---- one mark
 

@@ -1,11 +1,10 @@
 // Rows of the tree, leaves and cuts, as a search reads them: cuts first, which it reads most, and each field tested as a word.
-ghost use Rattle.std.specs.Prelude.{◌≡◌, ◌+◌, ◌≤◌, length, get_or};
+ghost use Rattle.std.specs.Prelude.{◌≡◌, ◌+◌, ◌≤◌};
 ghost use Rattle.points.specs.Word.{cut_at, sum_span_of};
-ghost use Rattle.words.specs.Layout.{row_size};
 ghost use Rattle.rows.specs.Row.{in_rows, checked_row, as_leaf, as_cut, row_of, row_at};
 ghost use Rattle.rows.specs.Tree.{tree_row, at_child, child_at};
 
-use crate::row::{CUT_KIND, LEAF_KIND, Row, as_leaf};
+use crate::row::{CUT_KIND, LEAF_KIND, Row, as_leaf, row_words};
 use points::cut::Cut;
 use points::word::{cut_words_in_range, point_words_in_range, sum_low_at};
 use words::layout::{ROW_SIZE, at_row};
@@ -13,8 +12,8 @@ use words::rule::read_rule;
 use words::word::{curve_in, get, link_in};
 
 // Whether sixteen words are a cut in range under a rule, by the words alone.
-fn cut_sound(part: &[u32], rule: u32, rows: u32) -> bool
-    requires { length part.now ≡ row_size }
+#[tactic(auto, unfolding(crate::specs::Row::in_rows, crate::specs::Row::as_cut))]
+fn cut_sound(part: &[u32; ROW_SIZE], rule: u32, rows: u32) -> bool
     ensures { result ≡ in_rows rule rows (as_cut part.now) }
 {
     link_in(rows, part[1])
@@ -24,8 +23,8 @@ fn cut_sound(part: &[u32], rule: u32, rows: u32) -> bool
 }
 
 // The same for a leaf.
-fn leaf_sound(part: &[u32], rule: u32, rows: u32) -> bool
-    requires { length part.now ≡ row_size }
+#[tactic(auto, unfolding(crate::specs::Row::in_rows, crate::specs::Row::as_leaf, words::specs::Part::point_from))]
+fn leaf_sound(part: &[u32; ROW_SIZE], rule: u32, rows: u32) -> bool
     ensures { result ≡ in_rows rule rows (as_leaf part.now) }
 {
     link_in(rows, part[1])
@@ -33,7 +32,7 @@ fn leaf_sound(part: &[u32], rule: u32, rows: u32) -> bool
         & curve_in(part[9])
 }
 
-// The cut of two words that are in range under some rule.
+// The cut of two words that are in range under some rule. It asks for that, since `points::word::cut_at` would test the axis again at every cut that is read.
 fn sound_cut(axis: u32, sum: u32) -> Cut
     requires { (axis ≤ 8) × (sum ≤ sum_span_of (axis + 1)) }
     ensures { result ≡ cut_at axis sum }
@@ -44,34 +43,26 @@ fn sound_cut(axis: u32, sum: u32) -> Cut
     }
 }
 
-// Sixteen words as a cut, where its axis and sum are in range.
-fn as_sound_cut(part: &[u32]) -> Row
-    requires { (length part.now ≡ row_size) × ((get_or part.now 4 0 ≤ 8) × (get_or part.now 5 0 ≤ sum_span_of (get_or part.now 4 0 + 1))) }
-    ensures { result ≡ as_cut part.now }
-{
-    Row::Cut {
-        parent: part[1],
-        cut: sound_cut(part[4], part[5]),
-        left: part[6],
-        right: part[7],
-    }
-}
-
 // Sixteen words as a cut in range, else `Bad`.
-fn tree_cut(part: &[u32], rule: u32, rows: u32) -> Row
-    requires { length part.now ≡ row_size }
+#[tactic(auto, using(crate::proofs::TreeLaws::cut_tells), unfolding(crate::specs::Row::checked_row, crate::specs::Row::as_cut))]
+fn tree_cut(part: &[u32; ROW_SIZE], rule: u32, rows: u32) -> Row
     ensures { result ≡ checked_row rule rows (as_cut part.now) }
 {
     if cut_sound(part, rule, rows) {
-        as_sound_cut(part)
+        Row::Cut {
+            parent: part[1],
+            cut: sound_cut(part[4], part[5]),
+            left: part[6],
+            right: part[7],
+        }
     } else {
         Row::Bad
     }
 }
 
 // Sixteen words as a leaf in range, else `Bad`.
-fn tree_leaf(part: &[u32], rule: u32, rows: u32) -> Row
-    requires { length part.now ≡ row_size }
+#[tactic(auto, unfolding(crate::specs::Row::checked_row))]
+fn tree_leaf(part: &[u32; ROW_SIZE], rule: u32, rows: u32) -> Row
     ensures { result ≡ checked_row rule rows (as_leaf part.now) }
 {
     if leaf_sound(part, rule, rows) {
@@ -82,36 +73,29 @@ fn tree_leaf(part: &[u32], rule: u32, rows: u32) -> Row
 }
 
 // The row of sixteen words where it is a leaf or a cut in range, else `Bad`.
-fn tree_of(part: &[u32], rule: u32, rows: u32) -> Row
-    requires { length part.now ≡ row_size }
+#[tactic(auto, using(crate::proofs::TreeLaws::tree_of_cut, crate::proofs::TreeLaws::tree_of_leaf, crate::proofs::TreeLaws::tree_of_none))]
+fn tree_of(part: &[u32; ROW_SIZE], rule: u32, rows: u32) -> Row
     ensures { result ≡ tree_row (checked_row rule rows (row_of part.now)) }
 {
-    let kind = part[0];
-    if kind == CUT_KIND {
-        return tree_cut(part, rule, rows);
+    match part[0] {
+        CUT_KIND => tree_cut(part, rule, rows),
+        LEAF_KIND => tree_leaf(part, rule, rows),
+        _ => Row::Bad,
     }
-    if kind == LEAF_KIND {
-        return tree_leaf(part, rule, rows);
-    }
-    Row::Bad
 }
 
 // The row r where it is one of the tree, else `Bad`.
 pub fn read_tree(words: &[u32], rows: u32, r: u32) -> Row
     ensures { result ≡ tree_row (row_at words.now rows r) }
 {
-    if r < rows {
-        let start = at_row(r);
-        let end = start + ROW_SIZE;
-        if end <= words.len() {
-            let rule = read_rule(words);
-            return tree_of(&words[start..end], rule, rows);
-        }
+    match row_words(words, rows, r) {
+        Some(part) => tree_of(part, read_rule(words), rows),
+        None => Row::Bad,
     }
-    Row::Bad
 }
 
 // The word of the child of row r on a side, left or not.
+#[tactic(auto, unfolding(crate::specs::Tree::at_child, words::specs::Layout::at_row))]
 fn at_child(r: u32, left: bool) -> usize
     ensures { result ≡ at_child r left }
 {
@@ -120,6 +104,7 @@ fn at_child(r: u32, left: bool) -> usize
 }
 
 // The child of the cut in row r on a side. It is read again, since choosing one of two links that are read already would be a jump.
+#[tactic(auto, unfolding(crate::specs::Tree::child_at))]
 pub fn child_at(words: &[u32], r: u32, left: bool) -> u32
     ensures { result ≡ child_at words.now r left }
 {

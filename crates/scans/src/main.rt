@@ -6,170 +6,132 @@ mod answer;
 mod content;
 
 use crate::content::Content;
-use std::io::{Eprint, Print, Read};
+use std::error::Error;
+use std::io::{Print, Read};
+use std::{fmt, io};
 use window::begin::begin;
 use window::steady::is_steady;
 use window::update::update;
 use window::window::Window;
 
-// What is kept from byte to byte: the window, the spread within which it is steady, the number of the line under way, what it says so far, whether
-// a comment has begun in it, whether the input is over, and whether every line could be written.
-#[derive(Clone, Copy)]
+// Why the program ends before the input does.
+#[derive(Clone, Copy, Debug, PartialEq, Eq)]
+enum Fault {
+    Input,
+    Output,
+}
+
+impl fmt::Display for Fault {
+    fn fmt<W: fmt::Write>(&self, f: &mut fmt::Formatter<W>) -> fmt::Result {
+        f.write_str(match self {
+            Fault::Input => "standard input could not be read",
+            Fault::Output => "standard output could not be written",
+        })
+    }
+}
+
+impl Error for Fault {}
+
+// What is kept from byte to byte: the window, the spread within which it is steady, the number of the line under way, what it says so far, and
+// whether a comment has begun in it.
+#[derive(Drop)]
 struct Scanning {
     window: Window,
     spread: u32,
     ordinal: u64,
     content: Content,
     comment: bool,
-    over: bool,
-    written: bool,
 }
 
-// Before the first byte. No window is begun: one of zeros refuses every reading.
-fn at_start(written: bool) -> Scanning {
-    let window = Window {
-        length: 0,
-        present: 0,
-        readings: [0; 64],
-    };
-    Scanning {
-        window: window,
-        spread: 0,
-        ordinal: 1,
-        content: Content::Blank,
-        comment: false,
-        over: false,
-        written: written,
-    }
-}
-
-// The line under way says this so far, and a comment has begun in it or not.
-fn with_content(scan: Scanning, content: Content, comment: bool) -> Scanning {
-    let window = scan.window;
-    Scanning {
-        window: window,
-        spread: scan.spread,
-        ordinal: scan.ordinal,
-        content: content,
-        comment: comment,
-        over: scan.over,
-        written: scan.written,
-    }
-}
-
-// A reading is handed to the window.
-fn with_reading(rt: &impl Print, scan: Scanning, reading: u32) -> Scanning {
-    let window = scan.window;
-    let updated = update(window, reading);
-    let figures = updated.figures;
-    let after = updated.window;
-    let steady = is_steady(after, scan.spread);
-    let mut next = scan;
-    next.window = after;
-    next.written = answer::say_reading(rt, scan.ordinal, reading, figures, steady);
-    next
-}
-
-// A window is begun. A refusal leaves the one before, and its spread.
-fn with_window(rt: &impl Print, scan: Scanning, length: u32, spread: u32) -> Scanning {
-    let window = scan.window;
-    let begun = begin(window, length);
-    let after = begun.window;
-    let mut next = scan;
-    next.window = after;
-    next.written = answer::say_window(rt, scan.ordinal, length, spread, begun.number);
-    if begun.number == 0 {
-        next.spread = spread;
-    }
-    next
-}
-
-// A line is not understood.
-fn with_unclear(rt: &impl Print, scan: Scanning) -> Scanning {
-    let mut next = scan;
-    next.written = answer::say_unclear(rt, scan.ordinal);
-    next
-}
-
-// What the line under way says is done.
-fn answered(rt: &impl Print, scan: Scanning) -> Scanning {
-    let content = scan.content;
-    let whole = content::after_word(content);
-    match whole {
-        Content::Blank => scan,
-        Content::Reading(reading) => with_reading(rt, scan, reading),
-        Content::Window(length, spread) => with_window(rt, scan, length, spread),
-        _ => with_unclear(rt, scan),
-    }
-}
-
-// The line under way is over, and another begins.
-fn with_line_end(rt: &impl Print, scan: Scanning) -> Scanning {
-    let mut next = with_content(answered(rt, scan), Content::Blank, false);
-    if scan.ordinal < u64::MAX {
-        next.ordinal = scan.ordinal + 1;
-    }
-    next
-}
-
-// One byte of the input; those of a comment only separate. Nothing is taken once a line could not be written.
-fn with_byte(rt: &impl Print, scan: Scanning, byte: u8) -> Scanning {
-    if !scan.written {
-        return scan;
-    }
-    if byte == b'\n' {
-        return with_line_end(rt, scan);
-    }
-    let content = scan.content;
-    let comment = scan.comment | (byte == b'#');
-    let seen = if comment { b' ' } else { byte };
-    with_content(scan, content::after_byte(content, seen), comment)
-}
-
-// Some bytes of the input.
-fn with_bytes(rt: &impl Print, scan: Scanning, bytes: &[u8]) -> Scanning {
-    let mut next = scan;
-    for i in 0..bytes.len() {
-        next = with_byte(rt, next, bytes[i]);
-    }
-    next
-}
-
-// The input is over, and standard error is told what there is to tell of that.
-fn closed(rt: &impl Eprint, scan: Scanning, notice: &str) -> Scanning {
-    let _ = rt.eprint(notice);
-    let mut next = scan;
-    next.over = true;
-    next
-}
-
-// Reads once, and takes the bytes that came. At the end of the input the line under way is over too; where reading failed it may lack its end, and
-// is left.
-fn with_input(rt: &(impl Print + Eprint), input: &mut impl Read, scan: Scanning) -> Scanning {
-    let mut bytes = [0u8; 4096];
-    match input.read(&mut bytes) {
-        Ok(0) => closed(rt, answered(rt, scan), ""),
-        Ok(n) => with_bytes(rt, scan, &bytes[..n]),
-        Err(_) => closed(rt, scan, "scans: standard input could not be read\n"),
-    }
-}
-
-// Reads until the input is over or a line could not be written. The turns, which no input uses up, make it end.
-fn run(rt: &(impl Print + Eprint), input: &mut impl Read, scan: Scanning) -> Scanning {
-    let mut next = scan;
-    for _ in 0..u64::MAX {
-        if !next.written || next.over {
-            break;
+impl Scanning {
+    // Before the first byte. No window is begun: one of zeros refuses every reading.
+    fn new() -> Scanning {
+        Scanning {
+            window: Window {
+                length: 0,
+                present: 0,
+                readings: [0; 64],
+            },
+            spread: 0,
+            ordinal: 1,
+            content: Content::Blank,
+            comment: false,
         }
-        next = with_input(rt, input, next);
     }
-    next
+
+    // A reading is handed to the window.
+    fn take_reading(&mut self, rt: &impl Print, reading: u32) -> io::Result<()> {
+        let updated = update(self.window, reading);
+        if let Ok((window, _)) = updated {
+            self.window = window;
+        }
+        let spread = self.spread;
+        let outcome = updated.map(|(window, told)| (told, is_steady(window, spread)));
+        answer::say_reading(rt, self.ordinal, reading, outcome)
+    }
+
+    // A window is begun. A refusal leaves the one before, and its spread.
+    fn take_window(&mut self, rt: &impl Print, length: u32, spread: u32) -> io::Result<()> {
+        let begun = begin(self.window, length);
+        if let Ok(window) = begun {
+            self.window = window;
+            self.spread = spread;
+        }
+        answer::say_window(rt, self.ordinal, length, spread, begun.map(|_| ()))
+    }
+
+    // What the line under way says is done.
+    fn take_line(&mut self, rt: &impl Print) -> io::Result<()> {
+        match self.content.after_word() {
+            Content::Blank => Ok(()),
+            Content::Reading(reading) => self.take_reading(rt, reading),
+            Content::Window(length, spread) => self.take_window(rt, length, spread),
+            _ => answer::say_unclear(rt, self.ordinal),
+        }
+    }
+
+    // One byte of the input. Those of a comment only separate, and a line's end begins another line.
+    fn take_byte(&mut self, rt: &impl Print, byte: u8) -> io::Result<()> {
+        if byte == b'\n' {
+            self.take_line(rt)?;
+            self.content = Content::Blank;
+            self.comment = false;
+            self.ordinal = self.ordinal.saturating_add(1);
+            return Ok(());
+        }
+        self.comment |= byte == b'#';
+        let seen = if self.comment { b' ' } else { byte };
+        self.content = self.content.after(seen);
+        Ok(())
+    }
+
+    // Some bytes of the input.
+    fn take_bytes(&mut self, rt: &impl Print, bytes: &[u8]) -> io::Result<()> {
+        for byte in bytes {
+            self.take_byte(rt, *byte)?;
+        }
+        Ok(())
+    }
+}
+
+// Reads until the input is over; then the line under way is over too. Where reading fails that line may lack its end, and is left. The turns, which no
+// input uses up, make it end.
+fn scan(rt: &impl Print, input: &mut impl Read) -> Result<(), Fault> {
+    println!(rt; "line reading sum least greatest mean steady").or(Err(Fault::Output))?;
+    let mut scanning = Scanning::new();
+    for _ in 0..u64::MAX {
+        let mut bytes = [0u8; 4096];
+        match input.read(&mut bytes) {
+            Ok(0) => break,
+            Ok(n) => scanning.take_bytes(rt, &bytes[..n]).or(Err(Fault::Output))?,
+            Err(_) => return Err(Fault::Input),
+        }
+    }
+    scanning.take_line(rt).or(Err(Fault::Output))
 }
 
 fn main(rt: HostRuntime) {
-    let written = answer::say(&rt, b"line reading sum least greatest mean steady\n");
-    let scan = run(&rt, &mut rt.stdin(), at_start(written));
-    if !scan.written {
-        let _ = rt.eprint("scans: standard output could not be written\n");
+    if let Err(fault) = scan(&rt, &mut rt.stdin()) {
+        let _ = rt.eprintln(format_args!("scans: {fault}"));
     }
 }

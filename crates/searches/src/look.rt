@@ -15,16 +15,13 @@ fn look_best(aim: Aim, best: Best, row: Row) -> Best
     ensures { result ≡ look_best aim best row }
 {
     match row {
-        Row::Bad => best,
-        Row::Spare { .. } => best,
         Row::Removed {
             added,
             point,
             curve,
             ..
         } => consider(aim, best, added, point, curve),
-        Row::Leaf { .. } => best,
-        Row::Cut { .. } => best,
+        _ => best,
     }
 }
 
@@ -32,12 +29,10 @@ fn look_best(aim: Aim, best: Best, row: Row) -> Best
 fn pass_spare(link: u32, row: Row) -> u32
     ensures { result ≡ pass_spare link row }
 {
-    match row {
-        Row::Bad => link,
-        Row::Spare { next, .. } => next,
-        Row::Removed { .. } => link,
-        Row::Leaf { .. } => link,
-        Row::Cut { .. } => link,
+    if let Row::Spare { next, .. } = row {
+        next
+    } else {
+        link
     }
 }
 
@@ -46,13 +41,11 @@ fn look_at(aim: Aim, p: Progress, row: Row, after: Row) -> Progress
     ensures { result ≡ look_at aim p row after }
 {
     let next = next_of(row);
-    let best = look_best(aim, p.best, row);
     Progress {
-        cursor: p.cursor,
-        phase: p.phase,
         missed: pass_spare(next, after),
-        best: best,
+        best: look_best(aim, p.best, row),
         sound: (p.sound & is_free(row)) & ((next == NONE) | is_free(after)),
+        ..p
     }
 }
 
@@ -66,6 +59,7 @@ fn look_from(words: &[u32], rows: u32, aim: Aim, p: Progress) -> Progress
 }
 
 // One missed record is looked at, if there is any.
+#[tactic(auto, unfolding(calls::specs::Look::look))]
 pub(crate) fn look(words: &[u32], rows: u32, aim: Aim, p: Progress) -> Progress
     ensures { result ≡ look words.now rows aim p }
 {

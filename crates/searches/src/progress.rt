@@ -1,22 +1,17 @@
-// How far a search has come: what a record that is considered makes of the best, and how the search goes on.
+// How far a search has come: what a record that is considered makes of the best.
 ghost use Rattle.std.specs.Prelude.{◌≡◌};
-ghost use Rattle.calls.specs.Progress.{better, may_find, prevails, considered, onward, strayed};
+ghost use Rattle.calls.specs.Progress.{better, may_find, prevails, considered};
 
 use calls::aim::Aim;
-use calls::progress::Progress;
 use points::choice::{chosen_over, same_grade};
 use points::point::Point;
 use stations::call::Best;
 
-// Whether there is no best, or the point is chosen over it.
+// Whether there is no best, or the point is chosen over it. A best of curve 0 is none: the words hold it so (`no_best`), and it is read and written as it stands.
 fn better(aim: Aim, best: Best, point: Point) -> bool
     ensures { result ≡ better aim best point }
 {
-    if best.curve == 0 {
-        true
-    } else {
-        chosen_over(aim.scale, aim.point, point, best.point)
-    }
+    best.curve == 0 || chosen_over(aim.scale, aim.point, point, best.point)
 }
 
 // Whether a record is one that the search may find: its number is at most as-of, and its grade is the target's.
@@ -30,50 +25,17 @@ pub(crate) fn may_find(aim: Aim, added: u32, point: Point) -> bool
 fn prevails(aim: Aim, best: Best, added: u32, point: Point) -> bool
     ensures { result ≡ prevails aim best added point }
 {
-    if may_find(aim, added, point) {
-        better(aim, best, point)
-    } else {
-        false
-    }
+    may_find(aim, added, point) && better(aim, best, point)
 }
 
 // The best after a record was considered.
+#[tactic(auto, unfolding(calls::specs::Progress::considered))]
 pub(crate) fn consider(aim: Aim, best: Best, added: u32, point: Point, curve: u32) -> Best
     ensures { result ≡ considered aim best added point curve }
 {
     if prevails(aim, best, added, point) {
-        Best {
-            curve: curve,
-            point: point,
-        }
+        Best { curve, point }
     } else {
         best
-    }
-}
-
-// The search goes on so.
-pub(crate) fn onward(p: Progress, cursor: u32, phase: u32, best: Best) -> Progress
-    ensures { result ≡ onward p cursor phase best }
-{
-    Progress {
-        cursor: cursor,
-        phase: phase,
-        missed: p.missed,
-        best: best,
-        sound: p.sound,
-    }
-}
-
-// A row was not what it must be.
-pub(crate) fn strayed(p: Progress) -> Progress
-    ensures { result ≡ strayed p }
-{
-    let best = p.best;
-    Progress {
-        cursor: p.cursor,
-        phase: p.phase,
-        missed: p.missed,
-        best: best,
-        sound: false,
     }
 }

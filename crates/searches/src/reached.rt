@@ -4,7 +4,6 @@ ghost use Rattle.std.specs.Prelude.{◌≡◌};
 ghost use Rattle.calls.specs.Tour.{best_square};
 ghost use Rattle.calls.specs.Reached.{above_of, reached_at, go_to, go_up, refused};
 
-use crate::progress::{onward, strayed};
 use calls::aim::Aim;
 use calls::progress::Progress;
 use calls::reached::Reached;
@@ -12,41 +11,52 @@ use links::link::parent_of;
 use points::square::square;
 use rows::row::read_row;
 use stations::call::Best;
+use stations::track::{DOWN, UP};
 use words::layout::NONE;
 
-// The best square while there is no best: only a cut on axis 1 excludes its far side then.
-pub(crate) const NO_SQUARE: u64 = 18446744073709551615;
+// The best square while there is no best: only a cut on axis 1 excludes its far side then. A number, so that it is compared as any other (`no_square`).
+pub(crate) const NO_SQUARE: u64 = u64::MAX;
 
 // Down to a child.
-pub(crate) fn go_to(p: Progress, square: u64, child: u32) -> Reached
-    ensures { result ≡ go_to p square child }
+pub(crate) fn go_to(reached: Reached, child: u32) -> Reached
+    ensures { result ≡ go_to reached.progress reached.square child }
 {
     Reached {
         above: NONE,
-        square: square,
-        progress: onward(p, child, 0, p.best),
+        progress: Progress {
+            cursor: child,
+            phase: DOWN,
+            ..reached.progress
+        },
+        ..reached
     }
 }
 
 // Up from a row of that parent.
-pub(crate) fn go_up(p: Progress, square: u64, x: u32, parent: u32) -> Reached
-    ensures { result ≡ go_up p square x parent }
+pub(crate) fn go_up(reached: Reached, x: u32, parent: u32) -> Reached
+    ensures { result ≡ go_up reached.progress reached.square x parent }
 {
     Reached {
         above: parent,
-        square: square,
-        progress: onward(p, x, 1, p.best),
+        progress: Progress {
+            cursor: x,
+            phase: UP,
+            ..reached.progress
+        },
+        ..reached
     }
 }
 
-// No further.
-pub(crate) fn refused(p: Progress, square: u64, above: u32) -> Reached
-    ensures { result ≡ refused p square above }
+// No further: a row was not what it must be. The progress keeps that as a flag, since the moves after it go on from the same progress (`strayed`).
+pub(crate) fn refused(reached: Reached) -> Reached
+    ensures { result ≡ refused reached.progress reached.square reached.above }
 {
     Reached {
-        above: above,
-        square: square,
-        progress: strayed(p),
+        progress: Progress {
+            sound: false,
+            ..reached.progress
+        },
+        ..reached
     }
 }
 
@@ -62,10 +72,11 @@ fn best_square(aim: Aim, best: Best) -> u64
 }
 
 // The parent link of the row where a search stands on its way up.
+#[tactic(auto, unfolding(calls::specs::Reached::above_of))]
 fn above_of(words: &[u32], rows: u32, p: Progress) -> u32
     ensures { result ≡ above_of words.now rows p }
 {
-    if p.phase == 0 {
+    if p.phase == DOWN {
         NONE
     } else {
         parent_of(read_row(words, rows, p.cursor))

@@ -4,9 +4,9 @@
 // in line.
 ghost use Rattle.std.specs.Prelude.{◌≡◌};
 ghost use Rattle.calls.specs.Tour.{shut_at};
-ghost use Rattle.calls.specs.Reached.{past_near, past_far, past_side, visit_sides, visit_cut, prevails_at, down_leaf, visit_leaf, visit_row, at_top, move_to, moved};
+ghost use Rattle.calls.specs.Reached.{past_near, past_far, past_side, visit_cut, prevails_at, down_leaf, visit_leaf, visit_row, at_top, move_to, moved};
 
-use crate::progress::{may_find, onward};
+use crate::progress::may_find;
 use crate::reached::{NO_SQUARE, go_to, go_up, refused};
 use calls::aim::Aim;
 use calls::progress::Progress;
@@ -14,242 +14,216 @@ use calls::reached::Reached;
 use links::link::is_tree;
 use points::choice::{aims_left, chosen_at, far_side_excluded};
 use points::cut::Cut;
+use points::pick::pick;
 use points::point::Point;
 use points::square::square;
 use rows::grades::admits;
 use rows::row::{Row, read_row};
 use rows::tree::{child_at, read_tree};
 use stations::call::Best;
+use stations::track::{DOWN, UP};
 use words::layout::NONE;
-use words::word::pick;
 
-// Whether the far side of the cut in row x is shut: the target's slot is not among its grades, or it is excluded.
-fn shut_at(words: &[u32], slot: u32, aim: Aim, square: u64, x: u32, cut: Cut, goes: bool) -> bool
-    ensures { result ≡ shut_at words.now slot aim square x cut goes }
-{
-    if admits(words, x, !goes, slot) {
-        far_side_excluded(aim.scale, cut, aim.point, square)
-    } else {
-        true
-    }
-}
-
-// Past the near side of the cut in row x: to its far child, or up where that side is shut.
-fn past_near(
-    words: &[u32],
-    slot: u32,
-    aim: Aim,
-    p: Progress,
-    square: u64,
-    x: u32,
-    parent: u32,
-    far: u32,
-    cut: Cut,
-    goes: bool,
-) -> Reached
-    ensures { result ≡ past_near words.now slot aim p square x parent far cut goes }
-{
-    if shut_at(words, slot, aim, square, x, cut, goes) {
-        go_up(p, square, x, parent)
-    } else {
-        go_to(p, square, far)
-    }
-}
-
-// Past its far side: further up. A row that is no child of it is not sound.
-fn past_far(p: Progress, square: u64, above: u32, x: u32, parent: u32, far: u32) -> Reached
-    ensures { result ≡ past_far p square above x parent far }
-{
-    if far == p.cursor {
-        go_up(p, square, x, parent)
-    } else {
-        refused(p, square, above)
-    }
-}
-
-// Past a side of it: the near one on the way down, else that where the search comes from. One place asks of the far side for both ways, so that the
-// question is compiled in line.
-fn past_side(
-    words: &[u32],
-    slot: u32,
-    aim: Aim,
-    reached: Reached,
+// The cut in row x as a search meets it: its parent link, the child on the target's side and the other one, and whether the target goes left.
+#[derive(Clone, Copy)]
+struct Sides {
     x: u32,
     parent: u32,
     near: u32,
     far: u32,
     cut: Cut,
     goes: bool,
-) -> Reached
-    ensures { result ≡ past_side words.now slot aim reached x parent near far cut goes }
-{
-    let p = reached.progress;
-    if (p.phase == 0) | (near == p.cursor) {
-        past_near(
-            words,
-            slot,
-            aim,
-            p,
-            reached.square,
-            x,
-            parent,
-            far,
-            cut,
-            goes,
-        )
-    } else {
-        past_far(p, reached.square, reached.above, x, parent, far)
-    }
 }
 
-// At the cut in row x: down to its near child where its side admits the slot, else past a side.
-fn visit_sides(
-    words: &[u32],
-    slot: u32,
-    aim: Aim,
-    reached: Reached,
-    x: u32,
-    parent: u32,
-    cut: Cut,
-    goes: bool,
-) -> Reached
-    ensures { result ≡ visit_sides words.now slot aim reached x parent cut goes }
-{
-    let p = reached.progress;
-    let near = child_at(words, x, goes);
-    let far = child_at(words, x, !goes);
-    if (p.phase == 0) & admits(words, x, goes, slot) {
-        go_to(p, reached.square, near)
-    } else {
-        past_side(words, slot, aim, reached, x, parent, near, far, cut, goes)
-    }
-}
-
-// The same, with the sides told apart.
-fn visit_cut(
-    words: &[u32],
-    slot: u32,
-    aim: Aim,
-    reached: Reached,
-    x: u32,
-    parent: u32,
-    cut: Cut,
-) -> Reached
-    ensures { result ≡ visit_cut words.now slot aim reached x parent cut }
-{
-    let goes = aims_left(cut, aim.point);
-    visit_sides(words, slot, aim, reached, x, parent, cut, goes)
-}
-
-// Whether a record at its own square prevails over the best at that square.
-fn prevails_at(aim: Aim, best: Best, square: u64, added: u32, point: Point, own: u64) -> bool
-    ensures { result ≡ prevails_at aim best square added point own }
-{
-    if may_find(aim, added, point) {
-        (best.curve == 0) | chosen_at(own, square, point, best.point)
-    } else {
-        false
-    }
-}
-
-// Down at a leaf with its own square: it is considered, and the way leads up.
-fn down_leaf(
-    aim: Aim,
-    p: Progress,
-    square: u64,
-    parent: u32,
-    added: u32,
-    point: Point,
-    curve: u32,
-    own: u64,
-) -> Reached
-    ensures { result ≡ down_leaf aim p square parent added point curve own }
-{
-    if prevails_at(aim, p.best, square, added, point, own) {
-        let best = Best {
-            curve: curve,
-            point: point,
-        };
-        Reached {
-            above: parent,
-            square: if curve == 0 { NO_SQUARE } else { own },
-            progress: onward(p, p.cursor, 1, best),
+impl Sides {
+    // Past the far side: further up. A row that is no child of the cut is not sound.
+    fn past_far(self, reached: Reached) -> Reached
+        ensures { result ≡ past_far reached.progress reached.square reached.above self.x self.parent self.far }
+    {
+        if self.far == reached.progress.cursor {
+            go_up(reached, self.x, self.parent)
+        } else {
+            refused(reached)
         }
-    } else {
-        go_up(p, square, p.cursor, parent)
     }
 }
 
-// At a leaf, which no way up leads to.
-fn visit_leaf(
-    aim: Aim,
-    reached: Reached,
+// A leaf as a search meets it.
+#[derive(Clone, Copy)]
+struct Leaf {
     parent: u32,
     added: u32,
     point: Point,
     curve: u32,
-) -> Reached
-    ensures { result ≡ visit_leaf aim reached parent added point curve }
-{
-    let p = reached.progress;
-    if p.phase == 0 {
-        let own = square(aim.scale, aim.point, point);
-        down_leaf(aim, p, reached.square, parent, added, point, curve, own)
-    } else {
-        refused(p, reached.square, reached.above)
+}
+
+impl Leaf {
+    // Whether its record, at its own square, prevails over the best so far.
+    fn prevails(self, aim: Aim, reached: Reached, own: u64) -> bool
+        ensures { result ≡ prevails_at aim reached.progress.best reached.square self.added self.point own }
+    {
+        let best = reached.progress.best;
+        may_find(aim, self.added, self.point)
+            && ((best.curve == 0) | chosen_at(own, reached.square, self.point, best.point))
+    }
+
+    // Down at the leaf, with its own square: it is considered, and the way leads up.
+    fn visit_down(self, aim: Aim, reached: Reached, own: u64) -> Reached
+        ensures { result ≡ down_leaf aim reached.progress reached.square self.parent self.added self.point self.curve own }
+    {
+        if self.prevails(aim, reached, own) {
+            Reached {
+                above: self.parent,
+                square: if self.curve == 0 { NO_SQUARE } else { own },
+                progress: Progress {
+                    phase: UP,
+                    best: Best {
+                        curve: self.curve,
+                        point: self.point,
+                    },
+                    ..reached.progress
+                },
+            }
+        } else {
+            go_up(reached, reached.progress.cursor, self.parent)
+        }
+    }
+
+    // At the leaf, which no way up leads to.
+    fn visit(self, aim: Aim, reached: Reached) -> Reached
+        ensures { result ≡ visit_leaf aim reached self.parent self.added self.point self.curve }
+    {
+        if reached.progress.phase == DOWN {
+            self.visit_down(aim, reached, square(aim.scale, aim.point, self.point))
+        } else {
+            refused(reached)
+        }
     }
 }
 
-// At the row x.
-fn visit_row(words: &[u32], slot: u32, aim: Aim, reached: Reached, x: u32, row: Row) -> Reached
-    ensures { result ≡ visit_row words.now slot aim reached x row }
-{
-    match row {
-        Row::Bad => refused(reached.progress, reached.square, reached.above),
-        Row::Spare { .. } => refused(reached.progress, reached.square, reached.above),
-        Row::Removed { .. } => refused(reached.progress, reached.square, reached.above),
-        Row::Leaf {
-            parent,
-            added,
-            point,
-            curve,
-        } => visit_leaf(aim, reached, parent, added, point, curve),
-        Row::Cut { parent, cut, .. } => visit_cut(words, slot, aim, reached, x, parent, cut),
-    }
+// What a tour reads: the words with so many rows, what the search looks for, and the slot of the target's grade.
+#[derive(Clone, Copy)]
+pub(crate) struct Tour<'a> {
+    pub(crate) words: &'a [u32],
+    pub(crate) rows: u32,
+    pub(crate) slot: u32,
+    pub(crate) aim: Aim,
 }
 
-// Up from a row with no parent: the tour is over, if that row is one of the tree.
-fn at_top(words: &[u32], rows: u32, reached: Reached) -> Reached
-    ensures { result ≡ at_top words.now rows reached }
-{
-    let p = reached.progress;
-    if is_tree(read_row(words, rows, p.cursor)) {
-        go_up(p, reached.square, NONE, NONE)
-    } else {
-        refused(p, reached.square, NONE)
+impl<'a> Tour<'a> {
+    // Whether the far side of a cut is shut: the target's slot is not among its grades, or it is excluded.
+    fn shuts(self, square: u64, sides: Sides) -> bool
+        ensures { result ≡ shut_at self.entry.words.now self.entry.slot self.entry.aim square sides.x sides.cut sides.goes }
+    {
+        !admits(self.words, sides.x, !sides.goes, self.slot)
+            || far_side_excluded(self.aim.scale, sides.cut, self.aim.point, square)
     }
-}
 
-// One move, by the row x.
-fn move_to(words: &[u32], rows: u32, slot: u32, aim: Aim, reached: Reached, x: u32) -> Reached
-    ensures { result ≡ move_to words.now rows slot aim reached x }
-{
-    if x == NONE {
-        at_top(words, rows, reached)
-    } else {
-        visit_row(words, slot, aim, reached, x, read_tree(words, rows, x))
+    // Past the near side of a cut: to its far child, or up where that side is shut.
+    fn past_near(self, reached: Reached, sides: Sides) -> Reached
+        ensures { result ≡ past_near self.entry.words.now self.entry.slot self.entry.aim reached.progress reached.square sides.x sides.parent sides.far sides.cut sides.goes }
+    {
+        if self.shuts(reached.square, sides) {
+            go_up(reached, sides.x, sides.parent)
+        } else {
+            go_to(reached, sides.far)
+        }
     }
-}
 
-// One move, unless the tour is over: by the row where the search stands, or by the one above it. Either way one row is read.
-pub(crate) fn tour(words: &[u32], rows: u32, slot: u32, aim: Aim, reached: Reached) -> Reached
-    ensures { result ≡ moved words.now rows slot aim reached }
-{
-    let p = reached.progress;
-    if p.cursor == NONE {
-        reached
-    } else {
-        let x = pick(p.phase == 0, p.cursor, reached.above);
-        move_to(words, rows, slot, aim, reached, x)
+    // Past a side of it: the near one on the way down, else that where the search comes from. One place asks of the far side for both ways, so that the
+    // question is compiled in line.
+    fn past_side(self, reached: Reached, sides: Sides) -> Reached
+        ensures { result ≡ past_side self.entry.words.now self.entry.slot self.entry.aim reached sides.x sides.parent sides.near sides.far sides.cut sides.goes }
+    {
+        let p = reached.progress;
+        if (p.phase == DOWN) | (sides.near == p.cursor) {
+            self.past_near(reached, sides)
+        } else {
+            sides.past_far(reached)
+        }
+    }
+
+    // At the cut in row x: down to its near child where its side admits the slot, else past a side.
+    fn visit_cut(self, reached: Reached, x: u32, parent: u32, cut: Cut) -> Reached
+        ensures { result ≡ visit_cut self.entry.words.now self.entry.slot self.entry.aim reached x parent cut }
+    {
+        let goes = aims_left(cut, self.aim.point);
+        let near = child_at(self.words, x, goes);
+        let far = child_at(self.words, x, !goes);
+        if (reached.progress.phase == DOWN) & admits(self.words, x, goes, self.slot) {
+            go_to(reached, near)
+        } else {
+            let sides = Sides {
+                x,
+                parent,
+                near,
+                far,
+                cut,
+                goes,
+            };
+            self.past_side(reached, sides)
+        }
+    }
+
+    // At the row x.
+    fn visit_row(self, reached: Reached, x: u32, row: Row) -> Reached
+        ensures { result ≡ visit_row self.entry.words.now self.entry.slot self.entry.aim reached x row }
+    {
+        match row {
+            Row::Leaf {
+                parent,
+                added,
+                point,
+                curve,
+            } => {
+                let leaf = Leaf {
+                    parent,
+                    added,
+                    point,
+                    curve,
+                };
+                leaf.visit(self.aim, reached)
+            }
+            Row::Cut { parent, cut, .. } => self.visit_cut(reached, x, parent, cut),
+            _ => refused(reached),
+        }
+    }
+
+    // Up from a row with no parent: the tour is over, if that row is one of the tree.
+    fn at_top(self, reached: Reached) -> Reached
+        ensures { result ≡ at_top self.entry.words.now self.entry.rows reached }
+    {
+        if is_tree(read_row(self.words, self.rows, reached.progress.cursor)) {
+            go_up(reached, NONE, NONE)
+        } else {
+            refused(Reached {
+                above: NONE,
+                ..reached
+            })
+        }
+    }
+
+    // One move, by the row x.
+    fn move_to(self, reached: Reached, x: u32) -> Reached
+        ensures { result ≡ move_to self.entry.words.now self.entry.rows self.entry.slot self.entry.aim reached x }
+    {
+        if x == NONE {
+            self.at_top(reached)
+        } else {
+            self.visit_row(reached, x, read_tree(self.words, self.rows, x))
+        }
+    }
+
+    // One move, unless the tour is over: by the row where the search stands, or by the one above it. Either way one row is read.
+    #[tactic(auto, unfolding(calls::specs::Reached::moved))]
+    pub(crate) fn move_on(self, reached: Reached) -> Reached
+        ensures { result ≡ moved self.entry.words.now self.entry.rows self.entry.slot self.entry.aim reached }
+    {
+        let p = reached.progress;
+        if p.cursor == NONE {
+            reached
+        } else {
+            self.move_to(reached, pick(p.phase == DOWN, p.cursor, reached.above))
+        }
     }
 }

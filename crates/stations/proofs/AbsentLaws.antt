@@ -9,7 +9,7 @@ use Rattle.stations.specs.declared.station.State.{State}
 use Rattle.stations.specs.declared.call.Best.{Best}
 use Rattle.stations.specs.declared.call.Call.{Call}
 use Rattle.stations.specs.declared.answer.Answer.{Answer}
-use Rattle.stations.specs.declared.answer.Waiting.TheVariants.{Nothing}
+use Rattle.std.specs.Prelude.{None}
 use Rattle.stations.specs.Station.{has_station, state_at, put_state}
 use Rattle.stations.specs.Call.{no_call, call_at, call_sound, put_best, put_asked, put_call}
 use Rattle.stations.specs.Answer.{no_answer, answer_at, put_answer, waiting_at}
@@ -27,7 +27,7 @@ module _ (w : List ℕ) (s : ℕ) (absent : has_station w s ≡ false) where
   unfolding answer_at
   answer_at_absent = rw absent
 
-  pub waiting_at_absent : waiting_at w s ≡ Nothing
+  pub waiting_at_absent : waiting_at w s ≡ None
   unfolding waiting_at state_at
   waiting_at_absent = rw absent
 

@@ -40,6 +40,11 @@ eight_of t f =
     and_i (and_i (and_i (and_i (and_i (and_i (and_i (f 0 (omega arith)) (f 1 (omega arith))) (f 2 (omega arith))) (f 3 (omega arith))) (f 4 (omega arith))) (f 5 (omega arith))) (f 6 (omega arith)))
     (f 7 (omega arith))
 
+-- tests that pass one after the other, so far
+abbrev pub passed : (ℕ → Bool) → ℕ → Bool
+passed t zero = true
+passed t (suc n) = passed t n && t n
+
 -- tests that are equal one by one
 pub eight_same : (t u : ℕ → Bool) → ((s : ℕ) → s < stations → t s ≡ u s) → eight t ≡ eight u
 eight_same t u f =

@@ -1,4 +1,3 @@
-pub mod Branches
 pub mod Eight
 pub mod StationLaws
 pub mod RecordLaws
@@ -16,3 +15,4 @@ pub mod FieldLaws
 pub mod OpenLaws
 pub mod CommonLaws
 pub mod TakenLaws
+pub mod PartLaws

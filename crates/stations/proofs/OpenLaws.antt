@@ -1,20 +1,26 @@
 -- What opening writes of the records: zero in every word of them, so that every station is idle (`state_cleared`) and has made no change, and mark, places, limit and factors, so
 -- that the slice is opened (`opened_begun`). The words beyond the records stay.
 -- Assumes nothing.
-use mathlib.Core.Path.{◌≡◌, refl, ◌∙◌}
+use mathlib.Core.Path.{◌≡◌, refl, ap, sym, ◌∙◌}
 use mathlib.Core.Bool.{Bool, true, false, cond}
-use mathlib.Core.List.{List}
-use Prim.Native.Nat.{ℕ, zero, suc, ◌≤◌, ◌<◌}
+use mathlib.Core.List.{List, ◌++◌}
+use Prim.Native.Nat.{ℕ, zero, suc, ◌-◌, ◌≤◌, ◌<◌, min}
 use native.Mathlib.Omega.{arith}
 use native.Mathlib.Decide.{ℕ_discrete}
-use lib.ListN.{length}
+use borrow.Author.Tests.{ltb-true, ltb-false}
+use lib.Dec.{ltb}
+use lib.ListN.{length, get_or, take, drop}
+use lib.Seq.{get_or-drop}
+use Rattle.std.proofs.Common.{replicate}
+use Rattle.std.proofs.Math.ListN.{get_or-append}
+use Rattle.std.proofs.lemmas.List.{get_or-append_right, get_or-replicate, length-replicate, length-append, length-take, length-drop}
 use Rattle.points.specs.declared.scale.Scale.{Scale}
 use Rattle.points.specs.Rule.{rule_in}
 use Rattle.points.specs.Scale.{factors_in}
 use Rattle.words.specs.Layout.{stations, records, words_for, at_mark, at_places, at_limit, at_scale, at_counter, at_station}
 use Rattle.words.specs.Words.{get, put}
 use Rattle.words.specs.Agree.{in_common, in_station, Beyond}
-use Rattle.words.proofs.WordLaws.{length_put, get_put_same, get_put_other}
+use Rattle.words.proofs.WordLaws.{words_same, length_put, get_put_same, get_put_other}
 use Rattle.words.proofs.AgreeLaws.{elsewhere, only_apart, station_common}
 use Rattle.words.proofs.BeyondLaws.{beyond_refl, beyond_common}
 use Rattle.stations.specs.Station.{idle, has_station, state_at}
@@ -35,17 +41,51 @@ first_beyond (suc m) w n h =
     let b = first_beyond m w n (omega arith) in
     record { lengths = length_put (cleared m w) m 0 ∙ b.lengths; words = λ k l. get_put_other (cleared m w) m k 0 (λ e. omega arith) ∙ b.words k l }
 
-first_zero : (m : ℕ) (w : List ℕ) → m ≤ length w → (k : ℕ) → k < m → get (cleared m w) k ≡ 0
+first_zero : (m : ℕ) (w : List ℕ) (k : ℕ) → k < m → k < length w → get (cleared m w) k ≡ 0
 unfolding cleared
-first_zero zero w h k l = absurd (omega arith)
-first_zero (suc m) w h k l = go (ℕ_discrete k m) (λ below. first_zero m w (omega arith) k below)
+first_zero zero w k l h = absurd (omega arith)
+first_zero (suc m) w k l h = go (ℕ_discrete k m) (λ below. first_zero m w k below h)
   where
     go : Dec (k ≡ m) → (k < m → get (cleared m w) k ≡ 0) → get (put (cleared m w) m 0) k ≡ 0
     go (yes e) f = rw e (get_put_same (cleared m w) m 0 (omega (arith, (first_beyond m w m (omega arith)).lengths)))
     go (no d) f = get_put_other (cleared m w) m k 0 d ∙ f (omega arith)
 
+-- so the words are zeros, and then those beyond
+first_fill : (m : ℕ) (w : List ℕ) → cleared m w ≡ replicate (min m (length w)) 0 ++ drop (min m (length w)) w
+unfolding get
+first_fill m w =
+    words_same (cleared m w) (replicate n 0 ++ drop n w) (beyond.lengths ∙ sym size)
+    (λ k l. go k (omega (arith, beyond.lengths)) (ltb k n) refl)
+  where
+    n : ℕ
+    n = min m (length w)
+
+    beyond : Beyond (cleared m w) w m
+    beyond = first_beyond m w m (omega arith)
+
+    size : length (replicate n 0 ++ drop n w) ≡ length w
+    size = omega (arith, length-append {A = ℕ} (replicate n 0) (drop n w), length-replicate {A = ℕ} n 0, length-drop {A = ℕ} n w)
+
+    go : (k : ℕ) → k < length w → (b : Bool) → ltb k n ≡ b → get (cleared m w) k ≡ get (replicate n 0 ++ drop n w) k
+    go k l true e =
+        let h : k < n = ltb-true k n e in
+        first_zero m w k (omega arith) l ∙ sym (get_or-append {A = ℕ} (replicate n 0) (drop n w) 0 k (omega (arith, length-replicate {A = ℕ} n 0)) ∙ get_or-replicate {A = ℕ} n k 0 0 h)
+    go k l false e =
+        let h : n ≤ k = ltb-false k n e in
+        beyond.words k (omega arith) ∙ sym (get_or-append_right {X = ℕ} (replicate n 0) (drop n w) n k 0 (length-replicate {A = ℕ} n 0) h ∙ get_or-drop n w (k - n) 0 ∙ ap (λ (j : ℕ). get_or w j 0) (omega arith))
+
 -- ---- the records cleared
 module _ (w : List ℕ) where
+  cleared_fill : records_cleared w ≡ replicate (min records (length w)) 0 ++ drop (min records (length w)) w
+  unfolding records_cleared
+  cleared_fill = first_fill records w
+
+  -- as a function fills them: v is the part that it fills, of the length of the first n words
+  pub cleared_filled : (v : List ℕ) (n : ℕ) → n ≡ min records (length w) → v ≡ replicate (length (take n w)) 0 → v ++ drop n w ≡ records_cleared w
+  cleared_filled v n e f =
+      let size : length (take n w) ≡ n = omega (arith, length-take {A = ℕ} n w) in
+      rw (f, size, e) (sym cleared_fill)
+
   pub cleared_beyond : {n : ℕ} → records ≤ n → Beyond (records_cleared w) w n
   unfolding records_cleared
   cleared_beyond {n} h = first_beyond records w n h
@@ -58,7 +98,7 @@ module _ (w : List ℕ) where
   unfolding records_cleared at_station
   state_cleared h s l =
       state_at_is (records_cleared w) s (there_of (records_cleared w) s (record { station = l; long = omega (arith, length_cleared) }))
-      ∙ (λ i. record { word = first_zero records w h (at_station s) (omega arith) i })
+      ∙ (λ i. record { word = first_zero records w (at_station s) (omega arith) (omega arith) i })
 
   -- and has made no change
   pub counter_cleared : records ≤ length w → (s : ℕ) → counter_at (records_cleared w) s ≡ 0
@@ -66,7 +106,7 @@ module _ (w : List ℕ) where
   counter_cleared h s = go (has_station (records_cleared w) s) (there_tells (records_cleared w) s)
     where
       go : (b : Bool) → (b ≡ true → There (records_cleared w) s) → cond b (get (records_cleared w) (at_counter s)) 0 ≡ 0
-      go true f = first_zero records w h (at_counter s) (omega (arith, (f refl).station))
+      go true f = first_zero records w (at_counter s) (omega (arith, (f refl).station)) (omega (arith, (f refl).station))
       go false f = refl
 
 -- ---- mark, places, limit and factors

@@ -13,7 +13,7 @@ use Rattle.stations.specs.declared.station.State.{State}
 use Rattle.stations.specs.declared.call.Best.{Best}
 use Rattle.stations.specs.declared.call.Call.{Call}
 use Rattle.stations.specs.declared.answer.Answer.{Answer}
-use Rattle.stations.specs.declared.answer.Waiting.TheVariants.{Nothing, Given}
+use Rattle.std.specs.Prelude.{Some, None}
 use Rattle.words.specs.Layout.{stations, station_size, at_station, at_call, at_best, at_answer}
 use Rattle.words.specs.Words.{get}
 use Rattle.words.specs.Rule.{rule_at}
@@ -91,7 +91,7 @@ module _ {v w : List ℕ} (s : ℕ) (g : AgreeIn v w (in_station s)) where
 -- the answer that waits is a matter of the rule, the state and the answer
 pub waiting_same : (v w : List ℕ) (s t : ℕ) → rule_at v ≡ rule_at w → state_at v s ≡ state_at w t → answer_at v s ≡ answer_at w t → waiting_at v s ≡ waiting_at w t
 unfolding waiting_at
-waiting_same v w s t r e f = λ i. cond (is_waiting (e i) && answer_sound (r i) (f i)) (Given (f i)) Nothing
+waiting_same v w s t r e f = λ i. cond (is_waiting (e i) && answer_sound (r i) (f i)) (Some (f i)) None
 
 pub waiting_at_agree : {v w : List ℕ} (s : ℕ) → rule_at v ≡ rule_at w → AgreeIn v w (in_station s) → waiting_at v s ≡ waiting_at w s
 waiting_at_agree {v} {w} s r g = waiting_same v w s s r (state_at_agree s g) (answer_at_agree s g)

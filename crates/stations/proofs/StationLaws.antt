@@ -16,12 +16,11 @@ use Rattle.stations.specs.declared.call.Call.{Call}
 use Rattle.stations.specs.declared.answer.Answer.{Answer}
 use Rattle.words.specs.Layout.{stations, station_size, records, at_station, at_call, at_best, at_answer, at_target, at_row, Fits}
 use Rattle.words.specs.Words.{splice}
-use Rattle.words.specs.Part.{put_part, point_words}
+use Rattle.words.specs.Part.{point_words}
 use Rattle.words.specs.Agree.{Agree, Only, in_station, start_of, size_of, OnlyIn}
 use Rattle.stations.specs.Station.{has_station, put_state}
 use Rattle.stations.specs.Call.{best_words, call_words, put_best, put_asked, put_call}
 use Rattle.stations.specs.Answer.{answer_words, put_answer}
-use Rattle.words.proofs.Lent.{part_put}
 use Rattle.words.proofs.AgreeLaws.{only_trans, only_within, put_only, put_agree, splice_only, splice_agree, cond_only, cond_agree}
 
 -- a station is there exactly if it is one of the eight in a slice that has their records
@@ -77,11 +76,6 @@ module _ {w : List ℕ} {s : ℕ} (t : There w s) where
   pub target_fits : at_target s + 4 ≤ length w
   unfolding at_target
   target_fits = omega (arith, t.station, t.long)
-
--- what a function that writes n words of a station leaves, where its words v and their offset b are worked out to be e and a
-pub station_part : {w v e : List ℕ} {b : ℕ} (s a n : ℕ) → has_station w s ≡ true → v ≡ e → b ≡ a → length e ≡ n → (There w s → a + n ≤ length w)
-    → put_part w v b ≡ cond (has_station w s) (splice w e a n) w
-station_part {w} {v} {e} {b} s a n here f g size fits = rw here (part_put w v e a b n f g size (fits (there_tells w s here)))
 
 -- what is written if the station is there, within its record
 within_station : {w x : List ℕ} (s a n : ℕ) → (There w s → Only x w a n) → at_station s ≤ a → a + n ≤ at_station s + station_size → OnlyIn (cond (has_station w s) x w) w (in_station s)

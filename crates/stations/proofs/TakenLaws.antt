@@ -3,7 +3,7 @@
 -- Assumes nothing.
 use mathlib.Core.Path.{◌≡◌, refl}
 use mathlib.Core.List.{List}
-use Prim.Native.Nat.{ℕ, ◌+◌, ◌-◌, ◌≤◌, ◌<◌}
+use Prim.Native.Nat.{ℕ, zero, suc, ◌+◌, ◌-◌, ◌≤◌, ◌<◌, min}
 use native.Mathlib.Omega.{arith}
 use Rattle.words.specs.Layout.{stations}
 use Rattle.words.specs.Agree.{in_common, AgreeIn}
@@ -68,6 +68,11 @@ module _ (w : List ℕ) where
   pub taken_is : taken_in w ≡ (counts_at w).held + awaiting_in w
   unfolding taken_in
   taken_is = refl
+
+-- the least so far: of the removals and the since words of the first n stations
+abbrev pub least_below : List ℕ → ℕ → ℕ
+least_below w zero = (counts_at w).removals
+least_below w (suc n) = min (least_below w n) (track_at w n).since
 
 -- slices with the same removals and since words have the same awaiting
 pub awaiting_words : (v w : List ℕ) → (counts_at v).removals ≡ (counts_at w).removals → ((s : ℕ) → s < stations → (track_at v s).since ≡ (track_at w s).since) → awaiting_in v ≡ awaiting_in w

@@ -1,11 +1,9 @@
 -- The answer of a station, and the answer that waits there.
-use Rattle.std.specs.Prelude.{ℕ, ◌+◌, ◌*◌, ◌/◌, ◌%◌, List, [], ◌∷◌, Bool, cond, ◌&&◌, ◌||◌, get_or, eqb, leb}
+use Rattle.std.specs.Prelude.{ℕ, ◌+◌, ◌*◌, ◌/◌, ◌%◌, List, [], ◌∷◌, Bool, cond, ◌&&◌, ◌||◌, get_or, eqb, leb, Option, Some, None}
 use Rattle.points.specs.Number.{in_range_by}
 use Rattle.points.specs.Square.{most_square}
 use Rattle.points.specs.Word.{point_at}
 use Rattle.stations.specs.declared.answer.Answer.{Answer}
-use Rattle.stations.specs.declared.answer.Waiting.{Waiting}
-use Rattle.stations.specs.declared.answer.Waiting.TheVariants.{Nothing, Given}
 use Rattle.words.specs.Layout.{most_curve, at_answer}
 use Rattle.words.specs.Words.{part, splice}
 use Rattle.words.specs.Rule.{rule_at}
@@ -87,5 +85,5 @@ unfoldable pub put_answer : List ℕ → ℕ → Answer → List ℕ
 put_answer words s answer = cond (has_station words s) (splice words (answer_words answer) (at_answer s) 9) words
 
 -- the answer that waits in station s (Rules 7.17): there is one if the state says so and every field is in range
-unfoldable pub waiting_at : List ℕ → ℕ → Waiting
-waiting_at words s = cond (is_waiting (state_at words s) && answer_sound (rule_at words) (answer_at words s)) (Given (answer_at words s)) Nothing
+unfoldable pub waiting_at : List ℕ → ℕ → Option Answer
+waiting_at words s = cond (is_waiting (state_at words s) && answer_sound (rule_at words) (answer_at words s)) (Some (answer_at words s)) None

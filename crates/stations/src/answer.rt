@@ -1,18 +1,19 @@
 // The answer of a station, and the answer that waits there.
-ghost use Rattle.std.specs.Prelude.{◌≡◌, ◌+◌, ◌*◌, ◌/◌, ◌%◌, length};
+ghost use Rattle.std.specs.Prelude.{◌≡◌};
 ghost use Rattle.stations.specs.Answer.{answer_of, answer_words, no_answer, code_in, answer_sound, answer_at, put_answer, waiting_at};
 
-use crate::station::{has_station, read_state};
+use crate::station::{point_words, read_state, station_words, write_station};
 use points::number::in_range_by;
 use points::point::Point;
 use points::square::most_square;
-use points::word::{point_at, word};
-use words::layout::{MOST_CURVE, RECORDS, STATIONS, at_answer};
-use words::part::{point_from, write_part};
+use points::word::point_at;
+use words::layout::{MOST_CURVE, at_answer};
+use words::part::point_from;
 use words::rule::read_rule;
 
 // The codes of an answer: a record was added, the point is held already, no place is left, no change is left, the record was removed, the point is not
 // held, the point is held, the nearest record, no record has the grade, the call was withdrawn.
+// Numbers and no enum: `answer_of` takes any word for a code, and `code_in` tells which are.
 pub const CODE_ADDED: u32 = 1;
 
 pub const CODE_HELD: u32 = 2;
@@ -42,63 +43,41 @@ pub struct Answer {
     pub square: u64,
 }
 
-// What a taking would give.
-#[derive(Clone, Copy)]
-pub enum Waiting {
-    Nothing,
-    Given(Answer),
-}
+// How many numbers a word holds. The library has no conversion between a `u64` and two words.
+const WORDS: u64 = 4294967296;
 
-// The low word of a number of 64 bits.
-fn low_word(x: u64) -> u32
-    ensures { result ≡ x % 4294967296 }
-{
-    (x % 4294967296) as u32
-}
-
-// Its high word.
-fn high_word(x: u64) -> u32
-    ensures { result ≡ x / 4294967296 }
-{
-    (x / 4294967296) as u32
-}
-
-// The number of two words.
-fn joined(low: u32, high: u32) -> u64
-    ensures { result ≡ low + 4294967296 * high }
-{
-    (low as u64) + 4294967296 * (high as u64)
-}
-
-// The answer of nine words.
-fn answer_of(part: &[u32]) -> Answer
-    requires { length part.now ≡ 9 }
-    ensures { result ≡ answer_of part.now }
-{
-    Answer {
-        code: part[0],
-        point: point_from(part, 1),
-        curve: part[6],
-        square: joined(part[7], part[8]),
+impl Answer {
+    // The answer of nine words.
+    #[tactic(auto, unfolding(crate::specs::Answer::answer_of))]
+    fn from_words(part: &[u32; 9]) -> Answer
+        ensures { result ≡ answer_of part.now }
+    {
+        Answer {
+            code: part[0],
+            point: point_from(part, 1),
+            curve: part[6],
+            square: u64::from(part[7]) + WORDS * u64::from(part[8]),
+        }
     }
-}
 
-// The nine words of an answer.
-fn answer_words(answer: Answer) -> [u32; 9]
-    ensures { result ≡ answer_words answer }
-{
-    let point = answer.point;
-    [
-        answer.code,
-        word(point, 1),
-        word(point, 2),
-        word(point, 3),
-        word(point, 4),
-        word(point, 5),
-        answer.curve,
-        low_word(answer.square),
-        high_word(answer.square),
-    ]
+    // Its nine words.
+    #[tactic(auto, unfolding(crate::specs::Answer::answer_words, words::specs::Part::point_words))]
+    fn to_words(self) -> [u32; 9]
+        ensures { result ≡ answer_words self }
+    {
+        let [grade, weight, moisture, speed, draw] = point_words(self.point);
+        [
+            self.code,
+            grade,
+            weight,
+            moisture,
+            speed,
+            draw,
+            self.curve,
+            (self.square % WORDS) as u32,
+            (self.square / WORDS) as u32,
+        ]
+    }
 }
 
 // An answer of no code.
@@ -114,28 +93,25 @@ fn no_answer() -> Answer
 }
 
 // The answer of a station; of no code where there is no such station.
+#[tactic(auto, using(crate::proofs::PartLaws::answer_read, crate::proofs::PartLaws::answer_lacks))]
 fn read_answer(words: &[u32], s: u32) -> Answer
     ensures { result ≡ answer_at words.now s }
 {
-    if STATIONS <= s {
-        return no_answer();
+    match station_words(words, s, at_answer(s)) {
+        Some(part) => Answer::from_words(part),
+        None => no_answer(),
     }
-    if words.len() < RECORDS {
-        return no_answer();
-    }
-    let start = at_answer(s);
-    let end = start + 9;
-    answer_of(&words[start..end])
 }
 
 // Whether there is such a code.
 fn code_in(code: u32) -> bool
     ensures { result ≡ code_in code }
 {
-    (CODE_ADDED <= code) & ((code <= CODE_NONE) | (code == CODE_WITHDRAWN))
+    matches!(code, CODE_ADDED..=CODE_NONE | CODE_WITHDRAWN)
 }
 
 // Whether every field of an answer is in range under the rule.
+#[tactic(auto, unfolding(crate::specs::Answer::answer_sound))]
 pub fn answer_sound(rule: u32, answer: Answer) -> bool
     ensures { result ≡ answer_sound rule answer }
 {
@@ -146,23 +122,19 @@ pub fn answer_sound(rule: u32, answer: Answer) -> bool
 }
 
 // Writes the answer of a station.
+#[tactic(auto, using(crate::proofs::PartLaws::answer_written))]
 pub fn write_answer(words: &mut [u32], s: u32, answer: Answer)
     ensures { words.new ≡ put_answer words.old s answer }
 {
-    if has_station(words, s) {
-        let from = answer_words(answer);
-        write_part(words, at_answer(s), &from[..]);
-    }
+    write_station(words, s, at_answer(s), &answer.to_words());
 }
 
 // The answer that waits in a station.
-pub fn read_waiting(words: &[u32], s: u32) -> Waiting
+#[tactic(auto, unfolding(crate::specs::Answer::waiting_at))]
+pub fn read_waiting(words: &[u32], s: u32) -> Option<Answer>
     ensures { result ≡ waiting_at words.now s }
 {
     let answer = read_answer(words, s);
-    if read_state(words, s).is_waiting() & answer_sound(read_rule(words), answer) {
-        Waiting::Given(answer)
-    } else {
-        Waiting::Nothing
-    }
+    let waits = read_state(words, s).is_waiting() & answer_sound(read_rule(words), answer);
+    waits.then_some(answer)
 }

@@ -17,7 +17,8 @@ pub struct Counts {
     pub removals: u32,
 }
 
-// The counts.
+// The counts. Each word by itself: of a slice that is too short, `counts_at` still has those that are there.
+#[tactic(auto, unfolding(crate::specs::Counts::counts_at, words::specs::Layout::at_counts))]
 pub fn read_counts(words: &[u32]) -> Counts
     ensures { result ≡ counts_at words.now }
 {
@@ -31,26 +32,29 @@ pub fn read_counts(words: &[u32]) -> Counts
     }
 }
 
-// Their six words.
-fn count_words(counts: Counts) -> [u32; 6]
-    ensures { result ≡ count_words counts }
-{
-    [
-        counts.changes,
-        counts.held,
-        counts.root,
-        counts.head,
-        counts.tail,
-        counts.removals,
-    ]
+impl Counts {
+    // Their six words.
+    #[tactic(auto, unfolding(crate::specs::Counts::count_words))]
+    fn to_words(self) -> [u32; 6]
+        ensures { result ≡ count_words self }
+    {
+        [
+            self.changes,
+            self.held,
+            self.root,
+            self.head,
+            self.tail,
+            self.removals,
+        ]
+    }
 }
 
 // Writes the counts; nothing where the slice is too short for the common record.
+#[tactic(auto, using(words::proofs::Lent::part_fits), unfolding(crate::specs::Counts::put_counts, crate::specs::Counts::count_words, words::specs::Layout::at_counts))]
 pub fn write_counts(words: &mut [u32], counts: Counts)
     ensures { words.new ≡ put_counts words.old counts }
 {
     if COMMON_SIZE <= words.len() {
-        let from = count_words(counts);
-        write_part(words, AT_COUNTS, &from[..]);
+        write_part(words, AT_COUNTS, &counts.to_words());
     }
 }

@@ -9,6 +9,7 @@ use words::rule::read_rule;
 use words::word::get;
 
 // The scale; five zeros where the slice is too short for the common record. The length is asked once, so that the five words are read without asking again.
+#[tactic(auto, unfolding(crate::specs::Scale::scale_at, crate::specs::Scale::scale_from, words::specs::Layout::at_scale))]
 pub fn read_scale(words: &[u32]) -> Scale
     ensures { result ≡ scale_at words.now }
 {
@@ -32,6 +33,7 @@ pub fn read_scale(words: &[u32]) -> Scale
 }
 
 // Its five words.
+#[tactic(auto, unfolding(crate::specs::Scale::scale_words))]
 fn scale_words(scale: Scale) -> [u32; 5]
     ensures { result ≡ scale_words scale }
 {
@@ -45,11 +47,11 @@ fn scale_words(scale: Scale) -> [u32; 5]
 }
 
 // Writes the scale; nothing where the slice is too short for the common record.
+#[tactic(auto, using(words::proofs::Lent::part_fits), unfolding(crate::specs::Scale::put_scale, crate::specs::Scale::scale_words, words::specs::Layout::at_scale))]
 pub fn write_scale(words: &mut [u32], scale: Scale)
     ensures { words.new ≡ put_scale words.old scale }
 {
     if COMMON_SIZE <= words.len() {
-        let from = scale_words(scale);
-        write_part(words, AT_SCALE, &from[..]);
+        write_part(words, AT_SCALE, &scale_words(scale));
     }
 }

@@ -1,17 +1,17 @@
 // The target of a station's last search, in four words of the common record.
-ghost use Rattle.std.specs.Prelude.{◌≡◌, length};
+ghost use Rattle.std.specs.Prelude.{◌≡◌};
 ghost use Rattle.stations.specs.Target.{pair_of, target_of, target_words, no_target, target_at, put_target};
 
-use crate::station::has_station;
+use crate::station::{station_words, write_station};
 use points::point::{Point, on_axis};
 use points::word::{point_at, word};
-use words::layout::{NONE, RECORDS, STATIONS, at_target};
-use words::part::write_part;
+use words::layout::{NONE, at_target};
 
 // How many moistures there are.
 const MOISTURES: u32 = 10001;
 
 // The word of a grade and a moisture; that for none where one of them is out of range.
+#[tactic(auto, using(crate::proofs::TargetLaws::grade_most, crate::proofs::TargetLaws::moisture_most), unfolding(crate::specs::Target::pair_of))]
 fn pair_of(p: Point) -> u32
     ensures { result ≡ pair_of p }
 {
@@ -23,8 +23,8 @@ fn pair_of(p: Point) -> u32
 }
 
 // The target of four words, whatever they are.
-fn target_of(part: &[u32]) -> Point
-    requires { length part.now ≡ 4 }
+#[tactic(auto, unfolding(crate::specs::Target::target_of))]
+fn target_of(part: &[u32; 4]) -> Point
     ensures { result ≡ target_of part.now }
 {
     let pair = part[3];
@@ -38,6 +38,7 @@ fn target_of(part: &[u32]) -> Point
 }
 
 // The four words of a target.
+#[tactic(auto, unfolding(crate::specs::Target::target_words))]
 fn target_words(p: Point) -> [u32; 4]
     ensures { result ≡ target_words p }
 {
@@ -52,26 +53,20 @@ fn no_target() -> Point
 }
 
 // The target of the last search of a station.
+#[tactic(auto, using(crate::proofs::PartLaws::target_read, crate::proofs::PartLaws::target_lacks))]
 pub fn read_target(words: &[u32], s: u32) -> Point
     ensures { result ≡ target_at words.now s }
 {
-    if STATIONS <= s {
-        return no_target();
+    match station_words(words, s, at_target(s)) {
+        Some(part) => target_of(part),
+        None => no_target(),
     }
-    if words.len() < RECORDS {
-        return no_target();
-    }
-    let start = at_target(s);
-    let end = start + 4;
-    target_of(&words[start..end])
 }
 
 // Writes the target of a station's search.
+#[tactic(auto, using(crate::proofs::PartLaws::target_written))]
 pub fn write_target(words: &mut [u32], s: u32, p: Point)
     ensures { words.new ≡ put_target words.old s p }
 {
-    if has_station(words, s) {
-        let from = target_words(p);
-        write_part(words, at_target(s), &from[..]);
-    }
+    write_station(words, s, at_target(s), &target_words(p));
 }

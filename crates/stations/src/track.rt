@@ -6,8 +6,13 @@ use crate::station::has_station;
 use words::layout::{NONE, at_cursor, at_missed, at_phase, at_since};
 use words::word::{get, put};
 
-// Where the call stands in the tree, the phase of its search (0 down, 1 up), the removals at the submission of an unfinished nearest, and the first row freed
-// since that its search has not looked at.
+// The phases of a search. They are numbers, since the words hold any number there and `track_at` is what they hold; `onward` and `tour` go by the numbers.
+pub const DOWN: u32 = 0;
+
+pub const UP: u32 = 1;
+
+// Where the call stands in the tree, the phase of its search (down or up), the removals at the submission of an unfinished nearest, and the first row freed
+// since that its search has not looked at. No Option: `track_at` takes any word for a row, and `track_in` tells whether it is none or one of the index.
 #[derive(Clone, Copy)]
 pub struct Track {
     pub cursor: u32,
@@ -22,13 +27,14 @@ pub fn nowhere() -> Track
 {
     Track {
         cursor: NONE,
-        phase: 0,
+        phase: DOWN,
         since: NONE,
         missed: NONE,
     }
 }
 
 // The track of a station; nowhere where there is no such station.
+#[tactic(auto, unfolding(crate::specs::Track::track_at))]
 pub fn read_track(words: &[u32], s: u32) -> Track
     ensures { result ≡ track_at words.now s }
 {
@@ -45,6 +51,7 @@ pub fn read_track(words: &[u32], s: u32) -> Track
 }
 
 // Writes the track of a station.
+#[tactic(auto, unfolding(crate::specs::Track::put_track))]
 pub fn write_track(words: &mut [u32], s: u32, track: Track)
     ensures { words.new ≡ put_track words.old s track }
 {

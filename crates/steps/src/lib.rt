@@ -1,6 +1,6 @@
-// Steps and withdrawals, each in a module of its own; `advance` is what they share.
+// Steps and withdrawals, each in a module of its own; `turn` is what they share.
 #![tactic(auto)]
 
-mod advance;
 pub mod step;
+mod turn;
 pub mod withdraw;

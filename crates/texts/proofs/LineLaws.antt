@@ -5,14 +5,24 @@ use mathlib.Core.Path.{◌≡◌, subst}
 use mathlib.Core.List.{List, [], ◌∷◌, ◌++◌, append_assoc}
 use native.Mathlib.Omega.{arith}
 use lib.ListN.{length, length-append}
+use lib.IntN.{ℤ}
 use lib.Signed.{mag}
+use mir.Syntax.{w32}
+use mir.Val.{to_z, of_z}
+use mir.Facts.{to_z-of_z}
 use Rattle.stations.specs.declared.answer.Answer.{Answer}
 use Rattle.texts.specs.declared.text.Text.{Text}
-use Rattle.texts.specs.Decimal.{decimal_of}
+use Rattle.texts.specs.Decimal.{decimal_of, signed_decimal}
 use Rattle.texts.specs.Text.{longest, text_with, Puts}
 use Rattle.texts.specs.Line.{newline, spaced, point_bytes, plain_bytes, answer_bytes}
 use Rattle.texts.proofs.DecimalLaws.{long_length, word_length, signed_length}
 use Rattle.texts.proofs.TextLaws.{puts_all}
+
+-- ---- a signed field
+
+-- the number that is put is the one that is read back from its bits
+pub signed_put : {a b : Text} (z : ℤ) → mag z < 2147483648 → Puts a (spaced (signed_decimal (to_z w32 (of_z w32 z)))) b → Puts a (spaced (signed_decimal z)) b
+signed_put z h p = rw (to_z-of_z {w = w32} (record { sfits = h })) at p
 
 -- ---- a line that has no answer
 

@@ -1,12 +1,14 @@
 -- A text with bytes put behind it: one byte (`byte_more`, `byte_full`), others behind these (`puts_both`), and all of them behind none (`puts_all`).
 -- Assumes nothing.
 use Prim.Native.Nat.{ℕ, suc, ◌+◌, ◌-◌, ◌≤◌, ◌<◌}
-use mathlib.Core.Path.{◌≡◌, sym, ap, ◌∙◌}
+use mathlib.Core.Path.{◌≡◌, sym, ap, subst, ◌∙◌}
 use mathlib.Core.List.{List, [], ◌∷◌, ◌++◌, append_assoc, append-nil}
 use native.Mathlib.Omega.{arith}
 use native.Mathlib.Decide.{dec_le}
-use lib.ListN.{length, take, set, replicate, length-append, length-replicate}
-use lib.Seq.{take_all, take-append-le, take-append_seam, set-append_seam, length-take-le}
+use native.Mathlib.Numerals.{add-one}
+use Rattle.std.specs.Prelude.{min}
+use lib.ListN.{length, take, set, get_or, replicate, length-append, length-replicate}
+use lib.Seq.{take_all, take-suc, take-append-le, take-append_seam, set-append_seam, length-take-le}
 use Rattle.texts.specs.declared.text.Text.{Text}
 use Rattle.texts.specs.Text.{longest, text_of, text_with, capped, Puts}
 
@@ -14,6 +16,17 @@ use Rattle.texts.specs.Text.{longest, text_of, text_with, capped, Puts}
 pub text_with_lem : (bytes : List ℕ) → text_of (text_with bytes) ≡ bytes
 unfolding text_of text_with
 text_with_lem bytes = take-append_seam bytes (replicate (longest - length bytes) 0)
+
+-- a text in an array of 160 bytes is at most these
+pub text_within : (text : Text) → length text.bytes ≡ longest → take (min text.len longest) text.bytes ≡ text_of text
+unfolding text_of
+text_within text size = go (dec_le text.len longest)
+  where
+    go : Dec (text.len ≤ longest) → take (min text.len longest) text.bytes ≡ take text.len text.bytes
+    go (yes h) = let same : min text.len longest ≡ text.len = omega arith in rw same
+    go (no h) =
+        let all : min text.len longest ≡ longest = omega arith in
+        rw all (take_all longest text.bytes (omega arith) ∙ sym (take_all text.len text.bytes (omega arith)))
 
 -- ---- what is cut off
 
@@ -84,3 +97,9 @@ puts_both {xs = xs} {ys = ys} p q =
 -- behind no text
 pub puts_all : {a b : Text} {xs : List ℕ} → a ≡ text_with [] → Puts a xs b → length xs ≤ longest → b ≡ text_with xs
 puts_all {xs = xs} e p h = p.puts [] e ∙ ap text_with (capped_fits xs h)
+
+-- one more of the bytes that are put
+pub puts_next : {a b c : Text} (from : List ℕ) (i : ℕ) → i < length from → Puts a (take i from) b → Puts b (get_or from i 0 ∷ []) c → Puts a (take (i + 1) from) c
+puts_next {a} {b} {c} from i h p q =
+    let one : take i from ++ (get_or from i 0 ∷ []) ≡ take (i + 1) from = rw (add-one i) (sym (take-suc from i 0 h)) in
+    subst (λ (xs : List ℕ). Puts a xs c) one (puts_both p q)

@@ -1,105 +1,58 @@
 // What the frame runner prints, text by text: the header, then the line of each frame.
 ghost use Rattle.std.specs.Prelude.{◌≡◌};
-ghost use Rattle.texts.specs.Output.{begun, after_line, silent, next_of, next_words};
-ghost use Rattle.texts.specs.Output.{goes_on, next_at, counted};
+ghost use Rattle.lines.specs.Line.{told};
+ghost use Rattle.texts.specs.Output.{begun, next_at, next_of, next_words};
 
 use crate::line::{header, line_text};
-use crate::text::{Text, empty};
+use crate::text::Text;
 use lines::line::{Line, next_line};
 
-// The text to print, how many lines there were, the position of the next frame, and whether there may be more.
+// The text to print, how many lines there were, and the position of the next frame; none where there is no more.
 #[derive(Clone, Copy)]
 pub struct Output {
     pub text: Text,
     pub ordinal: u64,
-    pub at: usize,
-    pub more: bool,
+    pub at: Option<usize>,
 }
 
 // The header.
+#[tactic(auto, unfolding(crate::specs::Output::begun))]
 pub fn begin() -> Output
     ensures { result ≡ begun }
 {
-    let text = header();
     Output {
-        text: text,
+        text: header(),
         ordinal: 0,
-        at: 0,
-        more: true,
+        at: Some(0),
     }
 }
 
-// Whether there may be more after a line.
-fn goes_on(line: Line) -> bool
-    ensures { result ≡ goes_on line }
+// The position to go on from after a line.
+fn next_at(line: Line) -> Option<usize>
+    ensures { result ≡ next_at (told line) }
 {
     match line {
-        Line::Over => false,
-        Line::Stopped(_) => false,
-        Line::Plain(_, _) => true,
-        Line::Taken(_, _) => true,
+        Some(Ok((_, next))) => Some(next),
+        None | Some(Err(_)) => None,
     }
 }
 
-// The position from which it goes on.
-fn next_at(line: Line) -> usize
-    ensures { result ≡ next_at line }
-{
-    match line {
-        Line::Over => 0,
-        Line::Stopped(_) => 0,
-        Line::Plain(_, next) => next,
-        Line::Taken(_, next) => next,
-    }
-}
-
-// One more; the greatest number stays.
-fn counted(ordinal: u64) -> u64
-    ensures { result ≡ counted ordinal }
-{
-    if ordinal < 18446744073709551615 {
-        ordinal + 1
-    } else {
-        ordinal
-    }
-}
-
-// A line with its ordinal.
-fn after_line(ordinal: u64, line: Line) -> Output
-    ensures { result ≡ after_line ordinal line }
-{
-    let text = line_text(ordinal, line);
-    Output {
-        text: text,
-        ordinal: ordinal,
-        at: next_at(line),
-        more: goes_on(line),
-    }
-}
-
-// Nothing is left to print.
-fn silence(output: Output) -> Output
-    ensures { result ≡ silent output }
-{
-    let text = empty();
-    Output {
-        text: text,
-        ordinal: output.ordinal,
-        at: output.at,
-        more: false,
-    }
-}
-
-// The next: the frame at the position is read and applied to the words, where there may be more.
+// The next: the frame at the position is read and applied to the words, where there is one; the greatest ordinal stays.
+#[tactic(auto, unfolding(crate::specs::Output::silent, crate::specs::Output::after_line, crate::specs::Output::next_of, crate::specs::Output::next_words))]
 pub fn next(words: &mut [u32], bytes: &[u8], output: Output) -> Output
     ensures { (result ≡ next_of words.old bytes.now output) × (words.new ≡ next_words words.old bytes.now output) }
 {
-    let at = output.at;
-    let ordinal = output.ordinal;
-    let more = output.more;
-    if more {
-        after_line(counted(ordinal), next_line(words, bytes, at))
-    } else {
-        silence(output)
+    let Some(at) = output.at else {
+        return Output {
+            text: Text::empty(),
+            ..output
+        };
+    };
+    let line = next_line(words, bytes, at);
+    let ordinal = output.ordinal.saturating_add(1);
+    Output {
+        text: line_text(ordinal, line),
+        ordinal,
+        at: next_at(line),
     }
 }

@@ -1,4 +1,4 @@
-// What the programs that try the index share: cells and words that are read and written anywhere, bytes of a text, and a fixed generator of numbers.
+// What the programs that try the index share: slices of words that are read and written anywhere, the seed of a text, and a fixed generator of numbers.
 #![tactic(auto)]
 
 pub mod bytes;

@@ -4,9 +4,8 @@ use mathlib.Core.Path.{◌≡◌, refl}
 use mathlib.Core.Bool.{Bool, true, false, cond}
 use native.Mathlib.Omega.{arith}
 use Rattle.window.specs.declared.window.Window.{Window}
-use Rattle.window.specs.declared.begin.Begun.{Begun}
 use Rattle.window.specs.Window.{length_in}
-use Rattle.window.specs.Begin.{begun_of, begin_of}
+use Rattle.window.specs.Begin.{Begun, begun_of, begin_of}
 
 -- a beginning by its test
 abbrev settled : Window → Window → Bool → Begun

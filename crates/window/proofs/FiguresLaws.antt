@@ -1,4 +1,4 @@
--- The figures of some readings and one more (`figures_more`), as the loop over them works them out.
+-- The figures as iterators work them out (`sum_is`, `least_is`, `greatest_is`), and those of some readings and one more (`figures_more`).
 use Prim.Native.Nat.{ℕ, ◌+◌, ◌≤◌, ◌<◌, min, max}
 use mathlib.Core.Path.{◌≡◌, refl, ap, ◌∙◌}
 use mathlib.Core.List.{List, [], ◌∷◌, ◌++◌}
@@ -6,6 +6,9 @@ use native.Mathlib.Omega.{arith}
 use native.Mathlib.Numerals.{add-one}
 use lib.ListN.{length, take, get_or}
 use lib.Seq.{take-suc, length-take-le}
+use Rattle.std.specs.List.{sum, fold, reduce}
+use Rattle.std.specs.Option.{unwrap_or}
+use Rattle.std.proofs.lemmas.List.Recursion.{is_sum_by}
 use Rattle.window.specs.Figures.{sum_of, least_from, least_of, greatest_from, greatest_of}
 
 sum_snoc : (xs : List ℕ) (y : ℕ) → sum_of (xs ++ (y ∷ [])) ≡ sum_of xs + y
@@ -62,3 +65,29 @@ pub figures_first : (xs : List ℕ) → 1 ≤ length xs → First xs
 unfolding sum_of least_of greatest_of least_from greatest_from
 figures_first [] l = absurd (omega arith)
 figures_first (x ∷ xs) l = record { sum = omega arith; least = refl; greatest = refl }
+
+-- ---- by iterators
+
+pub sum_is : (xs : List ℕ) → sum_of xs ≡ sum xs
+unfolding sum_of
+sum_is xs = is_sum_by sum_of (λ x. x) refl (λ _ _. refl) xs
+
+least_fold : (m : ℕ) (xs : List ℕ) → fold min m xs ≡ least_from m xs
+unfolding least_from
+least_fold m [] = refl
+least_fold m (x ∷ xs) = least_fold (min m x) xs
+
+pub least_is : (xs : List ℕ) (r : ℕ) → r ≡ unwrap_or (reduce min xs) 0 → r ≡ least_of xs
+unfolding least_of
+least_is [] r e = e
+least_is (x ∷ xs) r e = e ∙ least_fold x xs
+
+greatest_fold : (m : ℕ) (xs : List ℕ) → fold max m xs ≡ greatest_from m xs
+unfolding greatest_from
+greatest_fold m [] = refl
+greatest_fold m (x ∷ xs) = greatest_fold (max m x) xs
+
+pub greatest_is : (xs : List ℕ) (r : ℕ) → r ≡ unwrap_or (reduce max xs) 0 → r ≡ greatest_of xs
+unfolding greatest_of
+greatest_is [] r e = e
+greatest_is (x ∷ xs) r e = e ∙ greatest_fold x xs

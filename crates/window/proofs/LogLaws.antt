@@ -10,13 +10,12 @@ use lib.ListN.{length, length-append}
 use borrow.Author.Tests.{leb-true, le-leb}
 use Rattle.window.specs.declared.window.Window.{Window}
 use Rattle.window.specs.declared.figures.Figures.{Figures}
-use Rattle.window.specs.declared.update.Updated.{Updated}
 use Rattle.window.specs.Tail.{tail_of}
 use Rattle.window.specs.Figures.{figures_of, refused_with}
 use Rattle.window.specs.Told.{Told}
 use Rattle.window.specs.Window.{longest, wettest, length_in, reading_in, window_of, present_in, is_sound}
 use Rattle.window.specs.Begin.{begun_of, begin_of}
-use Rattle.window.specs.Update.{next_of, refused_of, update_of}
+use Rattle.window.specs.Update.{Updated, next_of, refused_of, update_of}
 use Rattle.window.specs.Log.{WindowEvent, beginning, reading, state_after, Log, new_log, with_reading, log_after, LeftByReadings}
 use Rattle.window.proofs.TailLaws.{tail_length, tail_short, tail_tail}
 use Rattle.window.proofs.WindowLaws.{AllIn, in_tail, in_snoc, length_tells, length_of, SoundState, sound_tells, sound_window, present_length, present_in_lem, window_sound, window_present}

@@ -1,6 +1,7 @@
 -- The mean rounded half up in words (`mean_exact`), that no other number is it (`mean_only`), and that it lies from the least to the greatest (`mean_between`).
 use Prim.Native.Nat.{ℕ, ◌+◌, ◌*◌, ◌/◌, ◌%◌, ◌≤◌, ◌<◌}
 use mathlib.Core.Path.{◌≡◌, refl, ap, ◌∙◌}
+use mathlib.Core.Bool.{true}
 use mathlib.Core.List.{List, [], ◌∷◌, Memᴰ}
 use native.Mathlib.Omega.{arith}
 use native.Mathlib.Decide.{dec_lt}
@@ -8,6 +9,9 @@ use native.Mathlib.Nat.{mul_comm, mul_assoc, mul-suc, mul-le-mul_left, mod-lt, d
 use native.Mathlib.Numerals.{add-one}
 use lib.ListN.{length}
 use Rattle.window.specs.Figures.{sum_of, least_of, greatest_of, mean_of, IsMean}
+use Rattle.window.specs.declared.window.Window.{Window}
+use Rattle.window.specs.Window.{longest, wettest, present_in, is_sound}
+use Rattle.window.proofs.WindowLaws.{AllIn, sound_tells, present_length, present_in_lem}
 use Rattle.window.proofs.LeastLaws.{least_exact, greatest_exact}
 
 one_more : (k m : ℕ) → k * (m + 1) ≡ k * m + k
@@ -45,6 +49,18 @@ pub sum_below : (high : ℕ) (xs : List ℕ) → ((x : ℕ) → Memᴰ x xs → 
 unfolding sum_of
 sum_below high [] f = omega arith
 sum_below high (x ∷ xs) f = omega (arith, mul-suc high (length xs), sum_below high xs (λ y u. f y (Memᴰ.tail u)), f x (Memᴰ.head refl))
+
+-- the sum of n readings in range
+pub sum_in : (xs : List ℕ) → AllIn xs → sum_of xs ≤ wettest * length xs
+unfolding sum_of
+sum_in [] a = omega arith
+sum_in (x ∷ xs) a = omega (arith, mul-suc wettest (length xs), sum_in xs a.1, a.0)
+
+-- so the sum of the readings present fits
+pub sum_present : (w : Window) → length w.readings ≡ longest → is_sound w ≡ true → sum_of (present_in w) ≤ wettest * longest
+sum_present w size e =
+    let h = sound_tells w e in
+    omega (arith, sum_in (present_in w) (present_in_lem w size h), present_length w size h, h.present, h.most)
 
 pub record Between (low m high : ℕ) : Type 0 where
   pub from : low ≤ m

@@ -9,12 +9,11 @@ use lib.ListN.{length, drop, set, replicate, length-append, length-drop, replica
 use lib.Seq.{drop-append-le, set_at}
 use borrow.Author.Tests.{leb-true}
 use Rattle.window.specs.declared.window.Window.{Window}
-use Rattle.window.specs.declared.update.Updated.{Updated}
 use Rattle.window.specs.Tail.{tail_of}
 use Rattle.window.specs.declared.figures.Figures.{Figures}
 use Rattle.window.specs.Figures.{sum_of, greatest_of, mean_of, figures_of}
-use Rattle.window.specs.Window.{longest, wettest, reading_in, padded, present_in, is_sound}
-use Rattle.window.specs.Update.{next_of, refused_of, update_of}
+use Rattle.window.specs.Window.{longest, wettest, reading_in, padded, window_of, present_in, is_sound}
+use Rattle.window.specs.Update.{Updated, next_of, refused_of, update_of}
 use Rattle.window.proofs.TailLaws.{tail_more, tail_length}
 use Rattle.window.proofs.WindowLaws.{SoundState, sound_tells, sound_padded, present_length, present_in_lem, AllIn, in_snoc, in_tail, in_mem, length_of, window_sound, window_present}
 use Rattle.window.proofs.LeastLaws.{greatest_exact}
@@ -73,6 +72,11 @@ module _ (w : Window) (size : length w.readings ≡ longest) (h : SoundState w) 
   pub next_present : (w.present - gone) + 1 ≡ length (tail_of w.length (present_in w ++ (x ∷ [])))
   next_present = omega (arith, ap length tail_is, length-append (drop gone (present_in w)) (x ∷ []), kept_length)
 
+  -- one at least
+  pub next_some : 1 ≤ (next_of w x).present
+  unfolding next_of window_of
+  next_some = omega (arith, next_present)
+
   -- the window is one that readings could leave, where the reading is in range
   pub next_sound : x ≤ wettest → is_sound (next_of w x) ≡ true
   unfolding next_of
@@ -80,6 +84,23 @@ module _ (w : Window) (size : length w.readings ≡ longest) (h : SoundState w) 
       let xs : List ℕ = present_in w ++ (x ∷ []) in
       window_sound w.length (tail_of w.length xs) (length_of w.length h.least h.most) (omega (arith, tail_length w.length xs))
       (in_tail w.length xs (in_snoc (present_in w) x (present_in_lem w size h) l))
+
+  -- and the window that the code writes: so many readings gone, the others slid to the front, and this one behind them
+  abbrev made : ℕ → List ℕ → Window
+  made n slid = record { length = w.length; present = (w.present - n) + 1; readings = set slid (w.present - n) x }
+
+  pub made_is : (n : ℕ) (slid : List ℕ) → n ≡ gone → slid ≡ drop n w.readings ++ replicate n 0 → made n slid ≡ next_of w x
+  unfolding next_of window_of
+  made_is n slid e f =
+      let present = ap (λ (k : ℕ). (w.present - k) + 1) e ∙ next_present in
+      let readings =
+      ap (λ (k : ℕ). set slid (w.present - k) x) e
+      ∙ ap (λ (ys : List ℕ). set ys (w.present - gone) x) (f ∙ ap (λ (k : ℕ). drop k w.readings ++ replicate k 0) e)
+      ∙ next_readings in
+      λ i. record { length = w.length; present = present i; readings = readings i }
+
+  pub made_sound : (n : ℕ) (slid : List ℕ) → n ≡ gone → slid ≡ drop n w.readings ++ replicate n 0 → x ≤ wettest → is_sound (made n slid) ≡ true
+  made_sound n slid e f l = ap is_sound (made_is n slid e f) ∙ next_sound l
 
 -- ---- the number of an update
 

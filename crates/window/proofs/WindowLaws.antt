@@ -8,10 +8,12 @@ use mathlib.Core.List.Memᴰ
 use mathlib.Core.List.{List, [], ◌∷◌, ◌++◌, Memᴰ}
 use native.Mathlib.Omega.{arith}
 use native.Mathlib.Decide.{ℕ_discrete, dec_lt}
-use lib.Dec.{leb, ltb}
+use lib.Dec.{leb, ltb, eqb}
 use lib.ListN.{length, take, drop, get_or, replicate, length-drop, length-replicate, get_or-replicate, take-append-drop, get_or-append}
 use lib.Seq.{length-take-le, get_or-drop, get_or-take, get_or-append-add, ext_get_or, take-append_seam}
-use borrow.Author.Tests.{leb-true, le-leb, lt-ltb, le-ltb}
+use borrow.Author.Tests.{leb-true, le-leb, lt-ltb, le-ltb, eqb-true, eq-eqb}
+use Rattle.std.specs.List.{list_all}
+use Rattle.std.proofs.lemmas.List.Recursion.{and_at, and_from_places}
 use Rattle.window.specs.declared.window.Window.{Window}
 use Rattle.window.specs.Tail.{tail_of}
 use Rattle.window.specs.Window.{longest, wettest, length_in, padded, window_of, present_in, most_at, sound_below, is_sound}
@@ -96,6 +98,9 @@ sound_tells w e =
       positions = below_tells w.readings w.present longest (and_right (length_in w.length && leb w.present w.length) (sound_below w.readings w.present longest) e);
     }
 
+pub present_fits : (w : Window) → is_sound w ≡ true → w.present ≤ longest
+present_fits w e = let h = sound_tells w e in omega (arith, h.present, h.most)
+
 -- a reading that is present is in range
 pub sound_reading : (w : Window) → SoundState w → (k : ℕ) → k < w.present → get_or w.readings k 0 ≤ wettest
 unfolding most_at
@@ -167,3 +172,54 @@ window_sound n ys e l a =
 pub window_present : (n : ℕ) (ys : List ℕ) → present_in (window_of n ys) ≡ ys
 unfolding present_in window_of padded
 window_present n ys = take-append_seam ys (replicate (longest - length ys) 0)
+
+-- ---- the test of the positions by its two parts: the readings present, and what stands behind them
+
+same_tests : (a b : Bool) → (a ≡ true → b ≡ true) → (b ≡ true → a ≡ true) → a ≡ b
+same_tests true b f g = sym (f refl)
+same_tests false true f g = g refl
+same_tests false false f g = refl
+
+module _ (xs : List ℕ) (c : ℕ) (size : length xs ≡ longest) (l : c ≤ longest) where
+  abbrev fits : ℕ → Bool
+  fits x = leb x wettest
+
+  abbrev none : ℕ → Bool
+  none x = eqb x 0
+
+  here_length : length (take c xs) ≡ c
+  here_length = length-take-le c xs (omega arith)
+
+  parts_tell : sound_below xs c longest ≡ true → (list_all fits (take c xs) && list_all none (drop c xs)) ≡ true
+  unfolding most_at
+  parts_tell e =
+      rw (and_from_places (list_all fits) fits refl (λ _ _. refl) (take c xs) 0 here, and_from_places (list_all none) none refl (λ _ _. refl) (drop c xs) 0 behind) refl
+    where
+      here : (i : ℕ) → i < length (take c xs) → fits (get_or (take c xs) i 0) ≡ true
+      here i m =
+          let k : i < c = omega (arith, here_length) in
+          le-leb (get_or (take c xs) i 0) wettest (omega (arith, get_or-take c xs i 0 k, rw (lt-ltb i c k) at (below_tells xs c longest e i (omega arith))))
+
+      behind : (i : ℕ) → i < length (drop c xs) → none (get_or (drop c xs) i 0) ≡ true
+      behind i m =
+          eq-eqb (get_or (drop c xs) i 0) 0
+          (omega (arith, get_or-drop c xs i 0, rw (le-ltb (c + i) c (omega arith)) at (below_tells xs c longest e (c + i) (omega (arith, length-drop c xs)))))
+
+  parts_give : (list_all fits (take c xs) && list_all none (drop c xs)) ≡ true → sound_below xs c longest ≡ true
+  unfolding most_at
+  parts_give e = below_of xs c longest (λ k m. at k m (dec_lt k c))
+    where
+      at : (k : ℕ) → k < longest → Dec (k < c) → get_or xs k 0 ≤ cond (ltb k c) wettest 0
+      at k m (yes h) =
+          let all = and_left (list_all fits (take c xs)) (list_all none (drop c xs)) e in
+          let t = and_at (list_all fits) fits refl (λ _ _. refl) (take c xs) k 0 (omega (arith, here_length)) all in
+          rw (lt-ltb k c h) (omega (arith, leb-true (get_or (take c xs) k 0) wettest t, get_or-take c xs k 0 h))
+      at k m (no h) =
+          let i : ℕ = k - c in
+          let s : c + i ≡ k = omega arith in
+          let all = and_right (list_all fits (take c xs)) (list_all none (drop c xs)) e in
+          let t = and_at (list_all none) none refl (λ _ _. refl) (drop c xs) i 0 (omega (arith, length-drop c xs)) all in
+          rw (le-ltb k c (omega arith)) (omega (arith, eqb-true (get_or (drop c xs) i 0) 0 t, get_or-drop c xs i 0, ap (λ (j : ℕ). get_or xs j 0) s))
+
+  pub below_parts : (list_all fits (take c xs) && list_all none (drop c xs)) ≡ sound_below xs c longest
+  below_parts = same_tests _ _ parts_give parts_tell

@@ -1,6 +1,7 @@
 -- What is told of some readings: "the sum, the least, the greatest and the mean rounded half up" (Rules 11.5).
 use Rattle.std.specs.Prelude.{ℕ, ◌+◌, ◌*◌, ◌/◌, ◌≤◌, ◌<◌, min, max, length}
 use mathlib.Core.List.{List, [], ◌∷◌, Memᴰ}
+use Rattle.window.specs.declared.figures.Summary.{Summary}
 use Rattle.window.specs.declared.figures.Figures.{Figures}
 
 unfoldable pub sum_of : List ℕ → ℕ
@@ -38,6 +39,14 @@ figures_of xs = record { number = 0; sum = sum_of xs; least = least_of xs; great
 -- a refusal is its number and four zeros (Rules 11.5)
 abbrev pub refused_with : ℕ → Figures
 refused_with number = record { number = number; sum = 0; least = 0; greatest = 0; mean = 0 }
+
+-- the four without the number
+abbrev pub summary_of : List ℕ → Summary
+summary_of xs = record { sum = sum_of xs; least = least_of xs; greatest = greatest_of xs; mean = mean_of (sum_of xs) (length xs) }
+
+-- and these with the number of a reading that is accepted
+abbrev pub figures_told : Summary → Figures
+figures_told s = record { number = 0; sum = s.sum; least = s.least; greatest = s.greatest; mean = s.mean }
 
 -- ---- the same in words
 

@@ -1,3 +1,4 @@
+pub mod Refusal
 pub mod Tail
 pub mod Figures
 pub mod Told

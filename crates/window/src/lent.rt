@@ -13,9 +13,13 @@ use crate::window::Window;
 pub extern "C" fn window_begin(window: &mut Window, length: u32) -> u32
     ensures { (result ≡ (begin_of window.old length).number) × (window.new ≡ (begin_of window.old length).window) }
 {
-    let begun = begin(*window, length);
-    *window = begun.window;
-    begun.number
+    match begin(*window, length) {
+        Ok(begun) => {
+            *window = begun;
+            0
+        }
+        Err(refusal) => refusal.number(),
+    }
 }
 
 // Brings the lent window up to date with a reading, and tells the figures of the readings present. A refusal leaves it.
@@ -23,7 +27,11 @@ pub extern "C" fn window_begin(window: &mut Window, length: u32) -> u32
 pub extern "C" fn window_update(window: &mut Window, reading: u32) -> Figures
     ensures { (result ≡ (update_of window.old reading).figures) × (window.new ≡ (update_of window.old reading).window) }
 {
-    let updated = update(*window, reading);
-    *window = updated.window;
-    updated.figures
+    match update(*window, reading) {
+        Ok((next, summary)) => {
+            *window = next;
+            Figures::from(summary)
+        }
+        Err(refusal) => Figures::from(refusal),
+    }
 }

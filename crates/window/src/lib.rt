@@ -4,6 +4,8 @@
 pub mod begin;
 pub mod figures;
 pub mod lent;
+pub mod refusal;
+mod sound;
 pub mod steady;
 pub mod update;
 pub mod window;

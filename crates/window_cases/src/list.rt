@@ -1,24 +1,16 @@
 // A window beside a plain list of all readings accepted: its state and its figures are worked out afresh from the end of the list.
-use crate::tally::{LISTED, count, end_case, get, judge, tried};
-use std::io::Print;
-use std::num::wrapping_add_u32;
-use window::figures::Figures;
+use crate::tally::Tally;
+use std::alloc::{AllocError, Global};
+use trial::random::Random;
+use window::figures::{Figures, Summary};
+use window::lent::window_update;
+use window::refusal::WindowRefusal;
 use window::update::update;
-use window::window::Window;
+use window::window::{WETTEST, Window};
 
-// The number of the list at an index from a start on; 0 outside of it.
-fn listed_at(list: &[u32], start: usize, i: usize) -> u32 {
-    let at = std::num::wrapping_add_usize(start, i);
-    if at < list.len() { list[at] } else { 0 }
-}
-
-// One more reading on the list.
-fn add(book: &mut [u64], list: &mut [u32], reading: u32) {
-    let at = get(book, LISTED) as usize;
-    count(book, LISTED);
-    if at < list.len() {
-        list[at] = reading;
-    }
+// How many readings there are.
+fn number_of(readings: &[u32]) -> u32 {
+    u32::try_from(readings.len()).unwrap_or(u32::MAX)
 }
 
 // The mean: the quotient, and one more where twice the remainder is n or more.
@@ -27,129 +19,105 @@ fn mean_of(sum: u32, n: u32) -> u32 {
         return 0;
     }
     let rest = sum % n;
-    let more = n <= wrapping_add_u32(rest, rest);
-    wrapping_add_u32(sum / n, if more { 1 } else { 0 })
+    let more = n <= rest.wrapping_add(rest);
+    (sum / n).wrapping_add(u32::from(more))
 }
 
-// The figures of n numbers of the list.
-pub fn figures_of(list: &[u32], start: usize, n: u32) -> Figures {
-    let mut sum: u32 = 0;
-    let mut least: u32 = 4294967295;
-    let mut greatest: u32 = 0;
-    for i in 0..n {
-        let number = listed_at(list, start, i as usize);
-        sum = wrapping_add_u32(sum, number);
-        least = if number < least { number } else { least };
-        greatest = if greatest < number { number } else { greatest };
-    }
-    Figures {
-        number: 0,
-        sum: sum,
-        least: least,
-        greatest: greatest,
-        mean: mean_of(sum, n),
+// The figures of some readings.
+pub fn summary_of(readings: &[u32]) -> Summary {
+    let sum = readings
+        .iter()
+        .fold(0u32, |sum, reading| sum.wrapping_add(*reading));
+    Summary {
+        sum,
+        least: readings.iter().copied().min().unwrap_or(0),
+        greatest: readings.iter().copied().max().unwrap_or(0),
+        mean: mean_of(sum, number_of(readings)),
     }
 }
 
-// Whether the array of a window has n numbers of the list, and zeros behind.
-fn holds(window: Window, list: &[u32], start: usize, n: usize) -> bool {
-    let readings = window.readings;
-    let mut same = true;
-    for i in 0..64usize {
-        let number = if i < n { listed_at(list, start, i) } else { 0 };
-        same = same & (readings[i] == number);
+// The window of a length in which these readings are present.
+fn window_of(length: u32, present: &[u32]) -> Window {
+    let mut readings = [0; 64];
+    for (place, reading) in readings.iter_mut().zip(present) {
+        *place = *reading;
     }
-    same
-}
-
-// Whether two states agree in all 66 numbers.
-pub fn same_state(a: Window, b: Window) -> bool {
-    let readings = b.readings;
-    (a.length == b.length) & (a.present == b.present) & holds(a, &readings, 0, 64)
-}
-
-// Whether two sets of figures agree in all five numbers.
-fn same_figures(a: Figures, b: Figures) -> bool {
-    let three = (a.number == b.number) & (a.sum == b.sum) & (a.mean == b.mean);
-    three & (a.least == b.least) & (a.greatest == b.greatest)
-}
-
-// How many of the readings listed a window of a length has.
-fn present_of(listed: u64, length: u32) -> u32 {
-    let most = length as u64;
-    if listed < most { listed as u32 } else { length }
-}
-
-// A reading is refused: its number stands beside four zeros, and the state stays.
-pub fn try_refused(book: &mut [u64], window: Window, reading: u32, number: u32) -> Window {
-    let updated = update(window, reading);
-    let figures = updated.figures;
-    let after = updated.window;
-    let two = (figures.sum == 0) & (figures.mean == 0);
-    let zeros = two & (figures.least == 0) & (figures.greatest == 0);
-    tried(book);
-    judge(book, (figures.number == number) & zeros);
-    judge(book, same_state(after, window));
-    after
-}
-
-// A reading is accepted: state and figures are those of the readings listed last.
-fn try_accepted(book: &mut [u64], list: &[u32], window: Window, reading: u32) -> Window {
-    let updated = update(window, reading);
-    let figures = updated.figures;
-    let after = updated.window;
-    let listed = get(book, LISTED);
-    let n = present_of(listed, window.length);
-    let start = std::num::wrapping_sub_u64(listed, n as u64) as usize;
-    tried(book);
-    judge(book, same_figures(figures, figures_of(list, start, n)));
-    judge(book, (after.length == window.length) & (after.present == n));
-    judge(book, holds(after, list, start, n as usize));
-    after
-}
-
-// A reading is handed to a window that has the readings listed last.
-pub fn try_reading(book: &mut [u64], list: &mut [u32], window: Window, reading: u32) -> Window {
-    if 10000 < reading {
-        return try_refused(book, window, reading, 19);
+    Window {
+        length,
+        present: number_of(present),
+        readings,
     }
-    add(book, list, reading);
-    try_accepted(book, list, window, reading)
-}
-
-// The number behind x of a fixed generator: three shifts of 32 bits.
-pub fn random_after(x: u32) -> u32 {
-    let a = x ^ (x << 13);
-    let b = a ^ (a >> 17);
-    b ^ (b << 5)
 }
 
 // A state with readings from 1 to 10,000 present, and zeros behind.
 pub fn state(length: u32, present: u32) -> Window {
-    let mut readings = [0u32; 64];
-    let mut random: u32 = 2026;
-    for i in 0..64usize {
-        random = random_after(random);
-        if i < (present as usize) {
-            readings[i] = 1 + random % 10000;
-        }
+    let mut readings = [0; 64];
+    let mut random = Random::new(2026);
+    for reading in readings.iter_mut().take(present as usize) {
+        *reading = 1 + random.next() % 10000;
     }
     Window {
-        length: length,
-        present: present,
-        readings: readings,
+        length,
+        present,
+        readings,
     }
 }
 
-// 1,000 readings to a window of a length, about one in eight of them out of range.
-pub fn history(rt: &impl Print, book: &mut [u64], list: &mut [u32], length: u32, name: &[u8]) {
-    let mut window = state(length, 0);
-    let mut random: u32 = 2026;
-    for i in 0..1000u32 {
-        random = random_after(random);
-        window = try_reading(book, list, window, random % 11430);
+// A reading is refused. Where the state is lent, it stays, and the number of the refusal stands beside four zeros.
+pub fn try_refused(tally: &mut Tally, window: Window, reading: u32, refusal: WindowRefusal) {
+    let mut lent = window;
+    let figures = window_update(&mut lent, reading);
+    tally.tried();
+    tally.judge(update(window, reading) == Err(refusal));
+    tally.judge(figures == Figures::from(refusal) && lent == window);
+}
+
+// A reading is accepted: state and figures are those of the readings listed last, also where the state is lent. Gives the window with it.
+fn try_accepted(tally: &mut Tally, list: &[u32], window: Window, reading: u32) -> Window {
+    let present = &list[list.len().saturating_sub(window.length as usize)..];
+    let told = summary_of(present);
+    let expected = window_of(window.length, present);
+    let mut lent = window;
+    let figures = window_update(&mut lent, reading);
+    tally.tried();
+    match update(window, reading) {
+        Ok((after, found)) => {
+            tally.judge(found == told);
+            tally.judge(after == expected);
+        }
+        Err(_) => {
+            tally.judge(false);
+            tally.judge(false);
+        }
     }
-    let listed = get(book, LISTED);
-    judge(book, (850 < listed) & (listed < 900));
-    end_case(rt, book, name);
+    tally.judge(figures == Figures::from(told) && lent == expected);
+    lent
+}
+
+// A reading is handed to a window that has the readings listed last.
+pub fn try_reading(
+    tally: &mut Tally,
+    list: &mut Vec<u32>,
+    window: Window,
+    reading: u32,
+) -> Result<Window, AllocError> {
+    if WETTEST < reading {
+        try_refused(tally, window, reading, WindowRefusal::BadReading);
+        return Ok(window);
+    }
+    list.push(reading)?;
+    Ok(try_accepted(tally, list, window, reading))
+}
+
+// 1,000 readings to a window of a length, about one in eight of them out of range.
+pub fn history(tally: &mut Tally, alloc: Global, length: u32) -> Result<(), AllocError> {
+    let mut list = Vec::new(alloc);
+    let mut window = state(length, 0);
+    let mut random = Random::new(2026);
+    for _ in 0..1000 {
+        let reading = random.next() % 11430;
+        window = try_reading(tally, &mut list, window, reading)?;
+    }
+    tally.judge((851..900).contains(&list.len()));
+    Ok(())
 }

@@ -4,201 +4,200 @@
 mod list;
 mod tally;
 
-use crate::list::{history, state, try_reading, try_refused};
-use crate::tally::{end_case, judge, tried};
-use std::io::Print;
-use std::num::wrapping_sub_u32;
+use crate::list::{history, state, summary_of, try_reading, try_refused};
+use crate::tally::Tally;
+use std::alloc::{AllocError, Global};
+use window::begin::begin;
+use window::lent::window_begin;
+use window::refusal::WindowRefusal;
+use window::steady::is_steady;
+use window::update::update;
 use window::window::Window;
 
 // The state with another number at a position.
-fn with_number(window: Window, position: u32, number: u32) -> Window {
-    let at = position as usize;
-    let mut next = window;
-    if at < 64 {
-        next.readings[at] = number;
+fn with_number(mut window: Window, position: usize, number: u32) -> Window {
+    if position < 64 {
+        window.readings[position] = number;
     }
-    next
+    window
 }
 
-// A length begins a window, or is refused by a number and leaves the state.
-fn try_length(book: &mut [u64], window: Window, length: u32, number: u32) {
-    let begun = window::begin::begin(window, length);
-    let after = begun.window;
-    let empty = state(length, 0);
-    let expected = if number == 0 { empty } else { window };
-    tried(book);
-    judge(book, begun.number == number);
-    judge(book, list::same_state(after, expected));
+// A length begins a window, or is refused and leaves the state; the same where the state is lent.
+fn try_length(tally: &mut Tally, window: Window, length: u32, fits: bool) {
+    let mut lent = window;
+    let number = window_begin(&mut lent, length);
+    let (expected, left, told) = if fits {
+        (Ok(state(length, 0)), state(length, 0), 0)
+    } else {
+        (Err(WindowRefusal::BadWindow), window, 18)
+    };
+    tally.tried();
+    tally.judge(begin(window, length) == expected);
+    tally.judge(number == told && lent == left);
 }
 
-// Lengths at the ends of their range, on a state.
-fn try_lengths(book: &mut [u64], window: Window) {
-    try_length(book, window, 0, 18);
-    try_length(book, window, 1, 0);
-    try_length(book, window, 64, 0);
-    try_length(book, window, 65, 18);
-    try_length(book, window, 4294967295, 18);
-}
-
-// These on a state that readings leave, and on one that no readings leave.
-fn lengths(rt: &impl Print, book: &mut [u64]) {
-    try_lengths(book, state(12, 5));
-    try_lengths(book, state(77, 99));
-    end_case(rt, book, b"lengths 0, 1, 64, 65 and 4,294,967,295: ");
+// Lengths at the ends of their range, on a state that readings leave, and on one that no readings leave.
+fn lengths(rt: &impl Print, tally: &mut Tally) {
+    let table = [
+        (0, false),
+        (1, true),
+        (64, true),
+        (65, false),
+        (u32::MAX, false),
+    ];
+    for (length, fits) in table {
+        try_length(tally, state(12, 5), length, fits);
+        try_length(tally, state(77, 99), length, fits);
+    }
+    tally.end_case(rt, "lengths 0, 1, 64, 65 and 4,294,967,295");
 }
 
 // Readings at the ends of their range.
-fn readings(book: &mut [u64], list: &mut [u32]) {
-    let first = try_reading(book, list, state(64, 0), 0);
-    let second = try_reading(book, list, first, 10000);
-    let third = try_reading(book, list, second, 10001);
-    try_reading(book, list, third, 4294967295);
+fn readings(rt: &impl Print, tally: &mut Tally, alloc: Global) -> Result<(), AllocError> {
+    let mut list = Vec::new(alloc);
+    let mut window = state(64, 0);
+    for reading in [0, 10000, 10001, u32::MAX] {
+        window = try_reading(tally, &mut list, window, reading)?;
+    }
+    tally.end_case(rt, "readings 0, 10,000, 10,001 and 4,294,967,295");
+    Ok(())
 }
 
 // The sum and the mean with one more reading. Gives the window with it.
-fn try_mean(book: &mut [u64], window: Window, reading: u32, sum: u32, mean: u32) -> Window {
-    let updated = window::update::update(window, reading);
-    let figures = updated.figures;
-    tried(book);
-    judge(book, (figures.sum == sum) & (figures.mean == mean));
-    updated.window
+fn try_mean(tally: &mut Tally, window: Window, reading: u32, sum: u32, mean: u32) -> Window {
+    tally.tried();
+    match update(window, reading) {
+        Ok((next, told)) => {
+            tally.judge(told.sum == sum && told.mean == mean);
+            next
+        }
+        Err(_) => {
+            tally.judge(false);
+            window
+        }
+    }
 }
 
-// The means of one reading, of two and of three.
-fn try_three(book: &mut [u64], readings: [u32; 3], sums: [u32; 3], means: [u32; 3]) {
-    let one = try_mean(book, state(64, 0), readings[0], sums[0], means[0]);
-    let two = try_mean(book, one, readings[1], sums[1], means[1]);
-    try_mean(book, two, readings[2], sums[2], means[2]);
-}
-
-// Means that end in a half, in a third and in two thirds, and the mean of 64 times 10,000.
-fn means(rt: &impl Print, book: &mut [u64]) {
-    try_three(book, [1, 2, 2], [1, 3, 5], [1, 2, 2]);
-    try_three(book, [1, 1, 2], [1, 2, 4], [1, 1, 1]);
-    try_three(book, [0, 1, 0], [0, 1, 1], [0, 1, 0]);
+// Means that end in a half, in a third and in two thirds, and the mean of 64 times 10,000. Each row is a window of its own: readings, and the sum and the mean after each.
+fn means(rt: &impl Print, tally: &mut Tally) {
+    let table = [
+        [(1, 1, 1), (2, 3, 2), (2, 5, 2)],
+        [(1, 1, 1), (1, 2, 1), (2, 4, 1)],
+        [(0, 0, 0), (1, 1, 1), (0, 1, 0)],
+    ];
+    for row in table {
+        let mut window = state(64, 0);
+        for (reading, sum, mean) in row {
+            window = try_mean(tally, window, reading, sum, mean);
+        }
+    }
     let wet = Window {
         length: 64,
         present: 64,
         readings: [10000; 64],
     };
-    try_mean(book, wet, 10000, 640000, 10000);
-    end_case(rt, book, b"means, a half rounded up: ");
+    try_mean(tally, wet, 10000, 640000, 10000);
+    tally.end_case(rt, "means, a half rounded up");
 }
 
-// A state that no readings leave refuses by 18 a reading in range and one out of range.
-fn try_bad(book: &mut [u64], window: Window) {
-    try_refused(book, window, 0, 18);
-    try_refused(book, window, 10001, 18);
+// A window at each length beside a list.
+fn histories(rt: &impl Print, tally: &mut Tally, alloc: Global) -> Result<(), AllocError> {
+    let table = [
+        (1, "length 1, beside a list"),
+        (2, "length 2, beside a list"),
+        (3, "length 3, beside a list"),
+        (12, "length 12, beside a list"),
+        (63, "length 63, beside a list"),
+        (64, "length 64, beside a list"),
+    ];
+    for (length, name) in table {
+        history(tally, alloc, length)?;
+        tally.end_case(rt, name);
+    }
+    Ok(())
+}
+
+// A state that no readings leave refuses a reading in range and one out of range alike.
+fn try_bad(tally: &mut Tally, window: Window) {
+    try_refused(tally, window, 0, WindowRefusal::BadWindow);
+    try_refused(tally, window, 10001, WindowRefusal::BadWindow);
 }
 
 // Lengths out of range.
-fn bad_lengths(rt: &impl Print, book: &mut [u64]) {
-    try_bad(book, state(0, 0));
-    try_bad(book, state(65, 64));
-    end_case(rt, book, b"states of length 0 and 65: ");
+fn bad_lengths(rt: &impl Print, tally: &mut Tally) {
+    try_bad(tally, state(0, 0));
+    try_bad(tally, state(65, 64));
+    tally.end_case(rt, "states of length 0 and 65");
 }
 
 // One reading more present than each length.
-fn more_present(rt: &impl Print, book: &mut [u64]) {
-    for n in 1..65u32 {
-        try_bad(book, state(n, n + 1));
+fn more_present(rt: &impl Print, tally: &mut Tally) {
+    for n in 1..65 {
+        try_bad(tally, state(n, n + 1));
     }
-    end_case(
-        rt,
-        book,
-        b"states with more readings present than the length: ",
-    );
+    tally.end_case(rt, "states with more readings present than the length");
 }
 
-// A number at a position, where it is one of the readings present, or one behind them.
-fn try_position(book: &mut [u64], window: Window, behind: bool, number: u32, position: u32) {
-    if (position < window.present) != behind {
-        try_bad(book, with_number(window, position, number));
+// A number at each position of the readings present, or at each one behind them.
+fn try_positions(tally: &mut Tally, window: Window, behind: bool, number: u32) {
+    for position in 0..64 {
+        if (position < window.present as usize) != behind {
+            try_bad(tally, with_number(window, position, number));
+        }
     }
-}
-
-// The same at each such position.
-fn try_positions(book: &mut [u64], window: Window, behind: bool, number: u32) {
-    for position in 0..64u32 {
-        try_position(book, window, behind, number, position);
-    }
-}
-
-// The shortest window in which so many readings are present.
-fn shortest(present: u32) -> u32 {
-    if present == 0 { 1 } else { present }
 }
 
 // In the shortest window and in the longest, with each number of readings present.
-fn bad_positions(rt: &impl Print, book: &mut [u64], behind: bool, number: u32, name: &[u8]) {
-    for present in 0..65u32 {
-        try_positions(book, state(shortest(present), present), behind, number);
-        try_positions(book, state(64, present), behind, number);
+fn bad_positions(rt: &impl Print, tally: &mut Tally, behind: bool, number: u32, name: &str) {
+    for present in 0u32..65 {
+        try_positions(tally, state(present.max(1), present), behind, number);
+        try_positions(tally, state(64, present), behind, number);
     }
-    end_case(rt, book, name);
+    tally.end_case(rt, name);
 }
 
 // Whether a window is steady.
-fn try_steady(book: &mut [u64], window: Window, spread: u32, steady: bool) {
-    tried(book);
-    judge(book, window::steady::is_steady(window, spread) == steady);
+fn try_steady(tally: &mut Tally, window: Window, spread: u32, steady: bool) {
+    tally.tried();
+    tally.judge(is_steady(window, spread) == steady);
 }
 
 // A full window of two readings or more at its spread and at one less, and with a reading out of range.
-fn try_full(book: &mut [u64], window: Window) {
-    let readings = window.readings;
-    let figures = list::figures_of(&readings, 0, window.present);
-    let spread = wrapping_sub_u32(figures.greatest, figures.least);
-    try_steady(book, window, spread, true);
-    try_steady(book, window, wrapping_sub_u32(spread, 1), false);
-    try_steady(book, with_number(window, 0, 10001), 4294967295, false);
+fn try_full(tally: &mut Tally, window: Window) {
+    let (present, _) = window.readings.split_at((window.present as usize).min(64));
+    let told = summary_of(present);
+    let spread = told.greatest.wrapping_sub(told.least);
+    try_steady(tally, window, spread, true);
+    try_steady(tally, window, spread.wrapping_sub(1), false);
+    try_steady(tally, with_number(window, 0, 10001), u32::MAX, false);
 }
 
 // At each length a full window and one that lacks a reading, and a state of length 0.
-fn spreads(rt: &impl Print, book: &mut [u64]) {
-    try_steady(book, state(0, 0), 4294967295, false);
-    try_steady(book, state(1, 0), 4294967295, false);
-    try_steady(book, state(1, 1), 0, true);
-    for n in 1..64u32 {
-        try_steady(book, state(n + 1, n), 4294967295, false);
-        try_full(book, state(n + 1, n + 1));
+fn spreads(rt: &impl Print, tally: &mut Tally) {
+    try_steady(tally, state(0, 0), u32::MAX, false);
+    try_steady(tally, state(1, 0), u32::MAX, false);
+    try_steady(tally, state(1, 1), 0, true);
+    for n in 1..64 {
+        try_steady(tally, state(n + 1, n), u32::MAX, false);
+        try_full(tally, state(n + 1, n + 1));
     }
-    end_case(rt, book, b"steady: full, and within the spread: ");
+    tally.end_case(rt, "steady: full, and within the spread");
 }
 
-fn main(rt: HostRuntime) {
-    let mut book = [0u64; 6];
-    let mut list = [0u32; 1000];
-    lengths(&rt, &mut book);
-    readings(&mut book, &mut list);
-    end_case(
-        &rt,
-        &mut book,
-        b"readings 0, 10,000, 10,001 and 4,294,967,295: ",
-    );
-    means(&rt, &mut book);
-    history(&rt, &mut book, &mut list, 1, b"length 1, beside a list: ");
-    history(&rt, &mut book, &mut list, 2, b"length 2, beside a list: ");
-    history(&rt, &mut book, &mut list, 3, b"length 3, beside a list: ");
-    history(&rt, &mut book, &mut list, 12, b"length 12, beside a list: ");
-    history(&rt, &mut book, &mut list, 63, b"length 63, beside a list: ");
-    history(&rt, &mut book, &mut list, 64, b"length 64, beside a list: ");
-    bad_lengths(&rt, &mut book);
-    more_present(&rt, &mut book);
-    bad_positions(
-        &rt,
-        &mut book,
-        false,
-        10001,
-        b"states with a reading of 10,001, at each place: ",
-    );
-    bad_positions(
-        &rt,
-        &mut book,
-        true,
-        1,
-        b"states with a number behind, at each place: ",
-    );
-    spreads(&rt, &mut book);
-    tally::end(&rt, &book);
+fn main(rt: HostRuntime) -> Result<(), AllocError> {
+    let alloc = rt.alloc();
+    let mut tally = Tally::default();
+    lengths(&rt, &mut tally);
+    readings(&rt, &mut tally, alloc)?;
+    means(&rt, &mut tally);
+    histories(&rt, &mut tally, alloc)?;
+    bad_lengths(&rt, &mut tally);
+    more_present(&rt, &mut tally);
+    let present = "states with a reading of 10,001, at each place";
+    bad_positions(&rt, &mut tally, false, 10001, present);
+    let behind = "states with a number behind, at each place";
+    bad_positions(&rt, &mut tally, true, 1, behind);
+    spreads(&rt, &mut tally);
+    tally.end(&rt);
+    Ok(())
 }

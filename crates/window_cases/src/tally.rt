@@ -1,87 +1,62 @@
-// Checks are counted in a book of cells, and each case ends with a line.
+// Calls and checks are counted, and each case ends with a line.
 use std::io::Print;
 
-// The cells: of the case under way the calls, the checks, the wrong ones, and the readings on its list; the cases, and the wrong ones.
-const CALLS: usize = 0;
-
-const CHECKS: usize = 1;
-
-const WRONG: usize = 2;
-
-pub const LISTED: usize = 3;
-
-const CASES: usize = 4;
-
-const WRONG_CASES: usize = 5;
-
-// The cell at an offset; 0 outside of the book.
-pub fn get(book: &[u64], at: usize) -> u64 {
-    if at < book.len() { book[at] } else { 0 }
+// Of the case under way the calls, the checks and the wrong ones; then the cases, and the wrong ones.
+#[derive(Clone, Copy, Debug, Default)]
+pub struct Tally {
+    calls: u32,
+    checks: u32,
+    wrong: u32,
+    cases: u32,
+    wrong_cases: u32,
 }
 
-// Writes the cell at an offset.
-fn put(book: &mut [u64], at: usize, value: u64) {
-    if at < book.len() {
-        book[at] = value;
+// One more, up to a great number.
+fn count(n: &mut u32) {
+    *n = n.saturating_add(1);
+}
+
+impl Tally {
+    // One more call tried.
+    pub fn tried(&mut self) {
+        count(&mut self.calls);
     }
-}
 
-// One more in a cell, up to a great number.
-pub fn count(book: &mut [u64], at: usize) {
-    let n = get(book, at);
-    put(book, at, if n < 1000000000 { n + 1 } else { n });
-}
-
-// One more call tried.
-pub fn tried(book: &mut [u64]) {
-    count(book, CALLS);
-}
-
-// One check, right or wrong.
-pub fn judge(book: &mut [u64], right: bool) {
-    count(book, CHECKS);
-    if !right {
-        count(book, WRONG);
+    // One check, right or wrong.
+    pub fn judge(&mut self, right: bool) {
+        count(&mut self.checks);
+        if !right {
+            count(&mut self.wrong);
+        }
     }
-}
 
-// Some bytes. Where they could not be written, it goes on.
-fn write(rt: &impl Print, bytes: &[u8]) {
-    let _ = rt.write_all(bytes);
-}
-
-// A number between two texts.
-fn say(rt: &impl Print, before: &[u8], n: u64, behind: &[u8]) {
-    write(rt, before);
-    let _ = rt.print(n);
-    write(rt, behind);
-}
-
-// Says how the case went. One with no check is wrong.
-fn say_verdict(rt: &impl Print, book: &mut [u64]) {
-    let wrong = get(book, WRONG);
-    if (0 < get(book, CHECKS)) & (wrong == 0) {
-        write(rt, b"ok\n");
-    } else {
-        say(rt, b"", wrong, b" WRONG\n");
-        count(book, WRONG_CASES);
+    // The line of the case, under its name; where it cannot be written, it goes on. A case with no check is wrong. Another begins.
+    pub fn end_case(&mut self, rt: &impl Print, name: &str) {
+        let Tally {
+            calls,
+            checks,
+            wrong,
+            ..
+        } = *self;
+        if 0 < checks && wrong == 0 {
+            let _ = println!(rt; "{name}: {calls} calls, {checks} checks: ok");
+        } else {
+            count(&mut self.wrong_cases);
+            let _ = println!(rt; "{name}: {calls} calls, {checks} checks: {wrong} WRONG");
+        }
+        count(&mut self.cases);
+        self.calls = 0;
+        self.checks = 0;
+        self.wrong = 0;
     }
-}
 
-// The line of the case, under its name. Another begins.
-pub fn end_case(rt: &impl Print, book: &mut [u64], name: &[u8]) {
-    say(rt, name, get(book, CALLS), b" calls, ");
-    say(rt, b"", get(book, CHECKS), b" checks: ");
-    say_verdict(rt, book);
-    count(book, CASES);
-    put(book, CALLS, 0);
-    put(book, CHECKS, 0);
-    put(book, WRONG, 0);
-    put(book, LISTED, 0);
-}
-
-// The last line.
-pub fn end(rt: &impl Print, book: &[u64]) {
-    say(rt, b"", get(book, CASES), b" cases, ");
-    say(rt, b"", get(book, WRONG_CASES), b" wrong\n");
+    // The last line.
+    pub fn end(self, rt: &impl Print) {
+        let Tally {
+            cases,
+            wrong_cases,
+            ..
+        } = self;
+        let _ = println!(rt; "{cases} cases, {wrong_cases} wrong");
+    }
 }

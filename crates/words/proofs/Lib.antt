@@ -1,4 +1,3 @@
-pub mod Lists
 pub mod Lent
 pub mod Splice
 pub mod WordLaws
@@ -6,3 +5,4 @@ pub mod AgreeLaws
 pub mod RuleLaws
 pub mod BeyondLaws
 pub mod RangeLaws
+pub mod RefusalLaws

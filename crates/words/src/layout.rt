@@ -42,68 +42,80 @@ pub const AT_SCALE: usize = 48;
 pub const AT_RULE: usize = 52;
 
 // The words of an index of so many places.
+#[tactic(auto, unfolding(crate::specs::Layout::words_for))]
 pub fn words_for(places: u32) -> usize
     ensures { result ≡ words_for places }
 {
     2 * ROW_SIZE * (places as usize) + RECORDS
 }
 
-// The words of a station in the common record: four of its track, its counter, and four of the target of its last search.
+// The words of a station in the common record: four of its track, its counter, and four of the target of its last search. Each has a function of its name:
+// `at_field::<16>(s)` would tell a caller less.
+#[tactic(auto, unfolding(crate::specs::Layout::at_cursor))]
 pub fn at_cursor(s: u32) -> usize
     ensures { result ≡ at_cursor s }
 {
-    16 + (s as usize)
+    16 + s as usize
 }
 
+#[tactic(auto, unfolding(crate::specs::Layout::at_phase))]
 pub fn at_phase(s: u32) -> usize
     ensures { result ≡ at_phase s }
 {
-    24 + (s as usize)
+    24 + s as usize
 }
 
+#[tactic(auto, unfolding(crate::specs::Layout::at_since))]
 pub fn at_since(s: u32) -> usize
     ensures { result ≡ at_since s }
 {
-    32 + (s as usize)
+    32 + s as usize
 }
 
+#[tactic(auto, unfolding(crate::specs::Layout::at_missed))]
 pub fn at_missed(s: u32) -> usize
     ensures { result ≡ at_missed s }
 {
-    40 + (s as usize)
+    40 + s as usize
 }
 
+#[tactic(auto, unfolding(crate::specs::Layout::at_counter))]
 pub fn at_counter(s: u32) -> usize
     ensures { result ≡ at_counter s }
 {
-    56 + (s as usize)
+    56 + s as usize
 }
 
+#[tactic(auto, unfolding(crate::specs::Layout::at_target))]
 pub fn at_target(s: u32) -> usize
     ensures { result ≡ at_target s }
 {
-    64 + 4 * (s as usize)
+    64 + 4 * s as usize
 }
 
 // The record of a station, and the call, the best and the answer in it.
+#[tactic(auto, unfolding(crate::specs::Layout::at_station))]
 pub fn at_station(s: u32) -> usize
     ensures { result ≡ at_station s }
 {
-    COMMON_SIZE + STATION_SIZE * (s as usize)
+    COMMON_SIZE + STATION_SIZE * s as usize
 }
 
+#[tactic(auto, unfolding(crate::specs::Layout::at_call, crate::specs::Layout::at_station))]
 pub fn at_call(s: u32) -> usize
     ensures { result ≡ at_call s }
 {
     at_station(s) + 1
 }
 
+#[tactic(auto, unfolding(crate::specs::Layout::at_best, crate::specs::Layout::at_station))]
 pub fn at_best(s: u32) -> usize
     ensures { result ≡ at_best s }
 {
     at_station(s) + 11
 }
 
+#[tactic(auto, unfolding(crate::specs::Layout::at_answer, crate::specs::Layout::at_station))]
 pub fn at_answer(s: u32) -> usize
     ensures { result ≡ at_answer s }
 {
@@ -111,6 +123,7 @@ pub fn at_answer(s: u32) -> usize
 }
 
 // The row r.
+#[tactic(auto, unfolding(crate::specs::Layout::at_row))]
 pub fn at_row(r: u32) -> usize
     ensures { result ≡ at_row r }
 {

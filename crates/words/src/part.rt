@@ -1,5 +1,5 @@
 // Parts of a slice: some words from one offset on.
-ghost use Rattle.std.specs.Prelude.{◌≡◌, length};
+ghost use Rattle.std.specs.Prelude.{◌≡◌};
 ghost use Rattle.words.specs.Part.{point_from, put_part};
 
 use crate::word::get;
@@ -7,6 +7,7 @@ use points::point::Point;
 use points::word::point_at;
 
 // The point of five words from word k on.
+#[tactic(auto, unfolding(crate::specs::Part::point_from, crate::specs::Words::get))]
 pub fn point_from(part: &[u32], k: u32) -> Point
     ensures { result ≡ point_from part.now k }
 {
@@ -20,27 +21,12 @@ pub fn point_from(part: &[u32], k: u32) -> Point
     )
 }
 
-// Copies words to a part of their number.
-fn copy(part: &mut [u32], from: &[u32])
-    requires { length part.old ≡ length from.now }
-    ensures { part.new ≡ from.now }
-{
-    let n = from.len();
-    let mut i: usize = 0;
-    while i < n {
-        part[i] = from[i];
-        i += 1;
-    }
-}
-
 // Writes words from one offset on; nothing where they do not all fit.
+#[tactic(auto, using(crate::proofs::Lent::part_fits, crate::proofs::Lent::part_past))]
 pub fn write_part(words: &mut [u32], at: usize, from: &[u32])
     ensures { words.new ≡ put_part words.old from.now at }
 {
-    if at <= words.len() {
-        if from.len() <= words.len() - at {
-            let end = at + from.len();
-            copy(&mut words[at..end], from);
-        }
+    if at <= words.len() && from.len() <= words.len() - at {
+        words[at..at + from.len()].copy_from_slice(from);
     }
 }
