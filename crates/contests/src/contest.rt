@@ -229,6 +229,7 @@ pub fn contests(words: &mut [u32], book: &mut Book, n: [u32; 9]) {
         let scale = scale_for(book, rule);
         contest.play(words, book, places, scale, turns);
     }
+    // The numbers of answers as the rules have them: added, removed, nearest, none.
     let met = [1, 5, 8, 9].iter().all(|code| book.met(*code));
     book.judge(met);
 }

@@ -1,6 +1,6 @@
 // Calls on the index alone, from the items of a text: each gives the number that its item says, and a refused one leaves every word. An item has
 // a capital letter for the call, how many words it is lent, four arguments and the number; one that opens with factors, six arguments and the number, and one
-// that opens with factors and a rule, seven and the number.
+// that opens with factors and a rule, seven and the number. What a call gives is a number here, since that is what a text says; 99 stands for what no call gives.
 use crate::framed::{NEVER, framed};
 use crate::opened::{opened_plain, opened_ruled, opened_scaled};
 use audits::audit::audit;

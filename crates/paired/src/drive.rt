@@ -5,7 +5,6 @@ use plain_list::point::PlainPoint;
 use plain_list::scale::PlainScale;
 use plain_list::table::Due;
 use points::point::Point;
-use points::scale::Scale;
 use reports::report::read_report;
 use stations::answer::{Answer, read_waiting};
 use words::refusal::Refusal;
@@ -15,18 +14,6 @@ use words::refusal::Refusal;
 // The most steps of a call that is left alone (Rules 8.3).
 pub fn most_steps(book: &Book) -> u64 {
     16 * u64::from(book.table.places) + 64
-}
-
-// The rule and the factors for a call of the index.
-fn scale_of(scale: PlainScale) -> Scale {
-    let [weight, moisture, speed, draw] = scale.factors;
-    Scale {
-        rule: scale.rule,
-        weight,
-        moisture,
-        speed,
-        draw,
-    }
 }
 
 // What the index gives is what the table gives: the number of the same question, or none.
@@ -42,7 +29,7 @@ pub fn open(
     limit: u32,
     scale: PlainScale,
 ) -> Result<(), Refusal> {
-    let outcome = openings::open::open(words, places, limit, scale_of(scale));
+    let outcome = openings::open::open(words, places, limit, scale.into());
     let due = book.table.open(words.len(), places, limit, scale);
     judge_outcome(book, outcome, due);
     outcome?;

@@ -1,4 +1,5 @@
 // The rule and the factors of an opening, by which the table works out its squares.
+use points::scale::Scale;
 
 // Rule 1, which goes by the coordinates themselves, and rule 2, which goes by dry weight. An opening may name any other number, which is refused.
 pub const PLAIN_RULE: u32 = 1;
@@ -10,6 +11,19 @@ pub const DRY_RULE: u32 = 2;
 pub struct PlainScale {
     pub rule: u32,
     pub factors: [u32; 4],
+}
+
+impl From<PlainScale> for Scale {
+    fn from(scale: PlainScale) -> Scale {
+        let [weight, moisture, speed, draw] = scale.factors;
+        Scale {
+            rule: scale.rule,
+            weight,
+            moisture,
+            speed,
+            draw,
+        }
+    }
 }
 
 impl PlainScale {

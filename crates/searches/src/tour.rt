@@ -58,7 +58,7 @@ struct Leaf {
 }
 
 impl Leaf {
-    // Whether its record, at its own square, prevails over the best so far.
+    // Whether its record, at its own square, prevails over the best so far: `prevails` of `progress`, with both squares known.
     fn prevails(self, aim: Aim, reached: Reached, own: u64) -> bool
         ensures { result ≡ prevails_at aim reached.progress.best reached.square self.added self.point own }
     {

@@ -12,7 +12,9 @@ use words::layout::STATIONS;
 use words::refusal::{Refusal, ask};
 use words::rule::read_rule;
 
-// Whether the fields of the common record and of the call are in range.
+// Whether the fields of the common record and of the call are in range. This and the questions stand in line in the compiled step and in the withdrawal: called, they
+// make a search step 7 in a hundred longer.
+#[inline(always)]
 #[tactic(auto, unfolding(calls::specs::Step::fields_sound))]
 fn records_sound(words: &[u32], rows: u32, call: Call) -> bool
     ensures { result ≡ fields_sound words.now rows call }
@@ -21,6 +23,7 @@ fn records_sound(words: &[u32], rows: u32, call: Call) -> bool
 }
 
 // The unfinished call of a station, or the first of questions 4, 5, 10 and 11 that fails.
+#[inline(always)]
 #[tactic(auto, unfolding(calls::specs::Turn::turn_of))]
 pub(crate) fn turn_of(words: &[u32], s: u32) -> Result<Turn, Refusal>
     ensures { result ≡ turn_of words.now s }
