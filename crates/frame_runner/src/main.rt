@@ -7,7 +7,8 @@ ghost use Rattle.std.specs.Prelude.{◌≤◌, length};
 use std::io::{Eprint, Print, Read};
 use texts::output::{begin, next};
 
-// Writes the texts of the bytes, one after the other, until there is no more or one cannot be written.
+// Writes the texts of the bytes, one after the other, until there is no more or one cannot be written. Where the next frame begins is known
+// from the last text alone.
 fn run(rt: &impl Print, words: &mut [u32], bytes: &[u8]) -> std::io::Result<()> {
     let mut output = begin();
     rt.write_all(output.text.as_bytes())?;

@@ -51,7 +51,7 @@ fn opened(words: &mut [u32], n: [u32; 9], length: u8, kind: u8) -> u32 {
     }
 }
 
-// Three openings, each with the kind and the length of its frame. The number of one without factors: a frame of kind 1.
+// Three openings, one line each over one function, since a text names each by a letter of its own. The number of one without factors: a frame of kind 1.
 pub fn opened_plain(words: &mut [u32], n: [u32; 9]) -> u32 {
     opened(words, n, 8, 1)
 }

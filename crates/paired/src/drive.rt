@@ -37,7 +37,7 @@ pub fn open(
     Ok(())
 }
 
-// A submission.
+// A submission. Its arguments are those of Rules 7.7, which the index's own call takes too.
 pub fn submit(
     words: &mut [u32],
     book: &mut Book,
@@ -140,7 +140,7 @@ pub fn run(words: &mut [u32], book: &mut Book, s: u32) {
     book.judge(answered);
 }
 
-// A whole call: its submission, its steps and its taking.
+// A whole call: its submission, with the arguments of Rules 7.7, its steps and its taking.
 pub fn whole(words: &mut [u32], book: &mut Book, s: u32, kind: u32, p: PlainPoint, curve: u32) {
     let _ = submit(words, book, s, kind, p, curve);
     run(words, book, s);

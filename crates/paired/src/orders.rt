@@ -54,7 +54,8 @@ impl Party<'_> {
     }
 }
 
-// One order, from the opening: events in the order, a bit for each, and then what is left of the other party and of the one.
+// One order, from the opening: events in the order, a bit for each, and then what is left of the other party and of the one. The parties come by value, since
+// each order begins with the whole of both.
 fn one_order(
     words: &mut [u32],
     book: &mut Book,

@@ -9,7 +9,7 @@ use crate::number::number_range_on;
 use crate::point::{Point, Range, range_on};
 use crate::rule::{DRY_RULE, is_axis_by, shift};
 
-// The word for none, which stands for no number of a range.
+// The word for none, which stands for no number of a range: the definitions `stored_in` and `loaded_in` have it so.
 const NONE: u32 = 4294967295;
 
 impl Range {
@@ -157,7 +157,7 @@ fn moisture_word_by(rule: u32, moisture: u32) -> bool
     (rule != DRY_RULE) | (moisture < 10000)
 }
 
-// Whether the point of five words is in range under a rule, by the words alone.
+// Whether the point of five words is in range under a rule, by the words alone. They come one by one, since a row has them among its other words and no copy is made.
 #[tactic(auto, using(crate::proofs::WordLaws::point_at_by))]
 pub fn point_words_in_range(
     rule: u32,

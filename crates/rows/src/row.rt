@@ -14,7 +14,7 @@ use words::part::{point_from, write_part};
 use words::rule::read_rule;
 use words::word::{curve_in, link_in};
 
-// The kinds of a row. Constants, since an enum would need two more functions, from the word and to it, for one match on it.
+// The kinds of a row. Numbers and no enum: a word may hold any, `row_of` takes it for a kind and gives `Bad` for one that is none.
 const SPARE_KIND: u32 = 0;
 
 const REMOVED_KIND: u32 = 1;

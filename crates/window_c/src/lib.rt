@@ -1,4 +1,5 @@
-// The window for programs in C: the two calls on a lent state, under the names that bench/scans.h declares. C lends the state by a pointer to it.
+// The window for programs in C: the two calls on a lent state, under the names that bench/scans.h declares. C lends the state by a pointer to it. Each
+// stands here and in `window`, since a crate is a library or a static library.
 #![tactic(auto)]
 
 ghost use Rattle.std.specs.Prelude.{◌≡◌};
