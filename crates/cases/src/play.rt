@@ -79,6 +79,9 @@ fn run_items(
     }
 }
 
+// As many cases of a text are run at most.
+const MOST_CASES: usize = 100000;
+
 // Every case of a text.
 pub fn run_cases(
     rt: &impl Print,
@@ -87,7 +90,8 @@ pub fn run_cases(
     book: &mut Book,
     text: &[u8],
 ) -> Result<(), AllocError> {
-    for part in begun(text).split(|byte| *byte == b'=').skip(1) {
+    let parts = begun(text).split(|byte| *byte == b'=').skip(1);
+    for part in parts.take(MOST_CASES) {
         let case = before(part, b'#');
         book.begin_case();
         run_items(alloc, words, book, case)?;
