@@ -1,12 +1,12 @@
--- A comparison goes axis by axis (`compared_at_next`) and ends at the first that differs, or at the last (`compared_at_end`, `compared_at_last`); what it tells of the number
--- of axes that it looked at, in words, is `looked_first`, and `looked_only`: these words fit no other number.
+-- A comparison goes axis by axis (`compared_at_next`) and ends at the first that differs, or at the last (`compared_at_end`, `compared_at_last`); `to_come` is the same as its
+-- loop has it. What it tells of the number of axes that it looked at, in words, is `looked_first`, and `looked_only`: these words fit no other number.
 use Prim.Native.Nat.{ℕ, zero, suc, ◌+◌, ◌-◌, ◌≤◌, ◌<◌}
 use mathlib.Core.Path.{◌≡◌, refl, sym, ap, ◌∙◌, subst}
 use mathlib.Core.Logic.{◌⊎◌, inl, inr}
 use mathlib.Core.Bool.{Bool, true, false, cond}
 use native.Mathlib.Omega.{arith}
 use native.Mathlib.Numerals.{add-one}
-use borrow.Author.Tests.{ltb-true, ltb-false}
+use borrow.Author.Tests.{ltb-true, ltb-false, lt-ltb, le-ltb}
 use lib.Dec.{ltb}
 use Rattle.points.specs.declared.point.Point.{Point}
 use Rattle.std.specs.declared.cmp.Ordering.{Ordering}
@@ -98,6 +98,35 @@ module _ (a b : Point) where
   unfolding compared_at
   compared_at_last = compared_last 5
 
+  -- ---- what a comparison comes to, before axis k and with what it has told so far: from axis k on, or that where no axis is left
+  pub to_come : ℕ → Compared → Compared
+  to_come k c = cond (ltb k 6) (compared_at k) c
+
+  pub to_come_first : (c : Compared) → compared_of a b ≡ to_come 1 c
+  unfolding to_come
+  to_come_first c = compared_at_first
+
+  to_come_is : (k : ℕ) (c : Compared) → k < 6 → to_come k c ≡ compared_at k
+  unfolding to_come
+  to_come_is k c h = rw (lt-ltb k 6 h) refl
+
+  pub to_come_last : (k : ℕ) (c : Compared) → 6 ≤ k → to_come k c ≡ c
+  unfolding to_come
+  to_come_last k c h = rw (le-ltb k 6 h) refl
+
+  -- an axis that is equal is passed, and the comparison ends at one that differs
+  pub to_come_next : (k : ℕ) (c : Compared) → k < 6 → is_ne (by_axis a b k) ≡ false → to_come k c ≡ to_come (k + 1) (told (by_axis a b k) k)
+  to_come_next k c h e = to_come_is k c h ∙ go (ltb k 5) refl
+    where
+      go : (t : Bool) → ltb k 5 ≡ t → compared_at k ≡ to_come (k + 1) (told (by_axis a b k) k)
+      go true f = let l = ltb-true k 5 f in compared_at_next k l e ∙ sym (to_come_is (k + 1) (told (by_axis a b k) k) (omega arith))
+      go false f =
+          let five : k ≡ 5 = omega (arith, ltb-false k 5 f) in
+          rw five (compared_at_last ∙ sym (to_come_last 6 (told (by_axis a b 5) 5) (omega arith)))
+
+  pub to_come_end : (k : ℕ) (c : Compared) → k < 6 → is_ne (by_axis a b k) ≡ true → to_come k c ≡ told (by_axis a b k) k
+  to_come_end k c h e = to_come_is k c h ∙ compared_at_end k e
+
   -- ---- how many axes are looked at
 
   -- the axes before n are equal
@@ -164,4 +193,4 @@ module _ (a b : Point) where
   unfolding compared_of
   compared_tells = (refl, looked_first)
 
-pub ruleset comparison = (compared_at_first, compared_at_next, compared_at_end, compared_at_last)
+pub ruleset comparison = (to_come_first, to_come_next, to_come_end, to_come_last)

@@ -25,16 +25,20 @@ pub(crate) fn by_axis(a: Point, b: Point, axis: u32) -> Ordering
 pub(crate) fn compare(a: Point, b: Point) -> Compared
     ensures { result ≡ compared_of a b }
 {
-    for looked in 1..5 {
-        let order = by_axis(a, b, looked);
-        if order.is_ne() {
-            return Compared { order, looked };
+    let mut compared = Compared {
+        order: Ordering::Equal,
+        looked: 0,
+    };
+    for looked in 1..6 {
+        compared = Compared {
+            order: by_axis(a, b, looked),
+            looked,
+        };
+        if compared.order.is_ne() {
+            break;
         }
     }
-    Compared {
-        order: by_axis(a, b, 5),
-        looked: 5,
-    }
+    compared
 }
 
 // The order of two points on a tie: the heavier first, and of two of one weight the lower.
@@ -46,9 +50,9 @@ pub fn tie(a: Point, b: Point) -> Ordering
 }
 
 // Whether two points are one.
-#[tactic(auto, unfolding(crate::specs::Order::same_point, crate::specs::Order::order_of, crate::specs::Order::by_axis, crate::specs::Point::coordinate_of))]
+#[tactic(auto, unfolding(crate::specs::Order::same_point, crate::specs::Order::compared_of))]
 pub fn same_point(a: Point, b: Point) -> bool
     ensures { result ≡ same_point a b }
 {
-    a == b
+    compare(a, b).order.is_eq()
 }
