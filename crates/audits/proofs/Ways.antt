@@ -1,68 +1,48 @@
 -- The loops of the climb and of the queue, which count the rows that they have passed: k of n. Assumes nothing.
-use Rattle.std.proofs.Common.{◌≡◌, ℕ, zero, suc, ◌+◌, ◌-◌, ◌<◌, Bool, true, false, cond, ◌&&◌, List, ◌⊎◌, inl, inr, refl, ap, ◌∙◌, eqb, arith}
-use borrow.Author.Tests.{ne_eqb, eq-eqb}
+use Rattle.std.proofs.Common.{◌≡◌, ℕ, ◌+◌, ◌-◌, ◌<◌, Bool, true, false, ◌&&◌, ◌||◌, not, List, refl, ap, ◌∙◌, eqb, ltb, arith}
+use Rattle.std.proofs.lemmas.Bool.{false≢true}
+use borrow.Author.Tests.{ne_eqb}
 use Rattle.points.specs.declared.point.Point.{Point}
-use Rattle.points.specs.declared.cut.Cut.{Cut as PointCut}
 use Rattle.points.specs.Word.{NONE}
-use Rattle.rows.specs.declared.row.Row.{Row}
-use Rattle.rows.specs.declared.row.Row.TheVariants.{Bad, Spare, Removed, Leaf, Cut}
 use Rattle.rows.specs.Row.{row_at}
+use Rattle.calls.specs.declared.climb.Climb.{Climb}
 use Rattle.calls.specs.declared.queue.Queued.{Queued}
-use Rattle.calls.specs.Climb.{child_of, climb, climb_row}
+use Rattle.calls.specs.Climb.{climb, over_row}
 use Rattle.calls.specs.Queue.{pass_row, walk_queue}
+use Rattle.calls.proofs.ClimbLaws.{climb_on, climb_end}
+use Rattle.calls.proofs.Conjunctions.{and_false}
 use Rattle.calls.proofs.QueueLaws.{walk_on}
 
-climb_step : (w : List ℕ) (rows root : ℕ) (point : Point) (m from up : ℕ) → ¬ (up ≡ NONE)
-    → climb w rows root point (suc m) from up ≡ climb_row point from (row_at w rows up) (λ over. climb w rows root point m up over)
-unfolding climb
-climb_step w rows root point m from up above = rw (ne_eqb up NONE above) refl
+-- the test that ends a climb early: there is a row above where it goes on
+above : (top sound : Bool) → (top || not sound) ≡ false → top ≡ false
+above true sound e = e
+above false sound e = refl
 
 -- one row up
-climb_more : (w : List ℕ) (rows root : ℕ) (point : Point) (n k from up : ℕ) (row : Row) → k < n → ¬ (up ≡ NONE) → row ≡ row_at w rows up
-    → climb w rows root point (n - k) from up ≡ climb_row point from row (λ over. climb w rows root point (n - (k + 1)) up over)
-climb_more w rows root point n k from up row l above e =
-    let left : n - k ≡ suc (n - (k + 1)) = omega arith in
-    rw (left, e) (climb_step w rows root point (n - (k + 1)) from up above)
+pub climb_more : (w : List ℕ) (rows root : ℕ) (point : Point) (n k : ℕ) (c d : Climb) (whole : Bool)
+    → whole ≡ (c.sound && climb w rows root point (n - k) c.from c.up) → k < n → (eqb c.up NONE || not c.sound) ≡ false
+    → d ≡ over_row point c (row_at w rows c.up)
+    → whole ≡ (d.sound && climb w rows root point (n - (k + 1)) d.from d.up)
+climb_more w rows root point n k c d whole e less on up =
+    let left : (n - k) - 1 ≡ n - (k + 1) = omega arith in
+    e ∙ climb_on w rows root point (n - k) c d (omega arith) (above (eqb c.up NONE) c.sound on) up
+    ∙ ap (λ (i : ℕ). d.sound && climb w rows root point i d.from d.up) left
 
-no_cut : (point : Point) (from : ℕ) (row : Row) (above : ℕ → Bool) → ((over : ℕ) (cut : PointCut) (left right : ℕ) → row ≡ Cut over cut left right → ⊥)
-    → climb_row point from row above ≡ false
-no_cut point from Bad above h = refl
-no_cut point from (Spare next freed) above h = refl
-no_cut point from (Removed next freed added held curve) above h = refl
-no_cut point from (Leaf over added held curve) above h = refl
-no_cut point from (Cut over cut left right) above h = absurd (h over cut left right refl)
+-- it is over where no row is left
+pub climb_done : (w : List ℕ) (rows root : ℕ) (point : Point) (n : ℕ) (c : Climb) → n ≡ 0
+    → (c.sound && (eqb c.up NONE && eqb c.from root)) ≡ (c.sound && climb w rows root point n c.from c.up)
+climb_done w rows root point n c e = climb_end w rows root point n c (rw e refl)
 
--- the climb fails at a row that is no cut, and at a cut that sends the point to another row than the one below
-pub climb_lost : (w : List ℕ) (rows root : ℕ) (point : Point) (n k from up : ℕ) (row : Row) → k < n → ¬ (up ≡ NONE) → row ≡ row_at w rows up
-    → ((over : ℕ) (cut : PointCut) (left right : ℕ) → row ≡ Cut over cut left right → ⊥) → climb w rows root point (n - k) from up ≡ false
-climb_lost w rows root point n k from up row l above e h =
-    climb_more w rows root point n k from up row l above e ∙ no_cut point from row (λ over. climb w rows root point (n - (k + 1)) up over) h
-
-module _ (w : List ℕ) (rows root : ℕ) (point : Point) (n k from up : ℕ) (row : Row) (over : ℕ) (cut : PointCut) (left right child : ℕ) where
-  pub climb_stray : k < n → ¬ (up ≡ NONE) → row ≡ row_at w rows up → row ≡ Cut over cut left right → child ≡ child_of cut left right point → ¬ (child ≡ from)
-      → climb w rows root point (n - k) from up ≡ false
-  climb_stray l above e is c other =
-      climb_more w rows root point n k from up row l above e
-      ∙ rw (is, ← c, ne_eqb child from other) refl
-
-  -- and goes on at a cut that sends it there
-  pub climb_past : k < n → ¬ (up ≡ NONE) → row ≡ row_at w rows up → row ≡ Cut over cut left right → child ≡ child_of cut left right point → child ≡ from
-      → climb w rows root point (n - k) from up ≡ climb w rows root point (n - (k + 1)) up over
-  climb_past l above e is c same =
-      climb_more w rows root point n k from up row l above e
-      ∙ rw (is, ← c, eq-eqb child from same) refl
-
-both : (a b : Bool) → cond a b false ≡ (a && b)
-both true b = refl
-both false b = refl
-
--- where no row is left, or none is above, it is over
-pub climb_over : (w : List ℕ) (rows root : ℕ) (point : Point) (n from up : ℕ) → (n ≡ 0) ⊎ (up ≡ NONE)
-    → climb w rows root point n from up ≡ (eqb up NONE && eqb from root)
-unfolding climb
-climb_over w rows root point zero from up e = both (eqb up NONE) (eqb from root)
-climb_over w rows root point (suc n) from up (inl none) = absurd (omega arith)
-climb_over w rows root point (suc n) from up (inr e) = rw (eq-eqb up NONE e) refl
+-- and where there is none above, or it is no longer sound
+pub climb_over : (w : List ℕ) (rows root : ℕ) (point : Point) (n : ℕ) (c : Climb) → (eqb c.up NONE || not c.sound) ≡ true
+    → (c.sound && (eqb c.up NONE && eqb c.from root)) ≡ (c.sound && climb w rows root point n c.from c.up)
+climb_over w rows root point n c = go (eqb c.up NONE) c.sound refl refl
+  where
+    go : (top sound : Bool) → eqb c.up NONE ≡ top → c.sound ≡ sound → (top || not sound) ≡ true
+        → (c.sound && (eqb c.up NONE && eqb c.from root)) ≡ (c.sound && climb w rows root point n c.from c.up)
+    go true sound e f h = climb_end w rows root point n c (rw e (and_false (ltb 0 n)))
+    go false false e f h = rw f refl
+    go false true e f h = absurd (false≢true h)
 
 -- one row on
 pub walk_more : (w : List ℕ) (rows released n k : ℕ) (l m whole : Queued)

@@ -1,4 +1,4 @@
--- A walk along links, at most n rows and to the end: the test of its loop, taken apart.
+-- A walk along links, at most n rows and to the end: whether it goes on, taken apart.
 use Prim.Native.Nat.{ℕ, zero, suc, ◌<◌}
 use mathlib.Core.Path.{◌≡◌, refl, sym}
 use mathlib.Core.Logic.{◌⊎◌, inl, inr}
