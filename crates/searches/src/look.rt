@@ -49,7 +49,7 @@ fn look_at(aim: Aim, p: Progress, row: Row, after: Row) -> Progress
     }
 }
 
-// The words, the rows, the target and the progress come one by one: two functions have them, before a step makes its `Tour`. The same at a link to the first missed row. Where no row follows it, none is read.
+// The same at a link to the first missed row. Where no row follows it, none is read. The words, the rows, the target and the progress come one by one: two functions have them, before a step makes its `Tour`.
 fn look_from(words: &[u32], rows: u32, aim: Aim, p: Progress) -> Progress
     ensures { result ≡ look_from words.now rows aim p }
 {
