@@ -1,6 +1,6 @@
 -- The states that pass the test of question 18: what they hold (`sound_tells`), that they are the readings present with zeros behind (`sound_padded`), and that
 -- every window in which readings in range are present is one of them (`window_sound`).
-use Prim.Native.Nat.{ℕ, zero, suc, ◌+◌, ◌-◌, ◌≤◌, ◌<◌}
+use Prim.Native.Nat.{ℕ, zero, suc, ◌+◌, ◌-◌, ◌≤◌, ◌<◌, max}
 use mathlib.Core.Path.{◌≡◌, refl, sym, ap, ◌∙◌}
 use mathlib.Core.Logic.{◌⊎◌, inl, inr}
 use mathlib.Core.Bool.{Bool, true, false, cond, ◌&&◌}
@@ -16,6 +16,7 @@ use Rattle.std.specs.List.{list_all}
 use Rattle.std.proofs.lemmas.List.Recursion.{and_at, and_from_places}
 use Rattle.window.specs.declared.window.Window.{Window}
 use Rattle.window.specs.Tail.{tail_of}
+use Rattle.window.specs.Figures.{greatest_from, greatest_of}
 use Rattle.window.specs.Window.{longest, wettest, length_in, padded, window_of, present_in, most_at, sound_below, is_sound}
 
 pub and_left : (a b : Bool) → (a && b) ≡ true → a ≡ true
@@ -54,7 +55,7 @@ in_mem (y ∷ xs) a x u = go (λ v. in_mem xs a.1 x v) (Memᴰ.cases_cons u)
     go f (inl e) = omega (arith, a.0)
     go f (inr v) = f v
 
-in_at : (xs : List ℕ) → AllIn xs → (k : ℕ) → get_or xs k 0 ≤ wettest
+pub in_at : (xs : List ℕ) → AllIn xs → (k : ℕ) → get_or xs k 0 ≤ wettest
 in_at [] a k = omega arith
 in_at (x ∷ xs) a zero = a.0
 in_at (x ∷ xs) a (suc k) = in_at xs a.1 k
@@ -180,6 +181,33 @@ same_tests true b f g = sym (f refl)
 same_tests false true f g = g refl
 same_tests false false f g = refl
 
+-- a number that is at most m: the greatest passes such a test where all do
+module _ (m : ℕ) (test : ℕ → Bool) (tells : (n : ℕ) → test n ≡ true → n ≤ m) (gives : (n : ℕ) → n ≤ m → test n ≡ true) where
+  greatest_from_tells : (g : ℕ) (xs : List ℕ) → greatest_from g xs ≤ m → (g ≤ m) × ((k : ℕ) → k < length xs → get_or xs k 0 ≤ m)
+  unfolding greatest_from
+  greatest_from_tells g [] l = (l, λ k h. absurd (omega arith))
+  greatest_from_tells g (x ∷ xs) l = more (greatest_from_tells (max g x) xs l)
+    where
+      more : (max g x ≤ m) × ((k : ℕ) → k < length xs → get_or xs k 0 ≤ m) → (g ≤ m) × ((k : ℕ) → k < length (x ∷ xs) → get_or (x ∷ xs) k 0 ≤ m)
+      more below = (omega (arith, below.0), at)
+        where
+          at : (k : ℕ) → k < length (x ∷ xs) → get_or (x ∷ xs) k 0 ≤ m
+          at zero h = omega (arith, below.0)
+          at (suc k) h = below.1 k (omega arith)
+
+  greatest_from_of : (g : ℕ) (xs : List ℕ) → g ≤ m → ((k : ℕ) → k < length xs → get_or xs k 0 ≤ m) → greatest_from g xs ≤ m
+  unfolding greatest_from
+  greatest_from_of g [] l f = l
+  greatest_from_of g (x ∷ xs) l f = let first : x ≤ m = f zero (omega arith) in greatest_from_of (max g x) xs (omega (arith, first)) (λ k h. f (suc k) (omega arith))
+
+  pub greatest_tested : (xs : List ℕ) → test (greatest_of xs) ≡ list_all test xs
+  unfolding greatest_of
+  greatest_tested [] = gives 0 (omega arith)
+  greatest_tested (x ∷ xs) =
+      same_tests _ _
+      (λ e. let f = greatest_from_tells x xs (tells _ e) in rw (gives x f.0, and_from_places (list_all test) test refl (λ _ _. refl) xs 0 (λ i h. gives _ (f.1 i h))) refl)
+      (λ e. gives _ (greatest_from_of x xs (tells x (and_left (test x) (list_all test xs) e)) (λ k h. tells _ (and_at (list_all test) test refl (λ _ _. refl) xs k 0 h (and_right (test x) (list_all test xs) e)))))
+
 module _ (xs : List ℕ) (c : ℕ) (size : length xs ≡ longest) (l : c ≤ longest) where
   abbrev fits : ℕ → Bool
   fits x = leb x wettest
@@ -223,3 +251,10 @@ module _ (xs : List ℕ) (c : ℕ) (size : length xs ≡ longest) (l : c ≤ lon
 
   pub below_parts : (list_all fits (take c xs) && list_all none (drop c xs)) ≡ sound_below xs c longest
   below_parts = same_tests _ _ parts_give parts_tell
+
+  -- the same by the greatest of each part
+  pub below_greatest : (leb (greatest_of (take c xs)) wettest && eqb (greatest_of (drop c xs)) 0) ≡ sound_below xs c longest
+  below_greatest =
+      let here : leb (greatest_of (take c xs)) wettest ≡ list_all fits (take c xs) = greatest_tested wettest fits (λ n e. leb-true n wettest e) (λ n h. le-leb n wettest h) (take c xs) in
+      let behind : eqb (greatest_of (drop c xs)) 0 ≡ list_all none (drop c xs) = greatest_tested 0 none (λ n e. omega (arith, eqb-true n 0 e)) (λ n h. eq-eqb n 0 (omega arith)) (drop c xs) in
+      ap (λ (b : Bool). b && eqb (greatest_of (drop c xs)) 0) here ∙ ap (λ (b : Bool). list_all fits (take c xs) && b) behind ∙ below_parts

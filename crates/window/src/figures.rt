@@ -1,6 +1,6 @@
 // What is told of the readings present: sum, least, greatest and mean.
-ghost use Rattle.std.specs.Prelude.{◌≡◌, ◌*◌, ◌^◌, ◌≤◌, ◌<◌, sum};
-ghost use Rattle.window.specs.Figures.{least_of, greatest_of, mean_of, figures_told, refused_with};
+ghost use Rattle.std.specs.Prelude.{◌≡◌, ◌*◌, ◌≤◌};
+ghost use Rattle.window.specs.Figures.{greatest_of, mean_of, figures_told, refused_with};
 ghost use Rattle.window.specs.Refusal.{number_of};
 ghost use Rattle.window.specs.Window.{longest, wettest};
 
@@ -58,21 +58,6 @@ impl From<WindowRefusal> for Figures {
             mean: 0,
         }
     }
-}
-
-// The sum of some readings.
-pub(crate) fn sum_of(readings: &[u32]) -> u32
-    requires { sum readings.now < 2 ^ 32 }
-    ensures { result ≡ sum readings.now }
-{
-    readings.iter().sum()
-}
-
-// The least of some readings; 0 where there is none.
-pub(crate) fn least_of(readings: &[u32]) -> u32
-    ensures { result ≡ least_of readings.now }
-{
-    readings.iter().copied().min().unwrap_or(0)
 }
 
 // The greatest of some readings; 0 where there is none.

@@ -5,7 +5,7 @@ ghost use Rattle.window.specs.Update.{update_of};
 
 use crate::begin::begin;
 use crate::figures::Figures;
-use crate::update::update;
+use crate::update::updated;
 use crate::window::Window;
 
 // Begins the lent window at this length. A refusal leaves it.
@@ -27,7 +27,7 @@ pub extern "C" fn window_begin(window: &mut Window, length: u32) -> u32
 pub extern "C" fn window_update(window: &mut Window, reading: u32) -> Figures
     ensures { (result ≡ (update_of window.old reading).figures) × (window.new ≡ (update_of window.old reading).window) }
 {
-    match update(*window, reading) {
+    match updated(window, reading) {
         Ok((next, summary)) => {
             *window = next;
             Figures::from(summary)

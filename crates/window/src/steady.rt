@@ -6,9 +6,9 @@ use crate::sound::Sound;
 use crate::window::Window;
 
 // The greatest of the readings present is above the least by no more than the spread.
-fn within_spread(sound: Sound, spread: u32) -> bool
-    requires { 1 ≤ sound.window.present }
-    ensures { result ≡ within_spread sound.window spread }
+fn within_spread(sound: &Sound, spread: u32) -> bool
+    requires { 1 ≤ sound.now.window.now.present }
+    ensures { result ≡ within_spread sound.now.window.now spread }
 {
     let summary = sound.summary();
     summary.greatest - summary.least <= spread
@@ -18,8 +18,8 @@ fn within_spread(sound: Sound, spread: u32) -> bool
 pub fn is_steady(window: Window, spread: u32) -> bool
     ensures { result ≡ is_steady window spread }
 {
-    match Sound::new(window) {
-        Ok(sound) if window.present == window.length => within_spread(sound, spread),
+    match Sound::new(&window) {
+        Ok(sound) if window.present == window.length => within_spread(&sound, spread),
         _ => false,
     }
 }

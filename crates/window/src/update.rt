@@ -11,10 +11,19 @@ use crate::window::{WETTEST, Window};
 pub fn update(window: Window, reading: u32) -> Result<(Window, Summary), WindowRefusal>
     ensures { updated_told window result ≡ update_of window reading }
 {
+    updated(&window, reading)
+}
+
+// The same of a window that is lent.
+#[inline(always)]
+pub(crate) fn updated(window: &Window, reading: u32) -> Result<(Window, Summary), WindowRefusal>
+    ensures { updated_told window.now result ≡ update_of window.now reading }
+{
     let sound = Sound::new(window)?;
     if WETTEST < reading {
         return Err(WindowRefusal::BadReading);
     }
     let next = sound.next(reading);
-    Ok((next.window, next.summary()))
+    let summary = Sound { window: &next }.summary();
+    Ok((next, summary))
 }

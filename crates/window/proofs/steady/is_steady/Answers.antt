@@ -1,4 +1,4 @@
-use Rattle.std.proofs.Common.{arith, ◌≡◌, true, false, eqb, refl, ap, sym, ◌∙◌}
+use Rattle.std.proofs.Common.{arith, rules, ◌≡◌, true, false, eqb, refl, ap, sym, ◌∙◌}
 use borrow.Author.Tests.{eq-eqb, apart_eqb}
 use Rattle.window.specs.declared.window.Window.{Window}
 use Rattle.window.specs.Window.{is_sound}
@@ -9,7 +9,7 @@ use Rattle.window.proofs.steady.is_steady.Goals as goal
 pub within_spread-requires : goal.within_spread-requires
 within_spread-requires c =
     let e = c.in-Ok.ensures in
-    let h = sound_tells c.in-Ok.sound.window c.in-Ok.sound.sound in
+    let h = sound_tells c.in-Ok.sound.window.now c.in-Ok.sound.sound in
     omega (arith, h.least, ap (λ (v : Window). v.length) e, ap (λ (v : Window). v.present) e, c.if-window.true)
 
 pub returns-in-Ok : goal.returns-in-Ok
@@ -30,4 +30,4 @@ returns-in_default c =
 
 pub returns-in_default-2 : goal.returns-in_default-2
 unfolding is_steady is_full
-returns-in_default-2 c = let e = c.in_default.ensures in rw e.0 refl
+returns-in_default-2 c = let unsound : is_sound c.args.window ≡ false = search rules in rw unsound refl

@@ -1,4 +1,4 @@
-use Rattle.std.proofs.Common.{rules, arith, ap, leb, ◌-◌}
+use Rattle.std.proofs.Common.{arith, ap, leb, ◌-◌}
 use Rattle.window.specs.declared.figures.Summary.{Summary}
 use Rattle.window.specs.Window.{present_in}
 use Rattle.window.specs.Steady.{within_spread}
@@ -8,8 +8,8 @@ use Rattle.window.proofs.steady.within_spread.Goals as goal
 
 pub overflow_sub-result : goal.overflow_sub-result
 overflow_sub-result c =
-    let w = c.args.sound.window in
-    let some = present_length w (search rules) (sound_tells w c.args.sound.sound) in
+    let w = c.args.sound.now.window.now in
+    let some = present_length w (c.args.sound.now.size) (sound_tells w c.args.sound.now.sound) in
     let told = c.summary-summary.ensures in
     omega (arith, least_le_greatest (present_in w) (omega (arith, some, c.requires)), ap (λ (s : Summary). s.least) told, ap (λ (s : Summary). s.greatest) told)
 

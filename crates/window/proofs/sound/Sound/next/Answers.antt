@@ -4,31 +4,27 @@ use Rattle.window.proofs.UpdateLaws.{made_is, made_sound}
 use Rattle.window.proofs.sound.Sound.next.Goals as goal
 
 pub overflow_add-present : goal.overflow_add-present
-overflow_add-present c = let most = present_fits c.args.self.window c.args.self.sound in search rules
+overflow_add-present c = let most = present_fits c.args.self.now.window.now c.args.self.now.sound in search rules
 
 pub overflow_sub-staying : goal.overflow_sub-staying
 overflow_sub-staying c =
-    let h = sound_tells c.args.self.window c.args.self.sound in
+    let h = sound_tells c.args.self.now.window.now c.args.self.now.sound in
     omega (arith, c.saturating_sub-gone.ensures, h.least, h.present)
 
-pub slid-kept-requires : goal.slid-kept-requires
-slid-kept-requires c =
-    let h = sound_tells c.args.self.window c.args.self.sound in
-    (omega (arith, c.saturating_sub-gone.ensures, h.least, h.present, h.most), search rules)
+pub slid-readings-requires : goal.slid-readings-requires
+slid-readings-requires c =
+    let h = sound_tells c.args.self.now.window.now c.args.self.now.sound in
+    (omega (arith, c.saturating_sub-gone.ensures, h.least, h.present, h.most), c.args.self.now.size)
 
-pub bounds-kept-staying : goal.bounds-kept-staying
-bounds-kept-staying c =
-    let h = sound_tells c.args.self.window c.args.self.sound in
+pub bounds-readings-staying : goal.bounds-readings-staying
+bounds-readings-staying c =
+    let h = sound_tells c.args.self.now.window.now c.args.self.now.sound in
     omega (arith, c.saturating_sub-gone.ensures, h.least, h.present, h.most)
-
-pub invariant_of-result : goal.invariant_of-result
-invariant_of-result c =
-    let w = c.args.self.window in
-    let h = sound_tells w c.args.self.sound in
-    record { sound = made_sound w (search rules) h c.args.reading _ _ c.saturating_sub-gone.ensures c.slid-kept.ensures c.requires }
 
 pub returns : goal.returns
 returns c =
-    let w = c.args.self.window in
-    let h = sound_tells w c.args.self.sound in
-    made_is w (search rules) h c.args.reading _ _ c.saturating_sub-gone.ensures c.slid-kept.ensures
+    let w = c.args.self.now.window.now in
+    let h = sound_tells w c.args.self.now.sound in (
+      made_is w c.args.self.now.size h c.args.reading _ _ c.saturating_sub-gone.ensures c.slid-readings.ensures,
+      made_sound w c.args.self.now.size h c.args.reading _ _ c.saturating_sub-gone.ensures c.slid-readings.ensures c.requires,
+    )
