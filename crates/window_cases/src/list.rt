@@ -1,12 +1,45 @@
 // A window beside a plain list of all readings accepted: its state and its figures are worked out afresh from the end of the list.
 use crate::tally::Tally;
-use std::alloc::{AllocError, Global};
 use trial::random::Random;
 use window::figures::{Figures, Summary};
 use window::lent::window_update;
 use window::refusal::WindowRefusal;
 use window::update::update;
 use window::window::{WETTEST, Window};
+
+// The most readings that are listed, as many as a window is handed.
+const MOST: usize = 1000;
+
+// All readings that one window accepted, the oldest first. They lie on the stack, so that there is always memory for them.
+#[derive(Debug, Drop)]
+pub struct Listed {
+    readings: [u32; MOST],
+    count: usize,
+}
+
+impl Listed {
+    // No reading yet.
+    pub fn new() -> Listed {
+        Listed {
+            readings: [0; MOST],
+            count: 0,
+        }
+    }
+
+    // One reading more, up to the most.
+    fn add(&mut self, reading: u32) {
+        if self.count < MOST {
+            self.readings[self.count] = reading;
+            self.count += 1;
+        }
+    }
+
+    // The last of them, n where there are so many.
+    fn last(&self, n: usize) -> &[u32] {
+        let (listed, _) = self.readings.split_at(self.count.min(MOST));
+        &listed[listed.len().saturating_sub(n)..]
+    }
+}
 
 // How many readings there are.
 fn number_of(readings: &[u32]) -> u32 {
@@ -64,60 +97,51 @@ pub fn state(length: u32, present: u32) -> Window {
 }
 
 // A reading is refused. Where the state is lent, it stays, and the number of the refusal stands beside four zeros.
-pub fn try_refused(tally: &mut Tally, window: Window, reading: u32, refusal: WindowRefusal) {
-    let mut lent = window;
+pub fn try_refused(tally: &mut Tally, window: &Window, reading: u32, refusal: WindowRefusal) {
+    let mut lent = *window;
     let figures = window_update(&mut lent, reading);
     tally.tried();
-    tally.judge(update(window, reading) == Err(refusal));
-    tally.judge(figures == Figures::from(refusal) && lent == window);
+    tally.judge(update(*window, reading).err() == Some(refusal));
+    tally.judge(figures == Figures::from(refusal) && lent == *window);
 }
 
-// A reading is accepted: state and figures are those of the readings listed last, also where the state is lent. Gives the window with it.
-fn try_accepted(tally: &mut Tally, list: &[u32], window: Window, reading: u32) -> Window {
-    let present = &list[list.len().saturating_sub(window.length as usize)..];
+// A reading is accepted: state and figures are those of the readings listed last, also where the state is lent. It has the reading then.
+fn try_accepted(tally: &mut Tally, list: &Listed, window: &mut Window, reading: u32) {
+    let present = list.last(window.length as usize);
     let told = summary_of(present);
     let expected = window_of(window.length, present);
-    let mut lent = window;
-    let figures = window_update(&mut lent, reading);
     tally.tried();
-    match update(window, reading) {
+    match &update(*window, reading) {
         Ok((after, found)) => {
-            tally.judge(found == told);
-            tally.judge(after == expected);
+            tally.judge(*found == told);
+            tally.judge(*after == expected);
         }
         Err(_) => {
             tally.judge(false);
             tally.judge(false);
         }
     }
-    tally.judge(figures == Figures::from(told) && lent == expected);
-    lent
+    let figures = window_update(window, reading);
+    tally.judge(figures == Figures::from(told) && *window == expected);
 }
 
 // A reading is handed to a window that has the readings listed last.
-pub fn try_reading(
-    tally: &mut Tally,
-    list: &mut Vec<u32>,
-    window: Window,
-    reading: u32,
-) -> Result<Window, AllocError> {
+pub fn try_reading(tally: &mut Tally, list: &mut Listed, window: &mut Window, reading: u32) {
     if WETTEST < reading {
         try_refused(tally, window, reading, WindowRefusal::BadReading);
-        return Ok(window);
+    } else {
+        list.add(reading);
+        try_accepted(tally, list, window, reading);
     }
-    list.push(reading)?;
-    Ok(try_accepted(tally, list, window, reading))
 }
 
 // 1,000 readings to a window of a length, about one in eight of them out of range.
-pub fn history(tally: &mut Tally, alloc: Global, length: u32) -> Result<(), AllocError> {
-    let mut list = Vec::new(alloc);
+pub fn history(tally: &mut Tally, length: u32) {
+    let mut list = Listed::new();
     let mut window = state(length, 0);
     let mut random = Random::new(2026);
-    for _ in 0..1000 {
-        let reading = random.next() % 11430;
-        window = try_reading(tally, &mut list, window, reading)?;
+    for _ in 0..MOST {
+        try_reading(tally, &mut list, &mut window, random.next() % 11430);
     }
-    tally.judge((851..900).contains(&list.len()));
-    Ok(())
+    tally.judge((851..900).contains(&list.count));
 }

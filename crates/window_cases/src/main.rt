@@ -4,9 +4,8 @@
 mod list;
 mod tally;
 
-use crate::list::{history, state, summary_of, try_reading, try_refused};
+use crate::list::{Listed, history, state, summary_of, try_reading, try_refused};
 use crate::tally::Tally;
-use std::alloc::{AllocError, Global};
 use window::begin::begin;
 use window::lent::window_begin;
 use window::refusal::WindowRefusal;
@@ -53,14 +52,13 @@ fn lengths(rt: &impl Print, tally: &mut Tally) {
 }
 
 // Readings at the ends of their range.
-fn readings(rt: &impl Print, tally: &mut Tally, alloc: Global) -> Result<(), AllocError> {
-    let mut list = Vec::new(alloc);
+fn readings(rt: &impl Print, tally: &mut Tally) {
+    let mut list = Listed::new();
     let mut window = state(64, 0);
     for reading in [0, 10000, 10001, u32::MAX] {
-        window = try_reading(tally, &mut list, window, reading)?;
+        try_reading(tally, &mut list, &mut window, reading);
     }
     tally.end_case(rt, "readings 0, 10,000, 10,001 and 4,294,967,295");
-    Ok(())
 }
 
 // The sum and the mean with one more reading. Gives the window with it.
@@ -101,7 +99,7 @@ fn means(rt: &impl Print, tally: &mut Tally) {
 }
 
 // A window at each length beside a list.
-fn histories(rt: &impl Print, tally: &mut Tally, alloc: Global) -> Result<(), AllocError> {
+fn histories(rt: &impl Print, tally: &mut Tally) {
     let table = [
         (1, "length 1, beside a list"),
         (2, "length 2, beside a list"),
@@ -111,29 +109,28 @@ fn histories(rt: &impl Print, tally: &mut Tally, alloc: Global) -> Result<(), Al
         (64, "length 64, beside a list"),
     ];
     for (length, name) in table {
-        history(tally, alloc, length)?;
+        history(tally, length);
         tally.end_case(rt, name);
     }
-    Ok(())
 }
 
 // A state that no readings leave refuses a reading in range and one out of range alike.
-fn try_bad(tally: &mut Tally, window: Window) {
+fn try_bad(tally: &mut Tally, window: &Window) {
     try_refused(tally, window, 0, WindowRefusal::BadWindow);
     try_refused(tally, window, 10001, WindowRefusal::BadWindow);
 }
 
 // Lengths out of range.
 fn bad_lengths(rt: &impl Print, tally: &mut Tally) {
-    try_bad(tally, state(0, 0));
-    try_bad(tally, state(65, 64));
+    try_bad(tally, &state(0, 0));
+    try_bad(tally, &state(65, 64));
     tally.end_case(rt, "states of length 0 and 65");
 }
 
 // One reading more present than each length.
 fn more_present(rt: &impl Print, tally: &mut Tally) {
     for n in 1..65 {
-        try_bad(tally, state(n, n + 1));
+        try_bad(tally, &state(n, n + 1));
     }
     tally.end_case(rt, "states with more readings present than the length");
 }
@@ -142,7 +139,7 @@ fn more_present(rt: &impl Print, tally: &mut Tally) {
 fn try_positions(tally: &mut Tally, window: Window, behind: bool, number: u32) {
     for position in 0..64 {
         if (position < window.present as usize) != behind {
-            try_bad(tally, with_number(window, position, number));
+            try_bad(tally, &with_number(window, position, number));
         }
     }
 }
@@ -184,13 +181,12 @@ fn spreads(rt: &impl Print, tally: &mut Tally) {
     tally.end_case(rt, "steady: full, and within the spread");
 }
 
-fn main(rt: HostRuntime) -> Result<(), AllocError> {
-    let alloc = rt.alloc();
+fn main(rt: HostRuntime) {
     let mut tally = Tally::default();
     lengths(&rt, &mut tally);
-    readings(&rt, &mut tally, alloc)?;
+    readings(&rt, &mut tally);
     means(&rt, &mut tally);
-    histories(&rt, &mut tally, alloc)?;
+    histories(&rt, &mut tally);
     bad_lengths(&rt, &mut tally);
     more_present(&rt, &mut tally);
     let present = "states with a reading of 10,001, at each place";
@@ -199,5 +195,4 @@ fn main(rt: HostRuntime) -> Result<(), AllocError> {
     bad_positions(&rt, &mut tally, true, 1, behind);
     spreads(&rt, &mut tally);
     tally.end(&rt);
-    Ok(())
 }
