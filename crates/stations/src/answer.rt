@@ -129,7 +129,8 @@ pub fn write_answer(words: &mut [u32], s: u32, answer: Answer)
     write_station(words, s, at_answer(s), &answer.to_words());
 }
 
-// The answer that waits in a station.
+// The answer that waits in a station. In line, since a taking, a run and C want to know little more than whether there is one, and an answer that is given goes through memory.
+#[inline(always)]
 #[tactic(auto, unfolding(crate::specs::Answer::waiting_at))]
 pub fn read_waiting(words: &[u32], s: u32) -> Option<Answer>
     ensures { result ≡ waiting_at words.now s }

@@ -86,12 +86,14 @@ pub fn rows_in(words: &[u32]) -> u32
     if places <= MOST_PLACES { 2 * places } else { 0 }
 }
 
-// Zero in every word before the rows.
+// Zero in every word before the rows. Word by word, since a filled slice is a call of `memset`, and the library for C wants no name from outside.
+#[tactic(auto, unfolding(crate::specs::Common::records_cleared, crate::specs::Common::cleared))]
 pub fn clear_records(words: &mut [u32])
     ensures { words.new ≡ records_cleared words.old }
 {
-    let n = RECORDS.min(words.len());
-    words[..n].fill(0);
+    for at in 0..RECORDS {
+        put(words, at, 0);
+    }
 }
 
 // Writes mark, places, limit and factors.
