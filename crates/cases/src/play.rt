@@ -10,7 +10,7 @@ use paired::script::rule_given;
 use paired::stairs::build;
 use plain_list::book::Book;
 use plain_list::parts::{before, begun};
-use plain_list::text::{Item, items_of, sections_of};
+use plain_list::text::{Item, MOST_ITEMS, items_of, sections_of};
 use std::alloc::{AllocError, Global};
 use std::io::Print;
 
@@ -40,7 +40,7 @@ fn perform_all(
     book: &mut Book,
     section: &[u8],
 ) -> Result<(), AllocError> {
-    for item in items_of(alloc, section)?.iter() {
+    for item in items_of(alloc, section)?.iter().take(MOST_ITEMS) {
         perform(words, book, *item);
     }
     Ok(())

@@ -3,7 +3,7 @@ use crate::script::Call;
 use crate::{drive, script};
 use plain_list::book::Book;
 use plain_list::table::State;
-use plain_list::text::Item;
+use plain_list::text::{Item, MOST_ITEMS};
 
 // The events that are dealt out in every order, and the orders.
 const EVENTS: u32 = 14;
@@ -64,7 +64,7 @@ fn one_order(
     mut other: Party<'_>,
     order: u32,
 ) {
-    for item in setup {
+    for item in setup.iter().take(MOST_ITEMS) {
         script::event(words, book, *item);
     }
     for k in 0..74 {

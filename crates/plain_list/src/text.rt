@@ -2,6 +2,9 @@
 // letter and up to nine numbers, and ends with a semicolon.
 use std::alloc::{AllocError, Global};
 
+// As many items of a section are done at most.
+pub const MOST_ITEMS: usize = 100000;
+
 // The letter of an item that is written in another way. No event has it, so that its case is wrong.
 const UNKNOWN: u8 = b'?';
 
