@@ -6,6 +6,7 @@ use paired::drive;
 use paired::history::some_curve;
 use plain_list::book::Book;
 use plain_list::point::PlainPoint;
+use plain_list::table::State;
 
 // A leaf at or below a row, by a way down that is drawn.
 fn leaf_below(sight: Sight<'_>, book: &mut Book, start: u32) -> u32 {
@@ -86,11 +87,14 @@ impl Contest {
         let _ = drive::submit(words, book, t, 1, p, curve);
     }
 
-    // A change is submitted by station t: one that disturbs the search of station s, or an add where that station does not search or the tree is empty.
+    // A change is submitted by station t: one that disturbs the call of station s, or an add where that station has none unfinished or the tree is empty.
+    // The call is a search, but where the contest's opening was refused and one of another kind stands there from before.
     pub fn submit_change(self, words: &mut [u32], book: &mut Book, s: u32, t: u32) {
         let victim = some_victim(Sight::of(words, book), book, s);
-        match (book.table.target(s), victim) {
-            (Some(target), Some(victim)) => self.submit_disturbing(words, book, t, target, victim),
+        match (book.table.state(s), victim) {
+            (State::Unfinished(call), Some(victim)) => {
+                self.submit_disturbing(words, book, t, call.point(), victim)
+            }
             _ => self.submit_add(words, book, t),
         }
     }
