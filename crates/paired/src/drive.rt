@@ -97,15 +97,16 @@ fn as_due(answer: Answer, due: Due) -> bool {
         && answer.square == due.square
 }
 
-// A taking, whose answer is the one that the table has.
+// A taking. Its answer is compared with the one that the table set down last at the station, whether it waits there or not.
 pub fn take(words: &mut [u32], book: &mut Book, s: u32) -> Result<Answer, Refusal> {
     let taking = takings::take::take(words, s);
-    let due = book.table.take(s);
     if let Ok(answer) = taking {
-        book.judge(due.is_ok_and(|due| as_due(answer, due)));
+        let right = book.table.due(s).is_some_and(|due| as_due(answer, due));
+        book.judge(right);
         book.count_code(answer.code);
     }
-    judge_outcome(book, taking.map(|_| ()), due.map(|_| ()));
+    let due = book.table.take(s);
+    judge_outcome(book, taking.map(|_| ()), due);
     taking
 }
 

@@ -32,7 +32,7 @@ impl Party<'_> {
             State::Unfinished(_) => {
                 let _ = drive::step(words, book, s);
             }
-            State::Waiting(_) => {
+            State::Waiting => {
                 script::take(words, book, call);
                 self.pass();
             }

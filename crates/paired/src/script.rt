@@ -105,7 +105,7 @@ pub fn turn(words: &mut [u32], book: &mut Book, s: u32) {
         State::Unfinished(_) => {
             let _ = drive::step(words, book, s);
         }
-        State::Waiting(_) => {
+        State::Waiting => {
             let _ = drive::take(words, book, s);
         }
     }

@@ -1,6 +1,6 @@
 // The opening of the plain table: what it is asked, and the table that is empty then.
 use crate::scale::PlainScale;
-use crate::table::{IDLE, MOST_PLACES, Table};
+use crate::table::{MOST_PLACES, State, Table};
 
 // A question: its number, where it fails. Rules 7 fixes the numbers, and the list tells them by itself, so that those of the index are judged by them.
 pub fn ask(passes: bool, number: u32) -> Result<(), u32> {
@@ -26,7 +26,10 @@ impl Table {
         self.scale = scale;
         self.records.clear();
         self.awaited.clear();
-        self.stations = [IDLE; 8];
+        for station in self.stations.iter_mut() {
+            station.state = State::Idle;
+            station.changes = 0;
+        }
         Ok(())
     }
 }

@@ -17,7 +17,7 @@ impl Book {
 
     // After a step of a station that was dealt to an unfinished call and did not answer it. Calls of other kinds have no such bound.
     pub fn pass_own(&mut self, s: u32) {
-        if self.table.target(s).is_none() {
+        if !self.table.is_searching(s) {
             return;
         }
         let most = self.most_own();

@@ -33,7 +33,7 @@ impl Table {
             1 => Call::Add(Record { point, curve }),
             2 => Call::Remove(point),
             3 => Call::Contains(point),
-            _ => Call::Nearest(point, self.nearest(point)),
+            _ => Call::Nearest(point),
         })
     }
 
@@ -81,7 +81,7 @@ impl Table {
             State::Unfinished(Call::Add(record)) => Some(self.add_due(s, record)),
             State::Unfinished(Call::Remove(point)) => Some(self.remove_due(s, point)),
             State::Unfinished(Call::Contains(point)) => Some(self.contains_due(point)),
-            State::Unfinished(Call::Nearest(_, due)) => Some(due),
+            State::Unfinished(Call::Nearest(_)) => self.due(s),
             _ => None,
         }
     }
@@ -90,6 +90,13 @@ impl Table {
     fn put_state(&mut self, s: u32, state: State) {
         if let Some(station) = self.stations.get_mut(s as usize) {
             station.state = state;
+        }
+    }
+
+    // An answer is set down at a station.
+    fn put_due(&mut self, s: u32, due: Due) {
+        if let Some(station) = self.stations.get_mut(s as usize) {
+            station.due = Some(due);
         }
     }
 
@@ -121,16 +128,21 @@ impl Table {
 
     // An answer waits at a station, for whose call no removal is kept any more.
     fn wait(&mut self, s: u32, due: Due) {
-        self.put_state(s, State::Waiting(due));
+        self.put_due(s, due);
+        self.put_state(s, State::Waiting);
         self.release(s);
     }
 
-    // A submission: the number of the first of questions 5 to 9 that fails.
+    // A submission, with the answer of a nearest for the records held now: the number of the first of questions 5 to 9 that fails.
     pub fn submit(&mut self, s: u32, kind: u32, point: PlainPoint, curve: u32) -> Result<(), u32> {
         ask(s < 8, 5)?;
         ask(self.is_idle(s), 6)?;
         let call = self.call_of(kind, point, curve)?;
         self.put_state(s, State::Unfinished(call));
+        if let Call::Nearest(target) = call {
+            let due = self.nearest(target);
+            self.put_due(s, due);
+        }
         Ok(())
     }
 
@@ -155,13 +167,11 @@ impl Table {
         Ok(())
     }
 
-    // A taking gives the answer that waits: the number of the first of questions 5 and 12 that fails.
-    pub fn take(&mut self, s: u32) -> Result<Due, u32> {
+    // A taking of the answer that waits: the number of the first of questions 5 and 12 that fails.
+    pub fn take(&mut self, s: u32) -> Result<(), u32> {
         ask(s < 8, 5)?;
-        let State::Waiting(due) = self.state(s) else {
-            return Err(12);
-        };
+        ask(matches!(self.state(s), State::Waiting), 12)?;
         self.put_state(s, State::Idle);
-        Ok(due)
+        Ok(())
     }
 }

@@ -6,7 +6,7 @@ impl Table {
     pub fn set_down(&mut self) {
         let searching = self.stations.map(|station| matches!(
             station.state,
-            State::Unfinished(Call::Nearest(..))
+            State::Unfinished(Call::Nearest(_))
         ));
         if searching.contains(&true) && self.awaited.len() < self.awaited.capacity() {
             self.awaited.push_reserved(searching);

@@ -44,13 +44,13 @@ pub struct Due {
     pub square: u64,
 }
 
-// A call; that of a nearest with its answer, which it has from its submission.
+// A call.
 #[derive(Clone, Copy)]
 pub enum Call {
     Add(Record),
     Remove(PlainPoint),
     Contains(PlainPoint),
-    Nearest(PlainPoint, Due),
+    Nearest(PlainPoint),
 }
 
 impl Call {
@@ -58,7 +58,7 @@ impl Call {
     pub fn point(self) -> PlainPoint {
         match self {
             Call::Add(record) => record.point,
-            Call::Remove(point) | Call::Contains(point) | Call::Nearest(point, _) => point,
+            Call::Remove(point) | Call::Contains(point) | Call::Nearest(point) => point,
         }
     }
 }
@@ -68,20 +68,23 @@ impl Call {
 pub enum State {
     Idle,
     Unfinished(Call),
-    Waiting(Due),
+    Waiting,
 }
 
-// A station, and the changes that it has made since the opening.
+// A station: what it is doing, the changes that it has made since the opening, and the answer that was set down there last. A nearest has its answer set
+// down when it is submitted, any other call when it is answered or withdrawn; neither a taking nor an opening takes it away.
 #[derive(Clone, Copy)]
 pub struct Station {
     pub state: State,
     pub changes: u32,
+    pub due: Option<Due>,
 }
 
-// A station is idle, and has made no change.
+// A station is idle, has made no change, and no answer was set down there.
 pub const IDLE: Station = Station {
     state: State::Idle,
     changes: 0,
+    due: None,
 };
 
 #[derive(Drop)]
@@ -125,12 +128,16 @@ impl Table {
         matches!(self.state(s), State::Unfinished(_))
     }
 
-    // The target of a station's search, where it searches.
-    pub fn target(&self, s: u32) -> Option<PlainPoint> {
-        match self.state(s) {
-            State::Unfinished(Call::Nearest(target, _)) => Some(target),
-            _ => None,
-        }
+    // Whether a station's call is a nearest that is unfinished.
+    pub fn is_searching(&self, s: u32) -> bool {
+        matches!(self.state(s), State::Unfinished(Call::Nearest(_)))
+    }
+
+    // The answer that was set down at a station last, whatever it is doing now.
+    pub fn due(&self, s: u32) -> Option<Due> {
+        self.stations
+            .get(s as usize)
+            .and_then(|station| station.due)
     }
 
     // Places taken: the records held and the removals awaited.
