@@ -43,9 +43,9 @@ const ALL: [&str; 29] = [
     hold_up::HELD_UP,
 ];
 
-// The texts one behind the other.
-fn joined(alloc: Global, parts: &[&str]) -> Result<Vec<u8>, AllocError> {
-    let mut text = Vec::new(alloc);
+// The texts one behind the other, in the place of one that was read, which has room for them.
+fn joined(mut text: Vec<u8>, parts: &[&str]) -> Result<Vec<u8>, AllocError> {
+    text.clear();
     for part in parts {
         text.extend_from_slice(part.as_bytes())?;
     }
@@ -60,19 +60,14 @@ pub fn read(alloc: Global, input: &mut impl Read) -> Result<Vec<u8>, AllocError>
 }
 
 // The text that is to be run, from what was read of it. A text that is not understood has no case, and is a wrong one itself.
-pub fn ready(
-    rt: &impl Print,
-    alloc: Global,
-    book: &mut Book,
-    read: Vec<u8>,
-) -> Result<Vec<u8>, AllocError> {
+pub fn ready(rt: &impl Print, book: &mut Book, read: Vec<u8>) -> Result<Vec<u8>, AllocError> {
     match book.begin(&read) {
-        Some(Given::All) => joined(alloc, &ALL),
-        Some(Given::Random) => joined(alloc, &RANDOM),
+        Some(Given::All) => joined(read, &ALL),
+        Some(Given::Random) => joined(read, &RANDOM),
         Some(Given::Text) => Ok(read),
         None => {
             refuse(rt, book);
-            Ok(Vec::new(alloc))
+            joined(read, &[])
         }
     }
 }

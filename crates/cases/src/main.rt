@@ -21,8 +21,8 @@ fn main(rt: HostRuntime) -> Result<(), AllocError> {
     let mut words = vec![in alloc; 1515870811u32; MOST_WORDS]?;
     let mut book = Book::new(alloc)?;
     let read = input::read(alloc, &mut rt.stdin())?;
-    let text = input::ready(&rt, alloc, &mut book, read)?;
-    play::run_cases(&rt, alloc, &mut words, &mut book, &text)?;
+    let text = input::ready(&rt, &mut book, read)?;
+    play::run_cases(&rt, &mut words, &mut book, &text);
     tally::end(&rt, &book);
     Ok(())
 }

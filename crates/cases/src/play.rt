@@ -10,8 +10,7 @@ use paired::script::rule_given;
 use paired::stairs::build;
 use plain_list::book::Book;
 use plain_list::parts::{before, begun};
-use plain_list::text::{Item, MOST_ITEMS, items_of, sections_of};
-use std::alloc::{AllocError, Global};
+use plain_list::text::{Item, Items, MOST_ITEMS};
 use std::io::Print;
 
 // What an item asks for: h random histories of a plan, b one on the index as it is, x a stair and y every axis at its ends, both under a rule, v
@@ -34,48 +33,26 @@ fn perform(words: &mut [u32], book: &mut Book, item: Item) {
 }
 
 // Every item of a section.
-fn perform_all(
-    alloc: Global,
-    words: &mut [u32],
-    book: &mut Book,
-    section: &[u8],
-) -> Result<(), AllocError> {
-    for item in items_of(alloc, section)?.iter().take(MOST_ITEMS) {
-        perform(words, book, *item);
+fn perform_all(words: &mut [u32], book: &mut Book, section: &[u8]) {
+    for item in Items::of(section).take(MOST_ITEMS) {
+        perform(words, book, item);
     }
-    Ok(())
 }
 
-// Two parties in every order, from the sections with the opening and with the items of each.
-fn play_orders(
-    alloc: Global,
-    words: &mut [u32],
-    book: &mut Book,
-    sections: [&[u8]; 3],
-) -> Result<(), AllocError> {
-    let [setup, one, other] = sections;
-    let setup = items_of(alloc, setup)?;
-    let one = items_of(alloc, one)?;
-    let other = items_of(alloc, other)?;
-    every_order(words, book, &setup, &one, &other);
-    Ok(())
-}
-
-// The items of a case in turn, or, where it has two parties, in every order. With another number of sections it is no case.
-fn run_items(
-    alloc: Global,
-    words: &mut [u32],
-    book: &mut Book,
-    text: &[u8],
-) -> Result<(), AllocError> {
-    let sections = sections_of(alloc, text)?;
-    match sections.as_slice() {
-        [_, _, items] => perform_all(alloc, words, book, items),
-        [_, _, setup, one, other] => play_orders(alloc, words, book, [setup, one, other]),
-        _ => {
-            book.judge(false);
-            Ok(())
-        }
+// The items of a case in turn, or, where it has two parties, in every order. They stand in the sections behind its name and what it counts; with another
+// number of sections it is no case.
+fn run_items(words: &mut [u32], book: &mut Book, text: &[u8]) {
+    let mut sections = text.split(|byte| *byte == b'|').skip(2);
+    let found = [
+        sections.next(),
+        sections.next(),
+        sections.next(),
+        sections.next(),
+    ];
+    match found {
+        [Some(items), None, ..] => perform_all(words, book, items),
+        [Some(setup), Some(one), Some(other), None] => every_order(words, book, setup, one, other),
+        _ => book.judge(false),
     }
 }
 
@@ -83,19 +60,12 @@ fn run_items(
 const MOST_CASES: usize = 100000;
 
 // Every case of a text.
-pub fn run_cases(
-    rt: &impl Print,
-    alloc: Global,
-    words: &mut [u32],
-    book: &mut Book,
-    text: &[u8],
-) -> Result<(), AllocError> {
+pub fn run_cases(rt: &impl Print, words: &mut [u32], book: &mut Book, text: &[u8]) {
     let parts = begun(text).split(|byte| *byte == b'=').skip(1);
     for part in parts.take(MOST_CASES) {
         let case = before(part, b'#');
         book.begin_case();
-        run_items(alloc, words, book, case)?;
+        run_items(words, book, case);
         end_case(rt, book, case);
     }
-    Ok(())
 }

@@ -3,25 +3,33 @@ use crate::script::Call;
 use crate::{drive, script};
 use plain_list::book::Book;
 use plain_list::table::State;
-use plain_list::text::{Item, MOST_ITEMS};
+use plain_list::text::{Item, Items, MOST_ITEMS};
 
 // The events that are dealt out in every order, and the orders.
 const EVENTS: u32 = 14;
 
 const ORDERS: u32 = 16384;
 
-// The items of a party that are still to be done.
+// The items of a party that are still to be done: the next one, where any is left, and those behind it.
 #[derive(Clone, Copy)]
 struct Party<'a> {
-    left: &'a [Item],
+    next: Option<Item>,
+    behind: Items<'a>,
 }
 
-impl Party<'_> {
-    // The next item, where any is left, is done.
-    fn pass(&mut self) {
-        if let Some((_, left)) = self.left.split_first() {
-            self.left = left;
+impl<'a> Party<'a> {
+    // A party that has all the items of a section to do.
+    fn of(section: &'a [u8]) -> Party<'a> {
+        let mut behind = Items::of(section);
+        Party {
+            next: behind.next(),
+            behind,
         }
+    }
+
+    // The next item is done.
+    fn pass(&mut self) {
+        self.next = self.behind.next();
     }
 
     // The next event of a whole call: its submission, a step, or its taking, with which its item is done.
@@ -41,7 +49,7 @@ impl Party<'_> {
 
     // The next event of a party; none where all its items are done. Of a whole call each step is one.
     fn act(&mut self, words: &mut [u32], book: &mut Book) {
-        let Some(item) = self.left.first().copied() else {
+        let Some(item) = self.next else {
             return;
         };
         if matches!(item.letter, b'c' | b'f') {
@@ -59,13 +67,13 @@ impl Party<'_> {
 fn one_order(
     words: &mut [u32],
     book: &mut Book,
-    setup: &[Item],
+    setup: &[u8],
     mut one: Party<'_>,
     mut other: Party<'_>,
     order: u32,
 ) {
-    for item in setup.iter().take(MOST_ITEMS) {
-        script::event(words, book, *item);
+    for item in Items::of(setup).take(MOST_ITEMS) {
+        script::event(words, book, item);
     }
     for k in 0..74 {
         let first = if k < EVENTS {
@@ -79,27 +87,16 @@ fn one_order(
             other.act(words, book)
         }
     }
-    book.judge(one.left.is_empty());
-    book.judge(other.left.is_empty());
+    book.judge(one.next.is_none());
+    book.judge(other.next.is_none());
 }
 
-// Every order.
-pub fn every_order(
-    words: &mut [u32],
-    book: &mut Book,
-    setup: &[Item],
-    one: &[Item],
-    other: &[Item],
-) {
+// Every order, from the sections with the opening and with the items of each party.
+pub fn every_order(words: &mut [u32], book: &mut Book, setup: &[u8], one: &[u8], other: &[u8]) {
+    let one = Party::of(one);
+    let other = Party::of(other);
     for order in 0..ORDERS {
-        one_order(
-            words,
-            book,
-            setup,
-            Party { left: one },
-            Party { left: other },
-            order,
-        );
+        one_order(words, book, setup, one, other, order);
         book.tried();
     }
 }

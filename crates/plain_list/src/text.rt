@@ -1,6 +1,5 @@
 // The text of a case. Bars part its sections: its name, what it counts, its items, and where two parties meet the items of each. An item is a
 // letter and up to nine numbers, and ends with a semicolon.
-use std::alloc::{AllocError, Global};
 
 // As many items of a section are done at most.
 pub const MOST_ITEMS: usize = 100000;
@@ -79,15 +78,25 @@ fn item_of(text: &[u8]) -> Option<Item> {
     read.letter.map(|letter| Item { letter, n: read.n })
 }
 
-// The items of a section.
-pub fn items_of(alloc: Global, section: &[u8]) -> Result<Vec<Item>, AllocError> {
-    section
-        .split_inclusive(|byte| *byte == b';')
-        .filter_map(item_of)
-        .collect(alloc)
+// The items of a section that are still to be read. Each is read from the text when it is asked for.
+#[derive(Clone, Copy)]
+pub struct Items<'a> {
+    left: &'a [u8],
 }
 
-// The sections of a case.
-pub fn sections_of<'a>(alloc: Global, text: &'a [u8]) -> Result<Vec<&'a [u8]>, AllocError> {
-    text.split(|byte| *byte == b'|').collect(alloc)
+impl<'a> Items<'a> {
+    // All the items of a section.
+    pub fn of(section: &'a [u8]) -> Items<'a> {
+        Items { left: section }
+    }
+}
+
+impl<'a> Iterator for Items<'a> {
+    type Item = Item;
+
+    fn next(&mut self) -> Option<Item> {
+        let first = self.left.split_inclusive(|byte| *byte == b';').next()?;
+        self.left = &self.left[first.len()..];
+        item_of(first)
+    }
 }
