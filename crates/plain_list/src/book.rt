@@ -66,3 +66,20 @@ impl Book {
         })
     }
 }
+
+#[cfg(test)]
+mod tests {
+    use super::*;
+    use crate::table::MOST_PLACES;
+
+    // There is memory for a book, with room for the largest index, and nothing stands in it.
+    #[test]
+    fn a_book_begins(rt: HostRuntime) -> Result<(), AllocError> {
+        let book = Book::new(rt.alloc())?;
+        assert_eq!(rt; book.table.taken(), 0);
+        assert!(rt; MOST_PLACES <= book.table.records.capacity());
+        assert!(rt; MOST_PLACES <= book.table.awaited.capacity());
+        assert_eq!(rt; book.copied.len(), MOST_WORDS);
+        Ok(())
+    }
+}

@@ -100,7 +100,7 @@ pub struct Table {
 
 impl Table {
     // A table that was not opened, with room for the largest index.
-    pub fn new(alloc: Global) -> Result<Table, AllocError> {
+    pub(crate) fn new(alloc: Global) -> Result<Table, AllocError> {
         Ok(Table {
             places: 0,
             limit: 0,
