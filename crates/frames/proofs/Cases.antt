@@ -8,6 +8,7 @@ use Rattle.frames.specs.declared.frame.Frame.TheVariants.{Open, Step, OpenScaled
 use Rattle.std.specs.Prelude.{Some, Ok, Err}
 use Rattle.frames.specs.declared.refusal.FrameRefusal.TheVariants.{NoKind, WrongLength}
 use Rattle.numbers.specs.Bytes.{number_at, bytes_of}
+use Rattle.frames.specs.Refusal.{number_of}
 use Rattle.frames.specs.Read.{is_whole, has_kind, own_length, factors_at, frame_in, read_rest, read_of}
 use Rattle.frames.proofs.OutcomeLaws.{same_read}
 use Rattle.frames.specs.Write.{head_bytes, open_start, factors_bytes, scaled_start, frame_bytes, padded, written_bytes, written_of}
@@ -18,9 +19,9 @@ unfolding written_of written_bytes padded frame_bytes head_bytes bytes_of
 p7 = (refl, refl)
 
 -- P8: length 1, its byte there: 14
-pub p8 : (byte : ℕ) → read_of (1 ∷ 0 ∷ byte ∷ []) 0 ≡ Some (Err NoKind)
+pub p8 : (byte : ℕ) → (read_of (1 ∷ 0 ∷ byte ∷ []) 0 ≡ Some (Err NoKind)) × (number_of NoKind ≡ 14)
 unfolding read_of read_rest is_whole has_kind number_at
-p8 byte = refl
+p8 byte = (refl, refl)
 
 -- withdrawal for station 2: bytes 03 00 08 00 02
 pub withdrawal_bytes : ((written_of (Withdraw 2)).bytes ≡ (3 ∷ 0 ∷ 8 ∷ 0 ∷ 2 ∷ []) ++ replicate 23 0) × ((written_of (Withdraw 2)).count ≡ 5)
@@ -104,10 +105,11 @@ pub lengths-crossed :
     × (read_of (16 ∷ 0 ∷ 1 ∷ 0 ∷ 64 ∷ 0 ∷ 232 ∷ 3 ∷ 0 ∷ 0 ∷ 1 ∷ 0 ∷ 1 ∷ 0 ∷ 1 ∷ 0 ∷ 1 ∷ 0 ∷ []) 0 ≡ Some (Err WrongLength))
     × (read_of (16 ∷ 0 ∷ 7 ∷ 0 ∷ 64 ∷ 0 ∷ 232 ∷ 3 ∷ 0 ∷ 0 ∷ 1 ∷ 0 ∷ 1 ∷ 0 ∷ 1 ∷ 0 ∷ 1 ∷ 0 ∷ []) 0 ≡ Some (Err WrongLength))
     × (read_of (17 ∷ 0 ∷ 6 ∷ 0 ∷ 64 ∷ 0 ∷ 232 ∷ 3 ∷ 0 ∷ 0 ∷ 1 ∷ 0 ∷ 1 ∷ 0 ∷ 1 ∷ 0 ∷ 1 ∷ 0 ∷ 1 ∷ []) 0 ≡ Some (Err WrongLength))
+    × (number_of WrongLength ≡ 15)
 unfolding read_of read_rest is_whole has_kind own_length number_at
-lengths-crossed = (refl, refl, refl, refl)
+lengths-crossed = (refl, refl, refl, refl, refl)
 
 -- kind 9, length 3 and a byte for the station: 14
-pub kind_beyond : (byte : ℕ) → read_of (3 ∷ 0 ∷ 9 ∷ 0 ∷ byte ∷ []) 0 ≡ Some (Err NoKind)
+pub kind_beyond : (byte : ℕ) → (read_of (3 ∷ 0 ∷ 9 ∷ 0 ∷ byte ∷ []) 0 ≡ Some (Err NoKind)) × (number_of NoKind ≡ 14)
 unfolding read_of read_rest is_whole has_kind number_at
-kind_beyond byte = refl
+kind_beyond byte = (refl, refl)

@@ -49,4 +49,4 @@ refused_output words bytes {refusal} e =
 pub p8_output : (words : List ℕ) (byte : ℕ)
     → output_of words (1 ∷ 0 ∷ byte ∷ []) ≡ ascii "frame result code grade weight moisture speed draw curve square\n1 14 - - - - - - - -\n"
 unfolding header_bytes plain_bytes decimal_of decimal_for
-p8_output words byte = refused_output words (1 ∷ 0 ∷ byte ∷ []) (p8 byte)
+p8_output words byte = refused_output words (1 ∷ 0 ∷ byte ∷ []) (p8 byte).0
