@@ -1,11 +1,16 @@
 -- "Whoever calls … gets a defined result and the call ends": the code. Each public function meets its contract for every argument (`…_meets`, which Rattle proves of the function itself,
--- and that it ends), and this contract requires nothing and promises an equation with a definition (`…_contract`): a function whose contract says less is refused here.
+-- and that it ends), and this contract requires nothing and promises an equation with a definition (`…_contract`): a function whose contract says less is refused here. That of a function for
+-- every type requires what holds of every type (`PromiseWhile`).
 -- What `…_meets` names is the function's `spec`: that it is these clauses and nothing else is `…_closed`.
 use mathlib.Core.Path.{◌≡◌, refl}
-use base.Logic.{SProp}
+use mathlib.Core.List.{[]}
+use base.Logic.{SProp, ent}
+use contract.BorrowLft.{◌⊑◌, ⊑_static}
 use contract.Lifetimes.{Lfts}
 use contract.Monad.{Fun}
 use contract.Notation.{Connectives, connectives}
+use denote.Struct.Field.{u32-field}
+use denote.Triple.Carry.{insides_in}
 use denote.Triple.Clauses.{Ended, AtExit, ClausesAt, closing}
 use denote.Triple.Entry.{Res}
 use seplogic.Ra.Ura.{Ura}
@@ -20,6 +25,7 @@ use Rattle.steps.specs.contracts.withdraw.withdraw
 use Rattle.runs.specs.contracts.run.run
 use Rattle.reports.specs.contracts.report.read_report
 use Rattle.audits.specs.contracts.audit.audit
+use Rattle.frames.specs.contracts.refusal.FrameRefusal.{the_row as frame_refusals}
 use Rattle.frames.specs.contracts.read.read_frame
 use Rattle.frames.specs.contracts.read.position_after
 use Rattle.frames.specs.contracts.write.write_frame
@@ -30,6 +36,7 @@ use Rattle.readers.specs.contracts.reader.Reader.next
 use Rattle.readers.specs.contracts.reader.frame_at
 use Rattle.lines.specs.contracts.apply.apply_frame
 use Rattle.lines.specs.contracts.line.next_line
+use Rattle.lines.specs.contracts.line.told
 use Rattle.texts.specs.contracts.line.header
 use Rattle.texts.specs.contracts.line.line_text
 use Rattle.texts.specs.contracts.output.begin
@@ -63,6 +70,7 @@ pub use Rattle.readers.proofs.reader.Reader.next.Met.{met as reader_next_meets}
 pub use Rattle.readers.proofs.reader.frame_at.Met.{met as frame_at_meets}
 pub use Rattle.lines.proofs.apply.apply_frame.Met.{met as apply_frame_meets}
 pub use Rattle.lines.proofs.line.next_line.Met.{met as next_line_meets}
+pub use Rattle.lines.proofs.line.told.Met.{met as told_meets}
 pub use Rattle.texts.proofs.line.header.Met.{met as header_meets}
 pub use Rattle.texts.proofs.line.line_text.Met.{met as line_text_meets}
 pub use Rattle.texts.proofs.output.begin.Met.{met as begin_meets}
@@ -80,11 +88,19 @@ module _ {M : Type 1} {𝓤 : Ura M} (𝓛 : Logic 𝓤) (mem : Memory → SProp
   abbrev 𝓝 : Connectives 𝓤
   𝓝 = connectives 𝓤
 
-  open 𝓝 use {⌜◌⌝, ⊤ₛ}
+  open 𝓝 use {⌜◌⌝, ⊤ₛ, ◌∗◌}
 
   -- nothing is required, and this is promised of the result and of the arguments at the return
   abbrev Promise : {T : Ended} {κs : Lfts T.signature.lifetimes} → (Res T.signature κs → AtExit T κs → Type 0) → ClausesAt 𝓤 T κs
   Promise says = record { ghost = Unit {0}; requires = λ g. ⊤ₛ; ensures = λ g r end. ⌜ says r end ⌝ }
+
+  -- the same of a function for every type: what the type refers to lives as long as the call, as it does in every program, and nothing else is required
+  abbrev PromiseWhile : {T : Ended} {κs : Lfts T.signature.lifetimes} → Type 0 → (Res T.signature κs → AtExit T κs → Type 0) → ClausesAt 𝓤 T κs
+  PromiseWhile lives says = record { ghost = Unit {0}; requires = λ g. ⌜ lives ⌝ ∗ ⊤ₛ; ensures = λ g r end. ⌜ says r end ⌝ }
+
+  -- which of a type that refers to nothing, as a number and a refusal, is no requirement
+  pub nothing_required : (κs : Lfts 1) → ent 𝓤 ⊤ₛ (⌜ κs.0 ⊑ [] ⌝ ∗ ⊤ₛ)
+  nothing_required κs = insides_in 𝓤 1 κs ([], tt) ⊤ₛ (⊑_static κs.0, tt)
 
   -- opening: words, places, limit, factors
   pub open_contract : (κs : _) (args : _)
@@ -120,12 +136,20 @@ module _ {M : Type 1} {𝓤 : Ura M} (𝓛 : Logic 𝓤) (mem : Memory → SProp
   pub audit_contract : (κs : _) (args : _) → audit.clauses 𝓛 mem does κs args ≡ Promise (λ r end. r ≡ verdict_of args.0.now)
   audit_contract κs args = refl
 
-  -- the reading of a frame: bytes, position; the position after a reading
+  -- the reading of a frame: bytes, position; the position after a reading, whatever its refusal
   pub read_frame_contract : (κs : _) (args : _) → read_frame.clauses 𝓛 mem does κs args ≡ Promise (λ r end. r ≡ read_of args.0.now args.1.0)
   read_frame_contract κs args = refl
 
-  pub position_after_contract : (κs : _) (args : _) → position_after.clauses 𝓛 mem does κs args ≡ Promise (λ r end. r ≡ position_after args.0 args.1.0)
-  position_after_contract κs args = refl
+  pub position_after_contract : (R : _) (drops : _) (κs : _) (args : _)
+      → position_after.clauses R drops 𝓛 mem does κs args ≡ PromiseWhile (κs.0 ⊑ R.lives) (λ r end. r ≡ position_after args.0 args.1.0)
+  position_after_contract R drops κs args = refl
+
+  -- which of a frame's refusals, and of numbers, requires nothing
+  pub position_after_refusal : (drops : _) (κs : _) (args : _) (g : _) → ent 𝓤 ⊤ₛ ((position_after.clauses frame_refusals drops 𝓛 mem does κs args).requires g)
+  position_after_refusal drops κs args g = nothing_required κs
+
+  pub position_after_number : (drops : _) (κs : _) (args : _) (g : _) → ent 𝓤 ⊤ₛ ((position_after.clauses u32-field.row drops 𝓛 mem does κs args).requires g)
+  position_after_number drops κs args g = nothing_required κs
 
   -- the writing of a frame; of a kind with its fields
   pub write_frame_contract : (κs : _) (args : _) → write_frame.clauses 𝓛 mem does κs args ≡ Promise (λ r end. r ≡ written_of args.0)
@@ -148,7 +172,7 @@ module _ {M : Type 1} {𝓤 : Ura M} (𝓛 : Logic 𝓤) (mem : Memory → SProp
   pub frame_at_contract : (κs : _) (args : _) → frame_at.clauses 𝓛 mem does κs args ≡ Promise (λ r end. r ≡ read_of args.0.now args.1.0)
   frame_at_contract κs args = refl
 
-  -- a frame on the words; the line of the frame at a position of the bytes
+  -- a frame on the words; the line of the frame at a position of the bytes; a line with its numbers
   pub apply_frame_contract : (κs : _) (args : _)
       → apply_frame.clauses 𝓛 mem does κs args ≡ Promise (λ r end. (numbered r ≡ apply_of args.0.now args.1.0) × (end.0.now ≡ apply_words args.0.now args.1.0))
   apply_frame_contract κs args = refl
@@ -160,11 +184,14 @@ module _ {M : Type 1} {𝓤 : Ura M} (𝓛 : Logic 𝓤) (mem : Memory → SProp
       × (end.0.now ≡ line_words args.0.now (read_of args.1.0.now args.1.1.0)))
   next_line_contract κs args = refl
 
+  pub told_contract : (κs : _) (args : _) → told.clauses 𝓛 mem does κs args ≡ Promise (λ r end. r ≡ told args.0)
+  told_contract κs args = refl
+
   -- the texts that the runner prints: the header; a line with its ordinal; the first; the next, on words and bytes
   pub header_contract : (κs : _) (args : _) → header.clauses 𝓛 mem does κs args ≡ Promise (λ r end. r ≡ text_with header_bytes)
   header_contract κs args = refl
 
-  pub line_text_contract : (κs : _) (args : _) → line_text.clauses 𝓛 mem does κs args ≡ Promise (λ r end. r ≡ text_with (line_bytes args.0 (told args.1.0)))
+  pub line_text_contract : (κs : _) (args : _) → line_text.clauses 𝓛 mem does κs args ≡ Promise (λ r end. r ≡ text_with (line_bytes args.0 args.1.0))
   line_text_contract κs args = refl
 
   pub begin_contract : (κs : _) (args : _) → begin.clauses 𝓛 mem does κs args ≡ Promise (λ r end. r ≡ begun)
@@ -224,8 +251,9 @@ module _ {M : Type 1} {𝓤 : Ura M} (𝓛 : Logic 𝓤) (mem : Memory → SProp
   pub read_frame_closed : read_frame.spec 𝓛 mem does ≡ closing 𝓛 read_frame.ended (read_frame.clauses 𝓛 mem does)
   read_frame_closed = refl
 
-  pub position_after_closed : position_after.spec 𝓛 mem does ≡ closing 𝓛 position_after.ended (position_after.clauses 𝓛 mem does)
-  position_after_closed = refl
+  pub position_after_closed : (R : _) (drops : _)
+      → position_after.spec R drops 𝓛 mem does ≡ closing 𝓛 (position_after.ended R drops) (position_after.clauses R drops 𝓛 mem does)
+  position_after_closed R drops = refl
 
   pub write_frame_closed : write_frame.spec 𝓛 mem does ≡ closing 𝓛 write_frame.ended (write_frame.clauses 𝓛 mem does)
   write_frame_closed = refl
@@ -250,6 +278,9 @@ module _ {M : Type 1} {𝓤 : Ura M} (𝓛 : Logic 𝓤) (mem : Memory → SProp
 
   pub next_line_closed : next_line.spec 𝓛 mem does ≡ closing 𝓛 next_line.ended (next_line.clauses 𝓛 mem does)
   next_line_closed = refl
+
+  pub told_closed : told.spec 𝓛 mem does ≡ closing 𝓛 told.ended (told.clauses 𝓛 mem does)
+  told_closed = refl
 
   pub header_closed : header.spec 𝓛 mem does ≡ closing 𝓛 header.ended (header.clauses 𝓛 mem does)
   header_closed = refl

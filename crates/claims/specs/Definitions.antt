@@ -108,7 +108,7 @@ pub use Rattle.frames.specs.declared.write.Fields.{Fields}
 unfoldable pub use Rattle.frames.specs.Write.{padded, written_bytes, written_of, write_of}
 pub use Rattle.frames.specs.Write.{written_told}
 -- a frame on the words: what it gives, the number of that, and the words after it; the words after a reading
--- (with the number in place of a refusal: `numbered`, `told`)
+-- (with the number in place of a refusal: `numbered`, and `told` of a line)
 pub use Rattle.lines.specs.Apply.{applied_number, numbered}
 pub use Rattle.lines.specs.Line.{told}
 unfoldable pub use Rattle.lines.specs.Apply.{point_of, scale_of, submission_reply, apply_of, apply_words}

@@ -1,3 +1,4 @@
+pub mod RefusalLaws
 pub mod ShapeLaws
 pub mod KindLaws
 pub mod FieldLaws

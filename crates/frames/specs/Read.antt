@@ -93,8 +93,8 @@ read_rest rest at =
 unfoldable pub read_of : List ℕ → ℕ → Reading
 read_of bytes at = cond (ltb at (length bytes)) (Some (read_rest (drop at bytes) at)) None
 
--- the position after a reading: "a refusal does not move it" (Rules 9.5)
-abbrev pub position_after : Reading → ℕ → ℕ
+-- the position after a reading, whatever its refusal: "a refusal does not move it" (Rules 9.5)
+abbrev pub position_after : {R : Type 0} → Option (Result (Frame × ℕ) R) → ℕ → ℕ
 position_after (Some (Ok read)) at = read.1
 position_after (Some (Err refusal)) at = at
 position_after None at = at

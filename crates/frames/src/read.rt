@@ -111,8 +111,8 @@ pub fn read_frame(bytes: &[u8], at: usize) -> Option<Result<(Frame, usize), Fram
     }
 }
 
-// The position after a reading at a position: past the frame; a refusal and an end move nothing.
-pub fn position_after(reading: Option<Result<(Frame, usize), FrameRefusal>>, at: usize) -> usize
+// The position after a reading at a position: past the frame; a refusal and an end move nothing. The refusal may be of any kind, a number too.
+pub fn position_after<R: Drop>(reading: Option<Result<(Frame, usize), R>>, at: usize) -> usize
     ensures { result ≡ position_after reading at }
 {
     match reading {

@@ -14,6 +14,7 @@ use Rattle.stations.specs.declared.answer.Answer.{Answer}
 use Rattle.frames.specs.declared.frame.Frame.{Frame}
 use Rattle.frames.specs.declared.refusal.FrameRefusal.{FrameRefusal}
 use Rattle.frames.specs.Width.{AllInWidth}
+use Rattle.frames.specs.Refusal.{number_of}
 use Rattle.frames.specs.Read.{read_of}
 use Rattle.frames.specs.Write.{frame_bytes}
 use Rattle.lines.specs.Apply.{Outcome, no_answer, applied_of, applied_number, apply_of, apply_words}
@@ -82,7 +83,7 @@ line_passes words bytes at = go (read_of bytes at) refl (dec_le (length bytes) a
     go (Some (Ok (frame, next))) e there = read_moves bytes at e
 
 -- a first frame that is refused has the only line, whatever stands behind it
-pub lines_refused : (words bytes : List ℕ) {refusal : FrameRefusal} → read_of bytes 0 ≡ Some (Err refusal) → lines_of words bytes ≡ Some (Err refusal) ∷ []
+pub lines_refused : (words bytes : List ℕ) {refusal : FrameRefusal} → read_of bytes 0 ≡ Some (Err refusal) → lines_of words bytes ≡ Some (Err (number_of refusal)) ∷ []
 unfolding lines_for line_of
 lines_refused words bytes e = sym (lines_all (suc (length bytes)) words bytes (omega arith)) ∙ rw e
 

@@ -10,14 +10,15 @@ use Rattle.frames.specs.Read.{read_of}
 use Rattle.frames.specs.Write.{frame_bytes}
 use Rattle.lines.specs.Apply.{Outcome, numbered, applied_number, apply_of, apply_words}
 
--- a line: none where no byte is left; the refusal of a reading, after which the runner stops; or what a frame gave, with the position to go on from
+-- a line: none where no byte is left; the number of a reading's refusal, after which the runner stops; or what a frame gave, with the position to go on
+-- from. Every number is a line's, also one that no refusal has
 abbrev pub Line : Type 0
-Line = Option (Result (Outcome × ℕ) FrameRefusal)
+Line = Option (Result (Outcome × ℕ) ℕ)
 
--- a line as the program holds it, with the number in place of a call's refusal
+-- the line of a reading and a call, with the number in place of a refusal; different refusals have different numbers, so that this says which it is
 abbrev pub told : Option (Result (Result (Option Answer) Refusal × ℕ) FrameRefusal) → Line
 told None = None
-told (Some (Err refusal)) = Some (Err refusal)
+told (Some (Err refusal)) = Some (Err (number_of refusal))
 told (Some (Ok (outcome, next))) = Some (Ok (numbered outcome, next))
 
 -- the line of a frame that gave this, with the position to go on from
@@ -27,13 +28,13 @@ line_after outcome next = Some (Ok (outcome, next))
 -- the number that a line has: "its refusal or 0" (Rules 10.3)
 abbrev pub line_number : Line → ℕ
 line_number None = 0
-line_number (Some (Err refusal)) = number_of refusal
+line_number (Some (Err number)) = number
 line_number (Some (Ok (outcome, next))) = applied_number outcome
 
 -- the line of a reading: a frame that was read is applied to the words
 unfoldable pub line_of : List ℕ → Option (Result (Frame × ℕ) FrameRefusal) → Line
 line_of words None = None
-line_of words (Some (Err refusal)) = Some (Err refusal)
+line_of words (Some (Err refusal)) = Some (Err (number_of refusal))
 line_of words (Some (Ok (frame, next))) = line_after (apply_of words frame) next
 
 -- the words after it; only a frame that was read changes them
@@ -45,7 +46,7 @@ line_words words (Some (Ok (frame, next))) = apply_words words frame
 -- after a line: no line and no more where it is over, this one alone where it stops, else this one and those from the next position on
 abbrev pub followed : (ℕ → List Line) → Line → List Line
 followed rest None = []
-followed rest (Some (Err refusal)) = Some (Err refusal) ∷ []
+followed rest (Some (Err number)) = Some (Err number) ∷ []
 followed rest (Some (Ok (outcome, next))) = Some (Ok (outcome, next)) ∷ rest next
 
 -- at most n lines, from a position on
@@ -60,7 +61,7 @@ lines_of words bytes = lines_for (length bytes) words bytes 0
 -- a line is that of bytes that are there; one from which the runner goes on passes some of them
 abbrev pub Passes : List ℕ → ℕ → Line → Type 0
 Passes bytes at None = Unit {0}
-Passes bytes at (Some (Err refusal)) = at < length bytes
+Passes bytes at (Some (Err number)) = at < length bytes
 Passes bytes at (Some (Ok (outcome, next))) = (at < next) × (next ≤ length bytes)
 
 -- the bytes of calls that are written one after the other

@@ -33,7 +33,7 @@ next_silent words bytes output e = (rw e, rw e)
 line_falls : (bytes : List ℕ) (at ordinal : ℕ) (line : Line) → Passes bytes at line → asked_at_most bytes (after_line ordinal line) < suc (length bytes - at)
 unfolding after_line
 line_falls bytes at ordinal None passes = omega arith
-line_falls bytes at ordinal (Some (Err refusal)) passes = omega arith
+line_falls bytes at ordinal (Some (Err number)) passes = omega arith
 line_falls bytes at ordinal (Some (Ok (outcome, next))) passes = omega arith
 
 pub next_falls : (words bytes : List ℕ) (output : Output) → is_some output.at ≡ true → asked_at_most bytes (next_of words bytes output) < asked_at_most bytes output
@@ -67,8 +67,8 @@ module _ (n : ℕ) (words bytes : List ℕ) (at ordinal : ℕ) (room : ordinal +
       → printed n words bytes (after_line (counted ordinal) line) ≡ lines_bytes (suc ordinal) (followed (λ next. lines_for n words bytes next) line)
   unfolding after_line lines_bytes line_bytes
   line_printed None passes = printed_last n words bytes (after_line (counted ordinal) None) refl ∙ text_with_lem []
-  line_printed (Some (Err refusal)) passes =
-      let line : Line = Some (Err refusal) in
+  line_printed (Some (Err number)) passes =
+      let line : Line = Some (Err number) in
       printed_last n words bytes (after_line (counted ordinal) line) refl
       ∙ text_with_lem (line_bytes (counted ordinal) line)
       ∙ ap (λ (k : ℕ). line_bytes k line) (counted_is ordinal (omega arith))
@@ -132,7 +132,7 @@ line_last : (n : ℕ) (words bytes : List ℕ) (at ordinal : ℕ) → length byt
     → (line : Line) → Passes bytes at line → (last_output n words bytes (after_line ordinal line)).at ≡ None
 unfolding after_line
 line_last n words bytes at ordinal h rest None passes = last_stays n words bytes (after_line ordinal None) refl
-line_last n words bytes at ordinal h rest (Some (Err refusal)) passes = last_stays n words bytes (after_line ordinal (Some (Err refusal))) refl
+line_last n words bytes at ordinal h rest (Some (Err number)) passes = last_stays n words bytes (after_line ordinal (Some (Err number))) refl
 line_last n words bytes at ordinal h rest (Some (Ok (outcome, next))) passes = rest (after_line ordinal (Some (Ok (outcome, next)))) next refl (omega arith)
 
 last_silent : (n : ℕ) (words bytes : List ℕ) (output : Output) (at : ℕ) → output.at ≡ Some at → length bytes - at < n → (last_output n words bytes output).at ≡ None

@@ -2,7 +2,6 @@
 use Rattle.std.specs.Prelude.{ℕ, List, [], ◌∷◌, ◌++◌, Some, None, Ok, Err}
 use Rattle.points.specs.declared.point.Point.{Point}
 use Rattle.stations.specs.declared.answer.Answer.{Answer}
-use Rattle.frames.specs.Refusal.{number_of}
 use Rattle.lines.specs.Line.{Line}
 use Rattle.texts.specs.Ascii.{ascii}
 use Rattle.texts.specs.Decimal.{decimal_of, signed_decimal}
@@ -63,7 +62,7 @@ answer_bytes ordinal answer =
 -- a line with its ordinal; nothing where no byte is left
 unfoldable pub line_bytes : ℕ → Line → List ℕ
 line_bytes ordinal None = []
-line_bytes ordinal (Some (Err refusal)) = plain_bytes ordinal (number_of refusal)
+line_bytes ordinal (Some (Err number)) = plain_bytes ordinal number
 line_bytes ordinal (Some (Ok (Err number, next))) = plain_bytes ordinal number
 line_bytes ordinal (Some (Ok (Ok None, next))) = plain_bytes ordinal 0
 line_bytes ordinal (Some (Ok (Ok (Some answer), next))) = answer_bytes ordinal answer

@@ -22,7 +22,7 @@ begun = record { text = text_with header_bytes; ordinal = 0; at = Some 0 }
 -- the position to go on from after a line; none where no byte is left and after the refusal of a reading (Rules 10.4)
 abbrev pub next_at : Line → Option ℕ
 next_at None = None
-next_at (Some (Err refusal)) = None
+next_at (Some (Err number)) = None
 next_at (Some (Ok (outcome, next))) = Some next
 
 -- one more; the greatest number of 64 bits stays

@@ -1,11 +1,10 @@
 // The text of the header and of a line.
 ghost use Rattle.std.specs.Prelude.{◌≡◌};
-ghost use Rattle.lines.specs.Line.{told};
 ghost use Rattle.texts.specs.Text.{text_with, Puts};
 ghost use Rattle.texts.specs.Line.{point_bytes, header_bytes, plain_bytes, answer_bytes, line_bytes};
 
 use crate::text::Text;
-use lines::line::Line;
+use lines::line::NumberedLine;
 use points::point::Point;
 use stations::answer::Answer;
 
@@ -53,13 +52,13 @@ fn answer_line(ordinal: u64, answer: Answer) -> Text
 
 // The line with its ordinal; nothing where no byte is left.
 #[tactic(auto, unfolding(crate::specs::Line::line_bytes))]
-pub fn line_text(ordinal: u64, line: Line) -> Text
-    ensures { result ≡ text_with (line_bytes ordinal (told line)) }
+pub fn line_text(ordinal: u64, line: NumberedLine) -> Text
+    ensures { result ≡ text_with (line_bytes ordinal line) }
 {
     match line {
         None => Text::empty(),
-        Some(Err(refusal)) => plain_line(ordinal, refusal.number()),
-        Some(Ok((Err(refusal), _))) => plain_line(ordinal, refusal.number()),
+        Some(Err(number)) => plain_line(ordinal, number),
+        Some(Ok((Err(number), _))) => plain_line(ordinal, number),
         Some(Ok((Ok(None), _))) => plain_line(ordinal, 0),
         Some(Ok((Ok(Some(answer)), _))) => answer_line(ordinal, answer),
     }

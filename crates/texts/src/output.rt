@@ -5,7 +5,7 @@ ghost use Rattle.texts.specs.Output.{begun, next_at, next_of, next_words};
 
 use crate::line::{header, line_text};
 use crate::text::Text;
-use lines::line::{Line, next_line};
+use lines::line::{Line, next_line, told};
 
 // The text to print, how many lines there were, and the position of the next frame; none where there is no more.
 #[derive(Clone, Copy)]
@@ -51,7 +51,7 @@ pub fn next(words: &mut [u32], bytes: &[u8], output: Output) -> Output
     let line = next_line(words, bytes, at);
     let ordinal = output.ordinal.saturating_add(1);
     Output {
-        text: line_text(ordinal, line),
+        text: line_text(ordinal, told(line)),
         ordinal,
         at: next_at(line),
     }
