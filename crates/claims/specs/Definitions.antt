@@ -62,7 +62,7 @@ pub use Rattle.calls.specs.Step.{records_sound, step_of}
 pub use Rattle.calls.specs.Needs.{Need, rows_of, step_needs, rows_sound}
 pub use Rattle.calls.specs.Run.{is_given, goes_on}
 unfoldable pub use Rattle.calls.specs.Run.{run_for, most_steps, run_of}
-pub use Rattle.words.specs.Refusal.{number_told}
+pub use Rattle.words.specs.Refusal.{number_of as refusal_number, number_told}
 pub use Rattle.calls.specs.Take.{take_of, take_words}
 pub use Rattle.calls.specs.Withdraw.{withdraw_of}
 pub use Rattle.calls.specs.Report.{report_of, places_told}
@@ -116,7 +116,7 @@ unfoldable pub use Rattle.lines.specs.Line.{line_of, line_words}
 -- ---- texts
 
 -- the bytes of the header, of a line, and of all that the runner prints; the texts that it prints one after the other, and the last of them
-pub use Rattle.texts.specs.Text.{text_with}
+pub use Rattle.texts.specs.Text.{text_of, text_with}
 pub use Rattle.texts.specs.Line.{header_bytes, line_bytes}
 pub use Rattle.texts.specs.Output.{output_of, begun, next_of, next_words, printed, last_output}
 -- ---- window
@@ -133,6 +133,7 @@ pub use Rattle.window.specs.Told.{Told}
 -- beginning, and bringing up to date; what a call gives, in these words: a refusal is its number, and leaves the window
 pub use Rattle.window.specs.Begin.{begin_of, begun_told}
 pub use Rattle.window.specs.Update.{refused_of, update_of, updated_told}
+pub use Rattle.window.specs.Refusal.{number_of as window_refusal_number}
 -- what happens to a window, its state after that, and the log of all accepted readings; the states that readings leave
 pub use Rattle.window.specs.Log.{WindowEvent, beginning, reading, state_after, Log, new_log, log_after, LeftByReadings}
 -- whether the moisture is steady, also in words
