@@ -1,9 +1,8 @@
 -- A run, step by step: how each step ends it or goes on. Assumes nothing.
-use Prim.Native.Nat.{ℕ, zero, suc, ◌-◌, ◌≤◌, ◌<◌}
+use Prim.Native.Nat.{ℕ, zero, suc, ◌+◌, ◌-◌, ◌≤◌, ◌<◌}
 use mathlib.Core.Path.{◌≡◌, refl, sym, ap, ◌∙◌}
 use mathlib.Core.Bool.{true, false, ◌&&◌, not}
 use mathlib.Core.List.{List}
-use lib.Dec.{eqb}
 use native.Mathlib.Omega.{arith}
 use Rattle.words.specs.Refusal.{number_of}
 use Rattle.words.specs.declared.refusal.Refusal.{Refusal}
@@ -45,3 +44,10 @@ run_answered n words after s h e g = e ∙ sym (last n words s h (ap (goes_on s)
 -- after any other it goes on
 pub run_goes_on : (n : ℕ) (words after : List ℕ) (s : ℕ) → 0 < n → done after ≡ step_of words s → is_given (waiting_at after s) ≡ false → run_for n words s ≡ run_for (n - 1) after s
 run_goes_on n words after s h e g = turn n words s h (ap (goes_on s) (sym e) ∙ ap not g) ∙ ap (λ (r : Reply). run_for (n - 1) r.words s) (sym e)
+
+-- so of a run of `end` steps, of which `at` were made before, there is as much left as after one more
+pub run_left : (end at : ℕ) (words after : List ℕ) (s : ℕ) (whole : Reply) → run_for (end - at) words s ≡ whole → done after ≡ step_of words s
+    → is_given (waiting_at after s) ≡ false → at < end → run_for (end - (at + 1)) after s ≡ whole
+run_left end at words after s whole left e g h =
+    let fewer : end - (at + 1) ≡ end - at - 1 = omega arith in
+    ap (λ (k : ℕ). run_for k after s) fewer ∙ sym (run_goes_on (end - at) words after s (omega arith) e g) ∙ left

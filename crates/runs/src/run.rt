@@ -22,7 +22,7 @@ fn most_steps(words: &[u32]) -> u64
 }
 
 // Gives the station steps until it is answered. A refused step ends the run with its refusal, and the steps before it stand.
-#[tactic(auto, using(crate::proofs::RunLaws::run_ended, crate::proofs::RunLaws::run_refused, crate::proofs::RunLaws::run_answered, crate::proofs::RunLaws::run_goes_on), unfolding(calls::specs::Run::run_of))]
+#[tactic(auto, using(crate::proofs::RunLaws::run_ended, crate::proofs::RunLaws::run_refused, crate::proofs::RunLaws::run_answered, crate::proofs::RunLaws::run_left), unfolding(calls::specs::Run::run_of, calls::specs::Run::run_for, calls::specs::Run::most_steps))]
 pub fn run(words: &mut [u32], s: u32) -> Result<(), Refusal>
     ensures { replied (number_told result) words.new ≡ run_of words.old s }
 {
