@@ -3,6 +3,8 @@
 // its slice.
 #![tactic(auto)]
 
+ghost use Rattle.std.specs.Prelude.{◌≤◌, length};
+
 mod attempts;
 mod choice;
 mod harm;
@@ -13,7 +15,6 @@ use attempts::{Kind, Told, audit, call, is_allowed};
 use choice::{some_kind, some_scale};
 use harm::harm;
 use ranges::{rows_stored, scale_stored};
-use std::alloc::{AllocError, Global};
 use std::io::{Print, Read};
 use tally::Book;
 use trial::bytes::seed_in;
@@ -155,20 +156,28 @@ fn run_given(rt: &impl Print, number: u32) {
     run(rt, number);
 }
 
-// The first bytes on standard input, up to where a read fails. `cases` reads more of it in the same way; no crate below both reads input.
-fn read(alloc: Global, input: &mut impl Read) -> Result<Vec<u8>, AllocError> {
-    let mut bytes = Vec::with_capacity(alloc, 4096)?;
-    let _ = input.take(4096).read_to_end(&mut bytes);
-    Ok(bytes)
+// Reads until the bytes are full, the input ends or a read fails, and gives how many were read. The bytes lie on the stack, so that there is always memory for them.
+fn read_full(input: &mut impl Read, bytes: &mut [u8]) -> usize
+    ensures { result ≤ length bytes.new }
+{
+    let mut done = 0;
+    while done < bytes.len() {
+        let n = input.read(&mut bytes[done..]).unwrap_or(0);
+        if n == 0 {
+            break;
+        }
+        done += n;
+    }
+    done
 }
 
 // The seed is the first number on standard input, or a fixed one where that is empty.
-fn main(rt: HostRuntime) -> Result<(), AllocError> {
-    let bytes = read(rt.alloc(), &mut rt.stdin())?;
-    if bytes.is_empty() {
+fn main(rt: HostRuntime) {
+    let mut bytes = [0u8; 4096];
+    let n = read_full(&mut rt.stdin(), &mut bytes);
+    if n == 0 {
         run(&rt, 2026);
     } else {
-        run_given(&rt, seed_in(&bytes));
+        run_given(&rt, seed_in(&bytes[..n]));
     }
-    Ok(())
 }
