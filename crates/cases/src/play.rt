@@ -5,7 +5,7 @@ use contests::hindered;
 use lone_calls::ends::ends;
 use lone_calls::raw;
 use paired::history::{Plan, busy, histories};
-use paired::orders::every_order;
+use paired::orders::every_order_of_sections;
 use paired::script::rule_given;
 use paired::stairs::build;
 use plain_list::book::Book;
@@ -51,7 +51,9 @@ fn run_items(words: &mut [u32], book: &mut Book, text: &[u8]) {
     ];
     match found {
         [Some(items), None, ..] => perform_all(words, book, items),
-        [Some(setup), Some(one), Some(other), None] => every_order(words, book, setup, one, other),
+        [Some(setup), Some(one), Some(other), None] => every_order_of_sections(
+            words, book, setup, one, other,
+        ),
         _ => book.judge(false),
     }
 }

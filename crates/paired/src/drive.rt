@@ -105,7 +105,7 @@ pub fn take(words: &mut [u32], book: &mut Book, s: u32) -> Result<Answer, Refusa
         book.judge(right);
         book.count_code(answer.code);
     }
-    let due = book.table.take(s);
+    let due = book.table.take_untold(s);
     judge_outcome(book, taking.map(|_| ()), due);
     taking
 }

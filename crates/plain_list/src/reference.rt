@@ -167,11 +167,58 @@ impl Table {
         Ok(())
     }
 
-    // A taking of the answer that waits: the number of the first of questions 5 and 12 that fails.
-    pub fn take(&mut self, s: u32) -> Result<(), u32> {
+    // A taking of the answer that waits, which is not told: the number of the first of questions 5 and 12 that fails.
+    pub fn take_untold(&mut self, s: u32) -> Result<(), u32> {
         ask(s < 8, 5)?;
         ask(matches!(self.state(s), State::Waiting), 12)?;
         self.put_state(s, State::Idle);
+        Ok(())
+    }
+
+    // A taking gives the answer that waits: the number of the first of questions 5 and 12 that fails. Where none was set down, none waits.
+    pub fn take(&mut self, s: u32) -> Result<Due, u32> {
+        ask(s < 8, 5)?;
+        let due = self.due(s).ok_or(12_u32)?;
+        self.take_untold(s)?;
+        Ok(due)
+    }
+}
+
+#[cfg(test)]
+mod tests {
+    use super::*;
+    use crate::scale::PlainScale;
+    use std::alloc::AllocError;
+
+    const POINT: PlainPoint = PlainPoint {
+        grade: 1,
+        weight: 12,
+        moisture: 8000,
+        speed: 41,
+        draw: 41,
+    };
+
+    // A taking gives the answer once, and the station is idle then; a call that is unfinished has none, and so has a station that there is not.
+    #[test]
+    fn an_answer_is_taken_once(rt: HostRuntime) -> Result<(), AllocError> {
+        let mut table = Table::new(rt.alloc())?;
+        assert!(rt; table.open(131680, 4, 100, PlainScale::ones()).is_ok());
+        assert!(rt; table.submit(3, 1, POINT, 7).is_ok());
+        assert!(rt; matches!(table.take(3), Err(12)));
+        assert!(rt; table.step(3, true).is_ok());
+        assert!(rt;
+            matches!(
+                table.take(3),
+                Ok(Due {
+                    code: Code::Added,
+                    curve: 7,
+                    ..
+                })
+            )
+        );
+        assert!(rt; table.is_idle(3));
+        assert!(rt; matches!(table.take(3), Err(12)));
+        assert!(rt; matches!(table.take(8), Err(5)));
         Ok(())
     }
 }

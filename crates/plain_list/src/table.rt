@@ -100,7 +100,7 @@ pub struct Table {
 
 impl Table {
     // A table that was not opened, with room for the largest index.
-    pub(crate) fn new(alloc: Global) -> Result<Table, AllocError> {
+    pub fn new(alloc: Global) -> Result<Table, AllocError> {
         Ok(Table {
             places: 0,
             limit: 0,
@@ -148,5 +148,22 @@ impl Table {
     // Whether every place is taken.
     pub fn is_full(&self) -> bool {
         self.taken() == self.places as usize
+    }
+}
+
+#[cfg(test)]
+mod tests {
+    use super::*;
+
+    // There is memory for a table with room for the largest index, and nothing was opened in it.
+    #[test]
+    fn a_table_begins(rt: HostRuntime) -> Result<(), AllocError> {
+        let table = Table::new(rt.alloc())?;
+        assert_eq!(rt; table.places, 0);
+        assert_eq!(rt; table.taken(), 0);
+        assert!(rt; MOST_PLACES <= table.records.capacity());
+        assert!(rt; MOST_PLACES <= table.awaited.capacity());
+        assert!(rt; table.is_idle(0));
+        Ok(())
     }
 }

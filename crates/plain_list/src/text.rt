@@ -1,5 +1,6 @@
 // The text of a case. Bars part its sections: its name, what it counts, its items, and where two parties meet the items of each. An item is a
 // letter and up to nine numbers, and ends with a semicolon.
+use std::alloc::{AllocError, Global};
 
 // As many items of a section are done at most.
 pub const MOST_ITEMS: usize = 100000;
@@ -98,5 +99,46 @@ impl<'a> Iterator for Items<'a> {
         let first = self.left.split_inclusive(|byte| *byte == b';').next()?;
         self.left = &self.left[first.len()..];
         item_of(first)
+    }
+}
+
+// The items of a section as a list. Each takes a byte at least.
+pub fn items_of(alloc: Global, section: &[u8]) -> Result<Vec<Item>, AllocError> {
+    Items::of(section).take(section.len()).collect(alloc)
+}
+
+// The sections of a case.
+pub fn sections_of<'a>(alloc: Global, text: &'a [u8]) -> Result<Vec<&'a [u8]>, AllocError> {
+    text.split(|byte| *byte == b'|').collect(alloc)
+}
+
+#[cfg(test)]
+mod tests {
+    use super::*;
+
+    // An item has its letter and its numbers, and a section may have none.
+    #[test]
+    fn items_are_listed(rt: HostRuntime) -> Result<(), AllocError> {
+        let items = items_of(rt.alloc(), b"c 1 20; k3 ")?;
+        assert_eq!(rt; items.len(), 2);
+        assert_eq!(rt; items[0].letter, b'c');
+        assert_eq!(rt; items[0].n, [1, 20, 0, 0, 0, 0, 0, 0, 0]);
+        assert_eq!(rt; items[1].letter, b'k');
+        assert_eq!(rt; items[1].n, [3, 0, 0, 0, 0, 0, 0, 0, 0]);
+        assert_eq!(rt; items_of(rt.alloc(), b"")?.len(), 0);
+        Ok(())
+    }
+
+    // A bar ends a section and begins the next, and a text without one is a section.
+    #[test]
+    fn bars_part_sections(rt: HostRuntime) -> Result<(), AllocError> {
+        let sections = sections_of(rt.alloc(), b"a|bc||d")?;
+        assert_eq!(rt; sections.len(), 4);
+        assert_eq!(rt; sections[0], b"a".as_slice());
+        assert_eq!(rt; sections[1], b"bc".as_slice());
+        assert_eq!(rt; sections[2], b"".as_slice());
+        assert_eq!(rt; sections[3], b"d".as_slice());
+        assert_eq!(rt; sections_of(rt.alloc(), b"")?.len(), 1);
+        Ok(())
     }
 }
